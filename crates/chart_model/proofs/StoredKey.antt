@@ -1,0 +1,16 @@
+-- A key's bytes with zeros behind them are how a key stands in its cells.
+use Rattle.std.proofs.Common.{◌≡◌, ℕ, ◌-◌, List, length, take, replicate, arith}
+use Rattle.std.proofs.lemmas.List.{length-append, length-replicate}
+use Rattle.std.proofs.Math.Seq.{take-append_seam, drop-append_seam}
+use Rattle.chart_model.specs.Key.{IsKey, IsStored, stored}
+
+pub take-stored : (bytes : List ℕ) → take (length bytes) (stored bytes) ≡ bytes
+take-stored bytes = take-append_seam bytes (replicate (32 - length bytes) 0)
+
+pub IsStored-stored : (bytes : List ℕ) → IsKey bytes → IsStored (stored bytes) (length bytes)
+IsStored-stored bytes key = record {
+  long = simp (length-append, length-replicate) (omega (arith, key.short));
+  key = rw take-stored key;
+  fits = key.short;
+  rest = drop-append_seam bytes (replicate (32 - length bytes) 0);
+}

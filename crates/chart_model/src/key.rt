@@ -1,0 +1,82 @@
+//! The name under which a cell is kept.
+
+ghost use Rattle.std.specs.Prelude.{◌≡◌, ◌≤◌, ◌↔◌, length, IsTrue, All};
+ghost use Rattle.std.specs.Option.{SomeIff};
+ghost use Rattle.chart_model.specs.Key.{IsKey, IsVisible, stored};
+
+use std::marker::Model;
+
+/// The most bytes that a key has.
+const LIMIT: usize = 32;
+
+/// The key of a cell: its data set's file name without the extension, 1 to 32 visible ASCII bytes
+/// (0x21 to 0x7E).
+///
+/// It keeps its bytes in place, so that a copy takes no memory.
+#[derive(Clone, Copy, Debug)]
+pub struct Key {
+    cells: [u8; 32],
+    len: usize,
+}
+
+impl Model for Key {
+    ghost use Rattle.std.specs.Prelude.{List, ℕ, length, take};
+    ghost use Rattle.chart_model.specs.Key.{IsStored, stored, length-taken, stored-taken};
+
+    ghost Value = { List ℕ };
+
+    ghost view = { λ key. take key.len key.cells };
+
+    ghost invariant = { λ key. IsStored key.cells key.len };
+
+    ghost inverse = { λ bytes. record { cells = stored bytes; len = length bytes } };
+
+    ghost inverse_ok = { λ key h i. record { cells = stored-taken key.cells key.len h i; len = length-taken key.cells key.len h i } };
+}
+
+fn is_visible(bytes: &[u8]) -> bool
+    ensures { IsTrue result ↔ All IsVisible bytes.now }
+{
+    bytes.iter().all(|byte| *byte >= 0x21 && *byte <= 0x7E)
+}
+
+/// Whether the bytes are a key.
+fn is_key(bytes: &[u8]) -> bool
+    ensures { IsTrue result ↔ IsKey bytes.now }
+{
+    !bytes.is_empty() && bytes.len() <= LIMIT && is_visible(bytes)
+}
+
+/// The bytes with zeros behind them.
+fn cells_of(bytes: &[u8]) -> [u8; 32]
+    requires { length bytes.now ≤ LIMIT }
+    ensures { result ≡ stored bytes.now }
+{
+    let mut cells = [0; 32];
+    cells[..bytes.len()].copy_from_slice(bytes);
+    cells
+}
+
+impl Key {
+    /// The key of these bytes, where they are one. It takes no memory.
+    pub fn from_bytes(bytes: &[u8]) -> Option<Key>
+        ensures { SomeIff result (IsKey bytes.now) bytes.now }
+    {
+        if !is_key(bytes) {
+            return None;
+        }
+        let cells = cells_of(bytes);
+        Some(Key {
+            cells,
+            len: bytes.len(),
+        })
+    }
+
+    /// The bytes of the key. It takes no memory.
+    pub fn as_slice(&self) -> &[u8]
+        ensures bytes { result.now ≡ self.now }
+        ensures key { IsKey result.now }
+    {
+        &self.cells[..self.len]
+    }
+}

@@ -1,0 +1,8 @@
+//! The plain values that the chart kernel speaks of.
+#![tactic(auto)]
+
+mod key;
+mod octets;
+
+pub use key::Key;
+pub use octets::Octets;

@@ -1,0 +1,19 @@
+//! What the chart kernel asks of the outside: a script to read, files to fetch, a disk to write and
+//! a place to say replies, and a counter of decoded records.
+//!
+//! Each is a trait with a written meaning. Whether an implementation tells contracts its content is
+//! part of its type; each counts its own failures, and code that is generic over the trait can't
+//! raise that count itself.
+#![tactic(auto)]
+
+mod desk;
+mod file_bytes;
+mod shelf;
+mod source;
+mod steps;
+
+pub use desk::Desk;
+pub use file_bytes::FileBytes;
+pub use shelf::{Fetched, Shelf, ShelfError};
+pub use source::{Failed, Source};
+pub use steps::Steps;

@@ -1,0 +1,49 @@
+//! A collection of files that are fetched whole, by name.
+
+ghost use Rattle.std.specs.Prelude.{◌≡◌, ◌≤◌, Bool, List, ℕ, Option, IsTrue, IfOk, IsErrOf};
+ghost use Rattle.chart_ports.specs.Count.{Rose};
+ghost use Rattle.chart_ports.specs.Fetched.{fetched_of, IsWithin};
+
+use crate::file_bytes::FileBytes;
+use std::alloc::{AllocError, AllocFailed, Global};
+
+/// Why nothing is known of a file.
+#[derive(Clone, Copy, Debug, PartialEq, Eq)]
+pub enum ShelfError {
+    /// The shelf failed, and counted it.
+    Failed,
+    /// There was no memory for the file.
+    NoMemory,
+}
+
+/// What a shelf has under a name.
+#[derive(Debug, Drop)]
+pub enum Fetched {
+    /// The file's bytes.
+    Bytes(FileBytes),
+    /// There is no file of the name.
+    Absent,
+    /// The file has more bytes than were allowed.
+    Long,
+}
+
+/// A collection of files that are fetched whole, by name.
+pub trait Shelf {
+    /// Whether contracts see the files.
+    ghost tells: { Bool };
+
+    /// The bytes under each name, where they are told.
+    ghost files: { Self → List ℕ → Option (List ℕ) };
+
+    /// How often a call has failed. The number never falls.
+    ghost faults: { Self → ℕ };
+
+    /// The file of this name, where it has at most `limit` bytes.
+    fn fetch(&mut self, alloc: Global, name: &str, limit: u64) -> Result<Fetched, ShelfError>
+        ensures found { IsTrue tells → IfOk result (λ fetched. fetched ≡ fetched_of limit (files self.old name.now)) }
+        ensures within { IfOk result (IsWithin limit) }
+        ensures same { IsTrue tells → files self.new ≡ files self.old }
+
+        ensures later { faults self.old ≤ faults self.new }
+        ensures failed { IsErrOf result ShelfError.Failed → Rose (faults self.old) (faults self.new) };
+}

@@ -1,0 +1,46 @@
+//! A count of decoded records that costs nothing.
+
+ghost use Rattle.std.specs.Prelude.{◌≡◌, ◌+◌, ◌<◌};
+
+use std::marker::Model;
+use std::sync::ledger::{Blank, Book, Ledger, Share};
+
+/// How many records were decoded. It takes no bytes, and only `tick` raises it.
+///
+/// Each ledger has one counter. Code that is generic in the ledger can't make another, so a bound
+/// on the count speaks of all that was decoded.
+#[derive(Drop)]
+pub struct Steps<C: Ledger> {
+    book: Book<C>,
+    share: Share<C>,
+}
+
+impl<C: Ledger> Model for Steps<C> {
+    ghost use Rattle.std.specs.Prelude.{ℕ, ◌<◌};
+
+    ghost Value = { ℕ };
+
+    ghost view = { λ steps. steps.book.total };
+
+    ghost invariant = { λ steps. 0 < steps.share.parts };
+}
+
+impl<C: Ledger> Steps<C> {
+    /// The counter of a new ledger, at 0.
+    pub fn new(blank: Blank) -> Steps<C>
+        requires name { blank.name ≡ C.name }
+        requires parts { blank.parts ≡ C.parts }
+        requires share { 0 < C.parts }
+        ensures { result ≡ 0 }
+    {
+        let (book, share) = blank.open::<C>();
+        Steps { book, share }
+    }
+
+    /// Counts one record.
+    pub fn tick(&mut self)
+        ensures { self.new ≡ self.old + 1 }
+    {
+        self.book.add(&mut self.share, 1);
+    }
+}
