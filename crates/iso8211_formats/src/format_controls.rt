@@ -1,0 +1,1 @@
+//! The format controls: how a field's subfields are spelled.

@@ -1,0 +1,1 @@
+//! The array descriptor: the labels of a field's subfields.
