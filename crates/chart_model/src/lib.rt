@@ -3,6 +3,8 @@
 
 mod key;
 mod octets;
+#[cfg(test)]
+mod tests;
 
 pub use key::Key;
 pub use octets::Octets;
