@@ -1,10 +1,11 @@
 -- What stands before a byte and behind it, and a text with an end cut off.
 use Rattle.std.proofs.Common.{◌≡◌, ℕ, Bool, true, false, cond, eqb, ◌&&◌, List, [], ◌∷◌, ◌++◌, Option, Some, None, refl, sym, ap, subst, ◌∙◌, inl, inr, arith}
-use Rattle.std.specs.Prelude.{option_map}
+use Rattle.std.specs.Prelude.{option_map, MatchOption, ◌≢◌}
+use denote.Ref.{Bor}
 use Rattle.std.specs.List.{AllByRecursion}
 use Rattle.std.proofs.lemmas.Bool.{eqb-true, eq-eqb, and_parts}
 use Rattle.iso8211_formats.specs.Reading.{cut_at, before_end, guarded}
-use Rattle.iso8211_formats.proofs.Options.{map_some, chosen, guarded_some, some_is}
+use Rattle.iso8211_formats.proofs.Options.{map_some, chosen, guarded_some, some_is, none_unless}
 
 -- this byte is nowhere in the text
 abbrev pub Lacks : ℕ → List ℕ → Type 0
@@ -52,3 +53,8 @@ before_end_again [] = refl
 before_end_again (x ∷ []) = refl
 before_end_again (x ∷ y ∷ []) = refl
 before_end_again (x ∷ y ∷ z ∷ front) = rw (before_end_again (y ∷ z ∷ front)) refl
+
+-- the text that `strip_suffix` leaves
+pub before_end-stripped : (text : List ℕ) (r : Option (Bor (List ℕ))) → MatchOption r ((front : List ℕ) → text ≢ front ++ 41 ∷ 30 ∷ []) (λ x. text ≡ x.now ++ 41 ∷ 30 ∷ []) → option_map (λ (x : Bor (List ℕ)). x.now) r ≡ before_end text
+before_end-stripped text None ends_otherwise = sym (none_unless (before_end text) (λ front e. ends_otherwise front (before_end_found text front e)))
+before_end-stripped text (Some x) whole = sym (ap before_end whole ∙ before_end_again x.now)

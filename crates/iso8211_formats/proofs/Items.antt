@@ -269,11 +269,11 @@ sound_expanded (item ∷ items) each = sound_append (replicate item.count item.f
 
 -- ---- the texts of items, cut at their commas
 
-onto_front : (text : List ℕ) (rest : List ℕ) → Lacks 44 text → slice_split (λ b. eqb b 44) (text ++ 44 ∷ rest) ≡ text ∷ slice_split (λ b. eqb b 44) rest
+pub onto_front : (text : List ℕ) (rest : List ℕ) → Lacks 44 text → slice_split (λ b. eqb b 44) (text ++ 44 ∷ rest) ≡ text ∷ slice_split (λ b. eqb b 44) rest
 onto_front [] rest lacks = refl
 onto_front (x ∷ text) rest lacks = rw (lacks.0, onto_front text rest lacks.1) refl
 
-whole_part : (text : List ℕ) → Lacks 44 text → slice_split (λ b. eqb b 44) text ≡ text ∷ []
+pub whole_part : (text : List ℕ) → Lacks 44 text → slice_split (λ b. eqb b 44) text ≡ text ∷ []
 whole_part [] lacks = refl
 whole_part (x ∷ text) lacks = rw (lacks.0, whole_part text lacks.1) refl
 

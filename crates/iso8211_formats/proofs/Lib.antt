@@ -4,3 +4,7 @@ pub mod Numbers
 pub mod Items
 pub mod LabelTexts
 pub mod Fields
+pub mod Searches
+pub mod Steps
+pub mod LabelSteps
+pub mod Stages

@@ -27,3 +27,7 @@ chosen false x y z e = inr (refl, e)
 
 pub some_is : {A : Type 0} (x y : A) → ◌≡◌ {A = Option A} (Some x) (Some y) → x ≡ y
 some_is x y e = cc
+
+pub none_unless : {A : Type 0} (o : Option A) → ((x : A) → o ≡ Some x → ⊥) → o ≡ None
+none_unless None no_value = refl
+none_unless (Some x) no_value = absurd (no_value x refl)

@@ -103,12 +103,15 @@ before_end (x ∷ []) = None
 before_end (x ∷ y ∷ []) = guarded (x == 41 && y == 30) []
 before_end (x ∷ y ∷ z ∷ rest) = option_map (λ text. x ∷ text) (before_end (y ∷ z ∷ rest))
 
--- the formats of the format controls with the field terminator behind them
+-- the items of the format controls with the field terminator behind them, without the parentheses
+unfoldable pub items_text : List ℕ → Option (List ℕ)
+items_text [] = None
+items_text (first ∷ rest) = if first == 40 then before_end rest else None
+
+-- the formats of these format controls
 unfoldable pub formats_of : List ℕ → Option (List Format)
-formats_of [] = None
-formats_of (first ∷ rest) = do
-  text ← guarded (first == 40) rest
-  items ← before_end text
+formats_of controls = do
+  items ← items_text controls
   items_of (slice_split (λ byte. byte == 44) items)
 
 -- ---- labels
@@ -148,11 +151,38 @@ layout_with labels formats =
     guarded (nat_le (length labels.0) 64 && (length formats == length labels.0))
     (record { labels = labels.0; formats = formats; repeats_from = labels.1 })
 
-unfoldable pub descriptor_of : List ℕ → Option Layout
-descriptor_of field = do
+-- the array descriptor, and the format controls with the field terminator: they stand behind nine field controls
+-- and the name, with a unit terminator behind the name and one between them
+unfoldable pub parts_of : List ℕ → Option (List ℕ × List ℕ)
+parts_of field = do
   named ← guarded (nat_le 9 (length field)) (drop 9 field)
   name ← cut_at 31 named
-  array ← cut_at 31 name.1
-  labels ← labels_of array.0
-  formats ← formats_of array.1
+  cut_at 31 name.1
+
+unfoldable pub descriptor_of : List ℕ → Option Layout
+descriptor_of field = do
+  parts ← parts_of field
+  labels ← labels_of parts.0
+  formats ← formats_of parts.1
   layout_with labels formats
+
+-- ---- steps of the code
+
+-- a label with `!` behind it, and what follows
+unfoldable pub closed_label : List ℕ → Option (List ℕ × List ℕ)
+closed_label [] = None
+closed_label (a ∷ []) = None
+closed_label (a ∷ b ∷ []) = None
+closed_label (a ∷ b ∷ c ∷ []) = None
+closed_label (a ∷ b ∷ c ∷ d ∷ []) = None
+closed_label (a ∷ b ∷ c ∷ d ∷ e ∷ rest) = if e == 33 then Some (a ∷ b ∷ c ∷ d ∷ [], rest) else None
+
+-- a list of at most so many
+unfoldable pub at_most : ℕ → Option (List Format) → Option (List Format)
+at_most most read = do
+  formats ← read
+  guarded (nat_le (length formats) most) formats
+
+-- what is read, behind what stands there already
+unfoldable pub behind : List Format → Option (List Format) → Option (List Format)
+behind formats read = option_map (λ more. formats ++ more) read

@@ -1,39 +1,14 @@
 //! What a descriptor says of its field.
 
-ghost use Rattle.std.specs.Prelude.{◌≡◌};
+ghost use Rattle.std.specs.Prelude.{◌≡◌, length};
+ghost use Rattle.iso8211_formats.specs.Layout.{IsLayout};
 
 use crate::format::FormatList;
+use chart_model::Sequence;
 use std::marker::Model;
 
 /// Labels of four bytes, in the order of their subfields.
-#[derive(Debug, Drop)]
-pub struct LabelList {
-    labels: Vec<[u8; 4]>,
-}
-
-impl Model for LabelList {
-    ghost use Rattle.std.specs.Prelude.{List, ℕ};
-
-    ghost Value = { List (List ℕ) };
-
-    ghost view = { λ list. list.labels.items };
-}
-
-impl LabelList {
-    /// Takes over the labels of a vector. It takes no memory.
-    pub fn from_vec(labels: Vec<[u8; 4]>) -> LabelList
-        ensures { result ≡ labels.items }
-    {
-        LabelList { labels }
-    }
-
-    /// The labels. It takes no memory.
-    pub fn as_slice(&self) -> &[[u8; 4]]
-        ensures { result.now ≡ self.now }
-    {
-        self.labels.as_slice()
-    }
-}
+pub type LabelList = Sequence<[u8; 4]>;
 
 /// The subfields of a field (ISO/IEC 8211, data descriptive field).
 ///
@@ -57,4 +32,15 @@ impl Model for Descriptor {
     ghost view = { λ descriptor. record { labels = descriptor.labels; formats = descriptor.formats; repeats_from = descriptor.repeats_from } };
 
     ghost invariant = { λ descriptor. IsLayout (record { labels = descriptor.labels; formats = descriptor.formats; repeats_from = descriptor.repeats_from }) };
+}
+
+impl Descriptor {
+    /// How many subfields there are, 1 to 64. It takes no memory.
+    pub fn subfield_count(&self) -> usize
+        ensures count { result ≡ length self.now.labels }
+        // What every descriptor keeps.
+        ensures layout { IsLayout self.now }
+    {
+        self.labels.as_slice().len()
+    }
 }

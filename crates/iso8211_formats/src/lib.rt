@@ -7,8 +7,9 @@ mod field;
 mod format;
 mod format_controls;
 mod labels;
+mod text;
 
 pub use descriptor::{Descriptor, LabelList};
 pub use fault::DescriptorFault;
-pub use field::read_descriptor;
+pub use field::{one_descriptor, read_descriptor, reading_is_spelling};
 pub use format::{Format, FormatList};
