@@ -1,10 +1,10 @@
 -- What stands before a byte and behind it, and a text with an end cut off.
-use Rattle.std.proofs.Common.{◌≡◌, ℕ, Bool, true, false, cond, eqb, ◌&&◌, List, [], ◌∷◌, ◌++◌, Option, Some, None, refl, sym, ap, subst, ◌∙◌, inl, inr, arith}
+use Rattle.std.proofs.Common.{◌≡◌, ℕ, false, eqb, ◌&&◌, List, [], ◌∷◌, ◌++◌, Option, Some, None, refl, sym, ap, subst, ◌∙◌, inl, inr}
 use Rattle.std.specs.Prelude.{option_map, MatchOption, ◌≢◌}
 use denote.Ref.{Bor}
 use Rattle.std.specs.List.{AllByRecursion}
 use Rattle.std.proofs.lemmas.Bool.{eqb-true, eq-eqb, and_parts}
-use Rattle.iso8211_formats.specs.Reading.{cut_at, before_end, guarded}
+use Rattle.iso8211_formats.specs.Reading.{cut_at, before_end}
 use Rattle.iso8211_formats.proofs.Options.{map_some, chosen, guarded_some, some_is, none_unless}
 
 -- this byte is nowhere in the text
@@ -17,15 +17,15 @@ cut_at_found byte [] parts e = absurd cc
 cut_at_found byte (x ∷ xs) parts e =
     elim (chosen (eqb x byte) (Some ([], xs)) (option_map (λ p. (x ∷ p.0, p.1)) (cut_at byte xs)) (Some parts) e) [
       | inl h ↦
-        let same : x ≡ byte = eqb-true x byte h.0 in
-        let p : ◌≡◌ {A = List ℕ × List ℕ} ([], xs) parts = some_is ([], xs) parts h.1 in
-        let P : List ℕ × List ℕ → Type 0 = λ q. (x ∷ xs ≡ q.0 ++ byte ∷ q.1) × Lacks byte q.0 in
-        subst P p (ap (λ (b : ℕ). b ∷ xs) same, tt)
+          let same : x ≡ byte = eqb-true x byte h.0 in
+          let p : ◌≡◌ {A = List ℕ × List ℕ} ([], xs) parts = some_is ([], xs) parts h.1 in
+          let P : List ℕ × List ℕ → Type 0 = λ q. (x ∷ xs ≡ q.0 ++ byte ∷ q.1) × Lacks byte q.0 in
+          subst P p (ap (λ (b : ℕ). b ∷ xs) same, tt)
       | inr h ↦
-        let m = map_some (λ p. (x ∷ p.0, p.1)) (cut_at byte xs) parts h.1 in
-        let rest = cut_at_found byte xs m.0 m.1 in
-        let P : List ℕ × List ℕ → Type 0 = λ q. (x ∷ xs ≡ q.0 ++ byte ∷ q.1) × Lacks byte q.0 in
-        subst P m.2 (ap (λ (t : List ℕ). x ∷ t) rest.0, (h.0, rest.1))
+          let m = map_some (λ p. (x ∷ p.0, p.1)) (cut_at byte xs) parts h.1 in
+          let rest = cut_at_found byte xs m.0 m.1 in
+          let P : List ℕ × List ℕ → Type 0 = λ q. (x ∷ xs ≡ q.0 ++ byte ∷ q.1) × Lacks byte q.0 in
+          subst P m.2 (ap (λ (t : List ℕ). x ∷ t) rest.0, (h.0, rest.1))
     ]
 
 pub cut_at_again : (byte : ℕ) (front rest : List ℕ) → Lacks byte front → cut_at byte (front ++ byte ∷ rest) ≡ Some (front, rest)

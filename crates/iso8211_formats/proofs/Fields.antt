@@ -1,18 +1,17 @@
 -- A field gives the layout that it spells, and no other.
-use Rattle.std.proofs.Common.{◌≡◌, ℕ, zero, suc, ◌+◌, ◌<◌, ◌≤◌, Bool, true, false, eqb, leb, ◌&&◌, List, [], ◌∷◌, ◌++◌, length, take, drop, map, Option, Some, None, refl, sym, ap, subst, ◌∙◌, inl, inr, arith, append_assoc, length-append, length-take, take-append-drop}
-use Rattle.std.specs.Prelude.{IfSome}
+use Rattle.std.proofs.Common.{◌≡◌, ℕ, ◌≤◌, true, eqb, leb, ◌&&◌, List, [], ◌∷◌, ◌++◌, length, take, drop, map, Option, Some, None, refl, sym, ap, subst, ◌∙◌, inl, inr, arith, append_assoc, length-append, length-take, take-append-drop}
 use Rattle.std.specs.List.{AllByRecursion, join_with_byte, slice_split}
-use Rattle.std.proofs.lemmas.Bool.{eqb-true, eq-eqb, leb-true, le-leb, and_parts, and_from}
-use Rattle.std.proofs.lemmas.List.{length-map, take_at, drop_at}
+use Rattle.std.proofs.lemmas.Bool.{eqb-true, eq-eqb, leb-true, le-leb, and_parts}
+use Rattle.std.proofs.lemmas.List.{length-map, drop_at}
 use Rattle.std.proofs.lemmas.List.Splits.{join_with_byte-slice_split, length-slice_split}
 use Rattle.iso8211_formats.specs.declared.format.Format.{Format}
 use Rattle.iso8211_formats.specs.Layout.{Layout, IsLayout, IsSound}
-use Rattle.iso8211_formats.specs.Grammar.{Spells, Item, IsItem, IsLabel, item_text, expanded, format_controls, array_descriptor}
-use Rattle.iso8211_formats.specs.Reading.{◌>>=◌, guarded, cut_at, before_end, items_text, items_of, formats_of, labels_of, layout_with, parts_of, descriptor_of}
+use Rattle.iso8211_formats.specs.Grammar.{Spells, Item, IsItem, item_text, expanded, format_controls, array_descriptor}
+use Rattle.iso8211_formats.specs.Reading.{guarded, cut_at, before_end, items_text, formats_of, labels_of, layout_with, parts_of, descriptor_of}
 use Rattle.iso8211_formats.proofs.Options.{bind_some, guarded_some, chosen, some_is}
 use Rattle.iso8211_formats.proofs.Cuts.{Lacks, cut_at_found, cut_at_again, before_end_found, before_end_again}
 use Rattle.iso8211_formats.proofs.Items.{items_of_found, items_of_again, slice_split-items, sound_expanded}
-use Rattle.iso8211_formats.proofs.LabelTexts.{IsArray, BeginsWithin, labels_of_found, labels_of_again, AreLabels-from_array, Lacks-array, AreFour-from_labels}
+use Rattle.iso8211_formats.proofs.LabelTexts.{IsArray, labels_of_found, labels_of_again, AreLabels-from_array, Lacks-array, AreFour-from_labels}
 
 -- ---- format controls
 
@@ -77,8 +76,8 @@ parts_spell field name rest array tail labels group formats layout long named na
       begins = is_array.begins;
     } in
     let whole : field ≡ take 9 field ++ (name ++ 31 ∷ (array_descriptor group labels ++ 31 ∷ (format_controls are_controls.items ++ 30 ∷ []))) =
-        sym (take-append-drop 9 field)
-        ∙ ap (λ (t : List ℕ). take 9 field ++ t) (named ∙ ap (λ (t : List ℕ). name ++ 31 ∷ t) (arrayed ∙ ap (λ (t : List ℕ). array ++ 31 ∷ t) are_controls.whole ∙ ap (λ (t : List ℕ). t ++ 31 ∷ (format_controls are_controls.items ++ 30 ∷ [])) is_array.whole))
+    sym (take-append-drop 9 field)
+    ∙ ap (λ (t : List ℕ). take 9 field ++ t) (named ∙ ap (λ (t : List ℕ). name ++ 31 ∷ t) (arrayed ∙ ap (λ (t : List ℕ). array ++ 31 ∷ t) are_controls.whole ∙ ap (λ (t : List ℕ). t ++ 31 ∷ (format_controls are_controls.items ++ 30 ∷ [])) is_array.whole))
     in
     let spells : Spells (record { labels = labels; formats = formats; repeats_from = group }) field = record {
       controls = take 9 field;
@@ -123,7 +122,7 @@ descriptor_of_again field layout s =
     let tail = format_controls s.items ++ 30 ∷ [] in
     let count = ap length s.formats in
     let formats_are : formats_of tail ≡ Some layout.formats =
-        formats_of_again s.items s.has_items s.each_item (omega (arith, count, s.sound.few, s.sound.as_many)) ∙ ap (λ (fs : List Format). Some fs) (sym s.formats)
+    formats_of_again s.items s.has_items s.each_item (omega (arith, count, s.sound.few, s.sound.as_many)) ∙ ap (λ (fs : List Format). Some fs) (sym s.formats)
     in
     let labels_are = labels_of_again layout.labels layout.repeats_from (AreFour-from_labels layout.labels s.labels) s.sound.present s.sound.begins in
     ap descriptor_of (s.whole ∙ sym (regrouped s.controls s.name array (format_controls s.items)))

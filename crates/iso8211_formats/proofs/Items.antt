@@ -1,18 +1,17 @@
 -- Formats, items and lists of items, read as they are spelled.
-use Rattle.std.proofs.Common.{◌≡◌, ℕ, ◌+◌, ◌-◌, ◌<◌, ◌≤◌, ◌%◌, Bool, true, false, cond, eqb, ltb, ◌&&◌, ◌||◌, ◌⊎◌, List, [], ◌∷◌, ◌++◌, length, replicate, map, zero, suc, Option, Some, None, refl, sym, ap, subst, ◌∙◌, inl, inr, arith, length-append}
+use Rattle.std.proofs.Common.{◌≡◌, ℕ, ◌+◌, ◌-◌, ◌<◌, ◌≤◌, ◌%◌, true, false, eqb, ◌&&◌, ◌||◌, List, [], ◌∷◌, ◌++◌, length, replicate, map, zero, suc, Some, refl, sym, ap, subst, ◌∙◌, inl, inr, arith, length-append}
 use Rattle.std.proofs.lemmas.List.{length-replicate}
 use Rattle.std.specs.Prelude.{codes}
 use Rattle.std.specs.Char.{is_ascii_digit}
-use Rattle.std.specs.Str.{all_ascii_digits}
-use Rattle.std.specs.Str.Parse.{AllDigits, IsNumeral, digits_value}
+use Rattle.std.specs.Str.Parse.{IsNumeral, digits_value}
 use Rattle.std.specs.List.{AllByRecursion, join_with_byte, slice_split}
-use Rattle.std.proofs.lemmas.Bool.{eqb-true, eq-eqb, ltb-true, lt-ltb, and_parts, and_from, or_cases, cases_Bool, true≢false, false_from_ne_true}
+use Rattle.std.proofs.lemmas.Bool.{eqb-true, and_parts, or_cases}
 use Rattle.iso8211_formats.specs.declared.format.Format.{Format}
 use Rattle.iso8211_formats.specs.declared.format.Format.TheVariants.{TextOpen, Text, Unsigned, Signed, Bits}
 use Rattle.iso8211_formats.specs.Layout.{IsSound, IsWidth, IsBinarySize}
-use Rattle.iso8211_formats.specs.Grammar.{IsTextLetter, HasWidth, SpellsFormat, SpellsCount, Item, IsItem, item_text, expanded}
+use Rattle.iso8211_formats.specs.Grammar.{IsTextLetter, HasWidth, SpellsFormat, Item, IsItem, item_text, expanded}
 use Rattle.iso8211_formats.specs.Reading.{◌>>=◌, guarded, is_empty, cut_at, number_of, count_of, digits_and_rest, is_text_letter, open_format, binary_format, format_with, sized_format, format_of, item_of, items_of}
-use Rattle.iso8211_formats.proofs.Options.{bind_some, map_some, chosen, guarded_some, some_is}
+use Rattle.iso8211_formats.proofs.Options.{bind_some, chosen, guarded_some, some_is}
 use Rattle.iso8211_formats.proofs.Cuts.{Lacks, cut_at_found, cut_at_again}
 use Rattle.iso8211_formats.proofs.Numbers.{number_of_found, number_of_again, digits_and_rest_found, digits_and_rest_again, count_of_found, count_of_again, SpellsCount-digits, Lacks-digits, test_from_AllDigits}
 
@@ -25,10 +24,10 @@ IsTextLetter-from_test letter h =
     elim (or_cases (eqb letter 65) (eqb letter 73 || eqb letter 82) h) [
       | inl a ↦ inl (eqb-true letter 65 a)
       | inr others ↦
-        elim (or_cases (eqb letter 73) (eqb letter 82) others) [
-          | inl i ↦ inr (inl (eqb-true letter 73 i))
-          | inr r ↦ inr (inr (eqb-true letter 82 r))
-        ]
+          elim (or_cases (eqb letter 73) (eqb letter 82) others) [
+            | inl i ↦ inr (inl (eqb-true letter 73 i))
+            | inr r ↦ inr (inr (eqb-true letter 82 r))
+          ]
     ]
 
 test_from_IsTextLetter : (letter : ℕ) → IsTextLetter letter → is_text_letter letter ≡ true
@@ -43,9 +42,9 @@ open_format_found letter format e =
     elim (IsTextLetter-from_test letter g.0) [
       | inl a ↦ rw (← g.1, a) (inl refl, tt)
       | inr others ↦ elim others [
-          | inl i ↦ rw (← g.1, i) (inr (inr (inl refl)), tt)
-          | inr r ↦ rw (← g.1, r) (inr (inr (inr refl)), tt)
-        ]
+        | inl i ↦ rw (← g.1, i) (inr (inr (inl refl)), tt)
+        | inr r ↦ rw (← g.1, r) (inr (inr (inr refl)), tt)
+      ]
     ]
 
 size_found : (digit size : ℕ) → (eqb digit 49 || (eqb digit 50 || eqb digit 52)) ≡ true → digit - 48 ≡ size → IsBinarySize size × (digit ≡ 48 + size)
@@ -53,9 +52,9 @@ size_found digit size test value =
     elim (or_cases (eqb digit 49) (eqb digit 50 || eqb digit 52) test) [
       | inl h ↦ let d = eqb-true digit 49 h in (inl (omega arith), omega arith)
       | inr others ↦ elim (or_cases (eqb digit 50) (eqb digit 52) others) [
-          | inl h ↦ let d = eqb-true digit 50 h in (inr (inl (omega arith)), omega arith)
-          | inr h ↦ let d = eqb-true digit 52 h in (inr (inr (omega arith)), omega arith)
-        ]
+        | inl h ↦ let d = eqb-true digit 50 h in (inr (inl (omega arith)), omega arith)
+        | inr h ↦ let d = eqb-true digit 52 h in (inr (inr (omega arith)), omega arith)
+      ]
     ]
 
 binary_format_found : (sign digit : ℕ) (format : Format) → binary_format sign digit ≡ Some format → IsSpelled (98 ∷ sign ∷ digit ∷ []) format
@@ -66,12 +65,12 @@ binary_format_found sign digit format e =
     let size = size_found digit b.0 g.0 g.1 in
     elim (chosen (eqb sign 49) (Some (Unsigned b.0)) (guarded (eqb sign 50) (Signed b.0)) (Some format) b.2) [
       | inl h ↦
-        let text_is : 98 ∷ sign ∷ digit ∷ [] ≡ codes "b1" ++ (48 + b.0) ∷ [] = ap (λ (s : ℕ). 98 ∷ s ∷ digit ∷ []) (eqb-true sign 49 h.0) ∙ ap (λ (d : ℕ). 98 ∷ 49 ∷ d ∷ []) size.1 in
-        subst (λ (f : Format). IsSpelled (98 ∷ sign ∷ digit ∷ []) f) (some_is (Unsigned b.0) format h.1) (text_is, size.0)
+          let text_is : 98 ∷ sign ∷ digit ∷ [] ≡ codes "b1" ++ (48 + b.0) ∷ [] = ap (λ (s : ℕ). 98 ∷ s ∷ digit ∷ []) (eqb-true sign 49 h.0) ∙ ap (λ (d : ℕ). 98 ∷ 49 ∷ d ∷ []) size.1 in
+          subst (λ (f : Format). IsSpelled (98 ∷ sign ∷ digit ∷ []) f) (some_is (Unsigned b.0) format h.1) (text_is, size.0)
       | inr h ↦
-        let s = guarded_some (eqb sign 50) (Signed b.0) format h.1 in
-        let text_is : 98 ∷ sign ∷ digit ∷ [] ≡ codes "b2" ++ (48 + b.0) ∷ [] = ap (λ (k : ℕ). 98 ∷ k ∷ digit ∷ []) (eqb-true sign 50 s.0) ∙ ap (λ (d : ℕ). 98 ∷ 50 ∷ d ∷ []) size.1 in
-        subst (λ (f : Format). IsSpelled (98 ∷ sign ∷ digit ∷ []) f) s.1 (text_is, size.0)
+          let s = guarded_some (eqb sign 50) (Signed b.0) format h.1 in
+          let text_is : 98 ∷ sign ∷ digit ∷ [] ≡ codes "b2" ++ (48 + b.0) ∷ [] = ap (λ (k : ℕ). 98 ∷ k ∷ digit ∷ []) (eqb-true sign 50 s.0) ∙ ap (λ (d : ℕ). 98 ∷ 50 ∷ d ∷ []) size.1 in
+          subst (λ (f : Format). IsSpelled (98 ∷ sign ∷ digit ∷ []) f) s.1 (text_is, size.0)
     ]
 
 format_with_found : (letter width : ℕ) (inner digits : List ℕ) (format : Format) → number_of digits ≡ Some width → inner ≡ digits ++ 41 ∷ [] → format_with letter width ≡ Some format → IsSpelled (letter ∷ 40 ∷ inner) format
@@ -83,11 +82,11 @@ format_with_found letter width inner digits format numbered whole e =
     elim (chosen (is_text_letter letter) (Some (Text width)) (guarded (eqb letter 66 && eqb (width % 8) 0) (Bits width)) (Some format) e) [
       | inl h ↦ subst (λ (f : Format). IsSpelled (letter ∷ 40 ∷ inner) f) (some_is (Text width) format h.1) ((letter, IsTextLetter-from_test letter h.0, has), (n.2, n.3))
       | inr h ↦
-        let g = guarded_some (eqb letter 66 && eqb (width % 8) 0) (Bits width) format h.1 in
-        let tests = and_parts (eqb letter 66) (eqb (width % 8) 0) g.0 in
-        let b : letter ≡ 66 = eqb-true letter 66 tests.0 in
-        let has_b : HasWidth (letter ∷ 40 ∷ inner) 66 width = subst (λ (l : ℕ). HasWidth (letter ∷ 40 ∷ inner) l width) b has in
-        subst (λ (f : Format). IsSpelled (letter ∷ 40 ∷ inner) f) g.1 (has_b, ((n.2, n.3), eqb-true (width % 8) 0 tests.1))
+          let g = guarded_some (eqb letter 66 && eqb (width % 8) 0) (Bits width) format h.1 in
+          let tests = and_parts (eqb letter 66) (eqb (width % 8) 0) g.0 in
+          let b : letter ≡ 66 = eqb-true letter 66 tests.0 in
+          let has_b : HasWidth (letter ∷ 40 ∷ inner) 66 width = subst (λ (l : ℕ). HasWidth (letter ∷ 40 ∷ inner) l width) b has in
+          subst (λ (f : Format). IsSpelled (letter ∷ 40 ∷ inner) f) g.1 (has_b, ((n.2, n.3), eqb-true (width % 8) 0 tests.1))
     ]
 
 is_empty_found : (xs : List ℕ) → is_empty xs ≡ true → xs ≡ []
@@ -103,18 +102,18 @@ sized_format_found letter inner format e =
     let g = bind_some (guarded (is_empty parts.1) parts.0) _ format cut.2 in
     let closed = guarded_some (is_empty parts.1) parts.0 g.0 g.1 in
     let whole : inner ≡ g.0 ++ 41 ∷ [] =
-        f.0 ∙ ap (λ (t : List ℕ). parts.0 ++ 41 ∷ t) (is_empty_found parts.1 closed.0) ∙ ap (λ (t : List ℕ). t ++ 41 ∷ []) closed.1
+    f.0 ∙ ap (λ (t : List ℕ). parts.0 ++ 41 ∷ t) (is_empty_found parts.1 closed.0) ∙ ap (λ (t : List ℕ). t ++ 41 ∷ []) closed.1
     in
     elim (chosen (is_empty g.0) (guarded (eqb letter 65) TextOpen) (number_of g.0 >>= format_with letter) (Some format) g.2) [
       | inl h ↦
-        let t = guarded_some (eqb letter 65) TextOpen format h.1 in
-        let a : letter ≡ 65 = eqb-true letter 65 t.0 in
-        let inner_is : inner ≡ 41 ∷ [] = whole ∙ ap (λ (t : List ℕ). t ++ 41 ∷ []) (is_empty_found g.0 h.0) in
-        let text_is : letter ∷ 40 ∷ inner ≡ codes "A()" = ap (λ (l : ℕ). l ∷ 40 ∷ inner) a ∙ ap (λ (t : List ℕ). 65 ∷ 40 ∷ t) inner_is in
-        subst (λ (f : Format). IsSpelled (letter ∷ 40 ∷ inner) f) t.1 (inr (inl text_is), tt)
+          let t = guarded_some (eqb letter 65) TextOpen format h.1 in
+          let a : letter ≡ 65 = eqb-true letter 65 t.0 in
+          let inner_is : inner ≡ 41 ∷ [] = whole ∙ ap (λ (t : List ℕ). t ++ 41 ∷ []) (is_empty_found g.0 h.0) in
+          let text_is : letter ∷ 40 ∷ inner ≡ codes "A()" = ap (λ (l : ℕ). l ∷ 40 ∷ inner) a ∙ ap (λ (t : List ℕ). 65 ∷ 40 ∷ t) inner_is in
+          subst (λ (f : Format). IsSpelled (letter ∷ 40 ∷ inner) f) t.1 (inr (inl text_is), tt)
       | inr h ↦
-        let n = bind_some (number_of g.0) (format_with letter) format h.1 in
-        format_with_found letter n.0 inner g.0 format n.1 whole n.2
+          let n = bind_some (number_of g.0) (format_with letter) format h.1 in
+          format_with_found letter n.0 inner g.0 format n.1 whole n.2
     ]
 
 pub format_of_found : (text : List ℕ) (format : Format) → format_of text ≡ Some format → SpellsFormat format text × IsSound format
@@ -126,10 +125,10 @@ format_of_found (letter ∷ second ∷ third ∷ rest) format e =
     elim (chosen (eqb second 40) (sized_format letter (third ∷ rest)) (guarded (eqb letter 98 && is_empty rest) third >>= binary_format second) (Some format) e) [
       | inl h ↦ rw (eqb-true second 40 h.0) (sized_format_found letter (third ∷ rest) format h.1)
       | inr h ↦
-        let b = bind_some (guarded (eqb letter 98 && is_empty rest) third) (binary_format second) format h.1 in
-        let g = guarded_some (eqb letter 98 && is_empty rest) third b.0 b.1 in
-        let tests = and_parts (eqb letter 98) (is_empty rest) g.0 in
-        rw (eqb-true letter 98 tests.0, is_empty_found rest tests.1, g.1) (binary_format_found second b.0 format b.2)
+          let b = bind_some (guarded (eqb letter 98 && is_empty rest) third) (binary_format second) format h.1 in
+          let g = guarded_some (eqb letter 98 && is_empty rest) third b.0 b.1 in
+          let tests = and_parts (eqb letter 98) (is_empty rest) g.0 in
+          rw (eqb-true letter 98 tests.0, is_empty_found rest tests.1, g.1) (binary_format_found second b.0 format b.2)
     ]
 
 -- ---- and back
@@ -229,7 +228,7 @@ item_of_again item is high =
     let starts = format_text_starts item.format_text item.format is.spelled in
     let again = digits_and_rest_again item.count_text starts.0 starts.1 (SpellsCount-digits item.count_text item.count is.counted) starts.3 in
     let parts : digits_and_rest (item_text item) ≡ (item.count_text, item.format_text) =
-        ap (λ (t : List ℕ). digits_and_rest (item.count_text ++ t)) starts.2 ∙ again ∙ ap (λ (t : List ℕ). (item.count_text, t)) (sym starts.2)
+    ap (λ (t : List ℕ). digits_and_rest (item.count_text ++ t)) starts.2 ∙ again ∙ ap (λ (t : List ℕ). (item.count_text, t)) (sym starts.2)
     in
     rw (parts, count_of_again item.count_text item.count is.counted high, format_of_again item.format_text item.format is.spelled is.sound) refl
 

@@ -1,10 +1,9 @@
 -- One label after another.
-use Rattle.std.proofs.Common.{◌≡◌, ℕ, zero, suc, ◌+◌, ◌*◌, ◌<◌, ◌≤◌, Bool, true, false, cond, eqb, List, [], ◌∷◌, ◌++◌, length, take, get_or, Option, Some, None, is_some, IsSome, refl, sym, ap, ◌∙◌, inl, inr, arith, append_assoc, add-one}
+use Rattle.std.proofs.Common.{◌≡◌, ℕ, suc, ◌+◌, ◌≤◌, Bool, true, false, eqb, List, [], ◌∷◌, ◌++◌, length, take, get_or, Option, Some, None, is_some, refl, sym, ap, ◌∙◌, inl, inr, arith, append_assoc, add-one}
 use Rattle.std.specs.Prelude.{option_map}
-use Rattle.std.specs.Option.{option_or}
 use Rattle.std.proofs.lemmas.Bool.{cases_Bool, eqb-true, eq-eqb, ne_eqb}
-use Rattle.iso8211_formats.specs.Reading.{◌>>=◌, guarded, plain_labels, grouped_labels, closed_label}
-use Rattle.iso8211_formats.proofs.Options.{chosen, none_unless, map_some}
+use Rattle.iso8211_formats.specs.Reading.{guarded, plain_labels, grouped_labels, closed_label}
+use Rattle.iso8211_formats.proofs.Options.{chosen, map_some}
 
 pub plain_labels-more : (text : List ℕ) (parts : List ℕ × List ℕ) → closed_label text ≡ Some parts → plain_labels text ≡ option_map (λ labels. parts.0 ∷ labels) (plain_labels parts.1)
 unfolding closed_label plain_labels
@@ -16,8 +15,8 @@ plain_labels-more (a ∷ b ∷ c ∷ d ∷ []) parts e = absurd cc
 plain_labels-more (a ∷ b ∷ c ∷ d ∷ x ∷ rest) parts e =
     elim (chosen (eqb x 33) (Some (a ∷ b ∷ c ∷ d ∷ [], rest)) None (Some parts) e) [
       | inl h ↦
-        let same : ◌≡◌ {A = List ℕ × List ℕ} (a ∷ b ∷ c ∷ d ∷ [], rest) parts = let found = h.1 in cc in
-        rw (h.0, ← same) refl
+          let same : ◌≡◌ {A = List ℕ × List ℕ} (a ∷ b ∷ c ∷ d ∷ [], rest) parts = let found = h.1 in cc in
+          rw (h.0, ← same) refl
       | inr h ↦ absurd (let none = h.1 in cc)
     ]
 
@@ -56,14 +55,14 @@ grouped_labels-more place (a ∷ b ∷ c ∷ d ∷ []) parts other e = absurd cc
 grouped_labels-more place (a ∷ b ∷ c ∷ d ∷ x ∷ rest) parts other e =
     elim (chosen (eqb x 33) (Some (a ∷ b ∷ c ∷ d ∷ [], rest)) None (Some parts) e) [
       | inl h ↦
-        let same : ◌≡◌ {A = List ℕ × List ℕ} (a ∷ b ∷ c ∷ d ∷ [], rest) parts = let found = h.1 in cc in
-        elim (cases_Bool (eqb a 42)) [
-          | inl mark ↦
-            let begins : a ∷ b ∷ c ∷ d ∷ x ∷ rest ≡ 42 ∷ b ∷ c ∷ d ∷ x ∷ rest = ap (λ (y : ℕ). y ∷ b ∷ c ∷ d ∷ x ∷ rest) (eqb-true a 42 mark) in
-            let no_group : plain_labels (b ∷ c ∷ d ∷ x ∷ rest) ≡ None = other (b ∷ c ∷ d ∷ x ∷ rest) begins in
-            rw (mark, no_group, h.0, ← same) refl
-          | inr mark ↦ rw (mark, h.0, ← same) refl
-        ]
+          let same : ◌≡◌ {A = List ℕ × List ℕ} (a ∷ b ∷ c ∷ d ∷ [], rest) parts = let found = h.1 in cc in
+          elim (cases_Bool (eqb a 42)) [
+            | inl mark ↦
+                let begins : a ∷ b ∷ c ∷ d ∷ x ∷ rest ≡ 42 ∷ b ∷ c ∷ d ∷ x ∷ rest = ap (λ (y : ℕ). y ∷ b ∷ c ∷ d ∷ x ∷ rest) (eqb-true a 42 mark) in
+                let no_group : plain_labels (b ∷ c ∷ d ∷ x ∷ rest) ≡ None = other (b ∷ c ∷ d ∷ x ∷ rest) begins in
+                rw (mark, no_group, h.0, ← same) refl
+            | inr mark ↦ rw (mark, h.0, ← same) refl
+          ]
       | inr h ↦ absurd (let none = h.1 in cc)
     ]
 
@@ -78,13 +77,13 @@ grouped_labels-none place (a ∷ b ∷ c ∷ d ∷ x ∷ rest) other e =
     elim (chosen (eqb x 33) (Some (a ∷ b ∷ c ∷ d ∷ [], rest)) None None e) [
       | inl h ↦ absurd (let found = h.1 in cc)
       | inr h ↦
-        elim (cases_Bool (eqb a 42)) [
-          | inl mark ↦
-            let begins : a ∷ b ∷ c ∷ d ∷ x ∷ rest ≡ 42 ∷ b ∷ c ∷ d ∷ x ∷ rest = ap (λ (y : ℕ). y ∷ b ∷ c ∷ d ∷ x ∷ rest) (eqb-true a 42 mark) in
-            let no_group : plain_labels (b ∷ c ∷ d ∷ x ∷ rest) ≡ None = other (b ∷ c ∷ d ∷ x ∷ rest) begins in
-            rw (mark, no_group, h.0) refl
-          | inr mark ↦ rw (mark, h.0) refl
-        ]
+          elim (cases_Bool (eqb a 42)) [
+            | inl mark ↦
+                let begins : a ∷ b ∷ c ∷ d ∷ x ∷ rest ≡ 42 ∷ b ∷ c ∷ d ∷ x ∷ rest = ap (λ (y : ℕ). y ∷ b ∷ c ∷ d ∷ x ∷ rest) (eqb-true a 42 mark) in
+                let no_group : plain_labels (b ∷ c ∷ d ∷ x ∷ rest) ≡ None = other (b ∷ c ∷ d ∷ x ∷ rest) begins in
+                rw (mark, no_group, h.0) refl
+            | inr mark ↦ rw (mark, h.0) refl
+          ]
     ]
 
 grouped_labels-group : (place : ℕ) (group : List ℕ) (labels : List (List ℕ)) → plain_labels group ≡ Some labels → grouped_labels place (42 ∷ group) ≡ Some (labels, place)

@@ -1,10 +1,9 @@
 -- Array descriptors, read as they are spelled: a mark can stand at one place only.
-use Rattle.std.proofs.Common.{◌≡◌, ℕ, zero, suc, ◌+◌, ◌-◌, ◌*◌, ◌<◌, ◌≤◌, Bool, true, false, cond, eqb, ltb, ◌&&◌, ◌⊎◌, List, [], ◌∷◌, ◌++◌, length, map, Option, Some, None, refl, sym, ap, subst, ◌∙◌, inl, inr, arith, length-append, append_assoc}
+use Rattle.std.proofs.Common.{◌≡◌, ℕ, zero, suc, ◌+◌, ◌-◌, ◌*◌, ◌<◌, ◌≤◌, Bool, true, false, cond, eqb, List, [], ◌∷◌, ◌++◌, length, Option, Some, None, refl, sym, ap, subst, ◌∙◌, inl, inr, arith, length-append, append_assoc}
 use Rattle.std.specs.Prelude.{option_map, IfSome}
 use Rattle.std.specs.List.{AllByRecursion, join_with_byte}
-use Rattle.std.specs.Option.{option_or}
-use Rattle.std.proofs.lemmas.Bool.{eqb-true, eq-eqb, and_parts, cases_Bool, true≢false, false_from_ne_true, ne_eqb}
-use Rattle.iso8211_formats.specs.Grammar.{IsLabel, HasNoTerminator, begins_at, marked_labels, array_descriptor}
+use Rattle.std.proofs.lemmas.Bool.{eqb-true, eq-eqb, cases_Bool, ne_eqb}
+use Rattle.iso8211_formats.specs.Grammar.{IsLabel, begins_at, marked_labels, array_descriptor}
 use Rattle.iso8211_formats.specs.Reading.{plain_labels, grouped_labels, labels_of}
 use Rattle.iso8211_formats.proofs.Options.{map_some, chosen, some_is, or_some, none_unless}
 use Rattle.iso8211_formats.proofs.Cuts.{Lacks}
@@ -86,11 +85,11 @@ plain_labels_found (a ∷ b ∷ c ∷ d ∷ e ∷ rest) labels found =
     let first = a ∷ b ∷ c ∷ d ∷ [] in
     elim (chosen (eqb e 33) (option_map (λ ls. first ∷ ls) (plain_labels rest)) None (Some labels) found) [
       | inl h ↦
-        let m = map_some (λ ls. first ∷ ls) (plain_labels rest) labels h.1 in
-        let r = plain_labels_found rest m.0 m.1 in
-        let P : List (List ℕ) → Type 0 = λ ls. (a ∷ b ∷ c ∷ d ∷ e ∷ rest ≡ plain ls) × AllByRecursion IsFour ls × (1 ≤ length ls) in
-        let text_is : a ∷ b ∷ c ∷ d ∷ e ∷ rest ≡ first ++ 33 ∷ plain m.0 = ap (λ (k : ℕ). a ∷ b ∷ c ∷ d ∷ k ∷ rest) (eqb-true e 33 h.0) ∙ ap (λ (t : List ℕ). first ++ 33 ∷ t) r.0 in
-        subst P m.2 (text_is ∙ sym (join-more first m.0 r.2), (refl, r.1), omega arith)
+          let m = map_some (λ ls. first ∷ ls) (plain_labels rest) labels h.1 in
+          let r = plain_labels_found rest m.0 m.1 in
+          let P : List (List ℕ) → Type 0 = λ ls. (a ∷ b ∷ c ∷ d ∷ e ∷ rest ≡ plain ls) × AllByRecursion IsFour ls × (1 ≤ length ls) in
+          let text_is : a ∷ b ∷ c ∷ d ∷ e ∷ rest ≡ first ++ 33 ∷ plain m.0 = ap (λ (k : ℕ). a ∷ b ∷ c ∷ d ∷ k ∷ rest) (eqb-true e 33 h.0) ∙ ap (λ (t : List ℕ). first ++ 33 ∷ t) r.0 in
+          subst P m.2 (text_is ∙ sym (join-more first m.0 r.2), (refl, r.1), omega arith)
       | inr h ↦ absurd (let none = h.1 in cc)
     ]
 
@@ -142,25 +141,25 @@ grouped_labels_found place (a ∷ b ∷ c ∷ d ∷ k ∷ rest) found e =
     let later : Option (List (List ℕ) × ℕ) = option_map (λ (q : List (List ℕ) × ℕ). (label ∷ q.0, q.1)) (grouped_labels (suc place) rest) in
     elim (or_some (cond (eqb a 42) here None) (cond (eqb k 33) later None) found e) [
       | inl first ↦
-        elim (chosen (eqb a 42) here None (Some found) first) [
-          | inl h ↦
-            let m = map_some (λ (ls : List (List ℕ)). (ls, place)) (plain_labels (b ∷ c ∷ d ∷ k ∷ rest)) found h.1 in
-            let r = plain_labels_found (b ∷ c ∷ d ∷ k ∷ rest) m.0 m.1 in
-            let text_is : text ≡ 42 ∷ plain m.0 = ap (λ (x : ℕ). x ∷ b ∷ c ∷ d ∷ k ∷ rest) (eqb-true a 42 h.0) ∙ ap (λ (t : List ℕ). 42 ∷ t) r.0 in
-            subst P m.2 (record { before = []; group = m.0; parts = refl; begins = omega arith; whole = text_is; four_before = tt; four_group = r.1; present = r.2 })
-          | inr h ↦ absurd (let none = h.1 in cc)
-        ]
+          elim (chosen (eqb a 42) here None (Some found) first) [
+            | inl h ↦
+                let m = map_some (λ (ls : List (List ℕ)). (ls, place)) (plain_labels (b ∷ c ∷ d ∷ k ∷ rest)) found h.1 in
+                let r = plain_labels_found (b ∷ c ∷ d ∷ k ∷ rest) m.0 m.1 in
+                let text_is : text ≡ 42 ∷ plain m.0 = ap (λ (x : ℕ). x ∷ b ∷ c ∷ d ∷ k ∷ rest) (eqb-true a 42 h.0) ∙ ap (λ (t : List ℕ). 42 ∷ t) r.0 in
+                subst P m.2 (record { before = []; group = m.0; parts = refl; begins = omega arith; whole = text_is; four_before = tt; four_group = r.1; present = r.2 })
+            | inr h ↦ absurd (let none = h.1 in cc)
+          ]
       | inr second ↦
-        elim (chosen (eqb k 33) later None (Some found) second) [
-          | inl h ↦
-            let m = map_some (λ (q : List (List ℕ) × ℕ). (label ∷ q.0, q.1)) (grouped_labels (suc place) rest) found h.1 in
-            let r = grouped_labels_found (suc place) rest m.0 m.1 in
-            let text_is : text ≡ grouped (label ∷ r.before) r.group =
+          elim (chosen (eqb k 33) later None (Some found) second) [
+            | inl h ↦
+                let m = map_some (λ (q : List (List ℕ) × ℕ). (label ∷ q.0, q.1)) (grouped_labels (suc place) rest) found h.1 in
+                let r = grouped_labels_found (suc place) rest m.0 m.1 in
+                let text_is : text ≡ grouped (label ∷ r.before) r.group =
                 ap (λ (x : ℕ). a ∷ b ∷ c ∷ d ∷ x ∷ rest) (eqb-true k 33 h.0) ∙ ap (λ (t : List ℕ). label ++ 33 ∷ t) r.whole
-            in
-            subst P m.2 (record { before = label ∷ r.before; group = r.group; parts = ap (λ (ls : List (List ℕ)). label ∷ ls) r.parts; begins = omega (arith, r.begins); whole = text_is; four_before = (refl, r.four_before); four_group = r.four_group; present = r.present })
-          | inr h ↦ absurd (let none = h.1 in cc)
-        ]
+                in
+                subst P m.2 (record { before = label ∷ r.before; group = r.group; parts = ap (λ (ls : List (List ℕ)). label ∷ ls) r.parts; begins = omega (arith, r.begins); whole = text_is; four_before = (refl, r.four_before); four_group = r.four_group; present = r.present })
+            | inr h ↦ absurd (let none = h.1 in cc)
+          ]
     ]
 
 -- behind the mark's place no byte at a fifth place but `!` can follow
@@ -258,12 +257,12 @@ labels_of_found text found e =
     let P : List (List ℕ) × Option ℕ → Type 0 = λ q. IsArray text q.0 q.1 in
     elim (or_some (option_map (λ (ls : List (List ℕ)). (ls, None)) (plain_labels text)) (option_map (λ (q : List (List ℕ) × ℕ). (q.0, Some q.1)) (grouped_labels 1 text)) found e) [
       | inl h ↦
-        let m = map_some (λ (ls : List (List ℕ)). (ls, None)) (plain_labels text) found h in
-        subst P m.2 (plain_is_array text m.0 m.1)
+          let m = map_some (λ (ls : List (List ℕ)). (ls, None)) (plain_labels text) found h in
+          subst P m.2 (plain_is_array text m.0 m.1)
       | inr h ↦
-        let m = map_some (λ (q : List (List ℕ) × ℕ). (q.0, Some q.1)) (grouped_labels 1 text) found h in
-        let r = grouped_labels_found 1 text m.0 m.1 in
-        subst P m.2 (parted_is_array text m.0.0 m.0.1 r.before r.group r.parts r.begins r.whole r.four_before r.four_group r.present)
+          let m = map_some (λ (q : List (List ℕ) × ℕ). (q.0, Some q.1)) (grouped_labels 1 text) found h in
+          let r = grouped_labels_found 1 text m.0 m.1 in
+          subst P m.2 (parted_is_array text m.0.0 m.0.1 r.before r.group r.parts r.begins r.whole r.four_before r.four_group r.present)
     ]
 
 five_a_label : (text : List ℕ) (labels : List (List ℕ)) → plain_labels text ≡ Some labels → length text + 1 ≡ 5 * length labels
@@ -361,10 +360,10 @@ length-labels_of text found e =
     let P : List (List ℕ) × Option ℕ → Type 0 = λ q. length text ≤ 5 * length q.0 in
     elim (or_some (option_map (λ (ls : List (List ℕ)). (ls, None)) (plain_labels text)) (option_map (λ (q : List (List ℕ) × ℕ). (q.0, Some q.1)) (grouped_labels 1 text)) found e) [
       | inl h ↦
-        let m = map_some (λ (ls : List (List ℕ)). (ls, None)) (plain_labels text) found h in
-        subst P m.2 (omega (arith, five_a_label text m.0 m.1))
+          let m = map_some (λ (ls : List (List ℕ)). (ls, None)) (plain_labels text) found h in
+          subst P m.2 (omega (arith, five_a_label text m.0 m.1))
       | inr h ↦
-        let m = map_some (λ (q : List (List ℕ) × ℕ). (q.0, Some q.1)) (grouped_labels 1 text) found h in
-        let r = grouped_labels_found 1 text m.0 m.1 in
-        subst P m.2 (omega (arith, ap length r.whole, length-grouped r.before r.group r.four_before r.four_group r.present, ap length r.parts, length-append r.before r.group))
+          let m = map_some (λ (q : List (List ℕ) × ℕ). (q.0, Some q.1)) (grouped_labels 1 text) found h in
+          let r = grouped_labels_found 1 text m.0 m.1 in
+          subst P m.2 (omega (arith, ap length r.whole, length-grouped r.before r.group r.four_before r.four_group r.present, ap length r.parts, length-append r.before r.group))
     ]

@@ -1,14 +1,13 @@
 -- Decimal numbers in format controls.
-use Rattle.std.proofs.Common.{◌≡◌, ℕ, ◌+◌, ◌<◌, ◌≤◌, Bool, true, false, cond, eqb, ltb, ◌&&◌, List, [], ◌∷◌, ◌++◌, length, Option, Some, None, refl, sym, ap, subst, ◌∙◌, inl, inr, arith}
+use Rattle.std.proofs.Common.{◌≡◌, ℕ, ◌<◌, ◌≤◌, Bool, true, false, eqb, ltb, ◌&&◌, List, [], ◌∷◌, ◌++◌, Some, refl, sym, ap, ◌∙◌, inl, inr, arith}
 use Rattle.std.specs.Char.{is_ascii_digit}
 use Rattle.std.specs.Str.{all_ascii_digits}
 use Rattle.std.specs.Str.Parse.{AllDigits, IsNumeral, digits_value}
-use Rattle.std.specs.Int.{IsInRange}
 use Rattle.std.proofs.lemmas.Bool.{eqb-true, ltb-true, lt-ltb, and_parts, and_from, cases_Bool, true≢false, false_from_ne_true}
-use Rattle.std.proofs.lemmas.Str.Parse.{IsNumeralModel, numerals_by_value, tells_all_ascii_digits, digit_from_value}
-use Rattle.iso8211_formats.specs.Reading.{number_of, digits_and_rest, count_of, guarded}
+use Rattle.std.proofs.lemmas.Str.Parse.{IsNumeralModel, numerals_by_value, tells_all_ascii_digits}
+use Rattle.iso8211_formats.specs.Reading.{number_of, digits_and_rest, count_of}
 use Rattle.iso8211_formats.specs.Grammar.{SpellsCount}
-use Rattle.iso8211_formats.proofs.Options.{map_some, chosen, guarded_some, some_is}
+use Rattle.iso8211_formats.proofs.Options.{guarded_some, some_is}
 use Rattle.iso8211_formats.proofs.Cuts.{Lacks}
 
 abbrev pub digits_test : List ℕ → Type 0

@@ -1,6 +1,5 @@
 -- A text cut where a search in it stopped, and a number after some of its digits.
-use Rattle.std.proofs.Common.{◌≡◌, ℕ, zero, suc, ◌+◌, ◌-◌, ◌*◌, ◌<◌, ◌≤◌, Bool, true, false, cond, not, eqb, ltb, List, [], ◌∷◌, ◌++◌, length, get_or, take, drop, position, Option, Some, None, refl, sym, ap, ◌∙◌, inl, inr, arith, add-one}
-use Rattle.std.specs.Prelude.{option_map}
+use Rattle.std.proofs.Common.{◌≡◌, ℕ, zero, suc, ◌+◌, ◌-◌, ◌*◌, ◌<◌, ◌≤◌, Bool, true, false, not, eqb, ltb, List, [], ◌∷◌, length, get_or, take, drop, position, Some, None, refl, sym, ◌∙◌, inl, inr, arith, add-one}
 use Rattle.std.specs.List.{position_or_len}
 use Rattle.std.specs.Char.{is_ascii_digit, digit_value}
 use Rattle.std.specs.Str.{all_ascii_digits}
@@ -11,7 +10,7 @@ use Rattle.std.proofs.lemmas.List.Sums.{fails_before_first}
 use Rattle.std.proofs.lemmas.Str.Parse.{digits_value-take-le}
 use Rattle.std.proofs.lemmas.Int.Digits.{digits_value_more}
 use Rattle.iso8211_formats.specs.Reading.{cut_at, digits_and_rest, number_of}
-use Rattle.iso8211_formats.proofs.Options.{chosen, some_is, none_unless}
+use Rattle.iso8211_formats.proofs.Options.{chosen, none_unless}
 use Rattle.iso8211_formats.proofs.Numbers.{number_of_found, number_of_again, AllDigits-from_test}
 
 cut_at-index : (byte : ℕ) (text : List ℕ) (at : ℕ) → at < length text → eqb (get_or text at 0) byte ≡ true → ((k : ℕ) → k < at → eqb (get_or text k 0) byte ≡ false) → cut_at byte text ≡ Some (take at text, drop (suc at) text)

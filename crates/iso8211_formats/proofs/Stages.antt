@@ -1,7 +1,7 @@
 -- The whole field, stage by stage.
-use Rattle.std.proofs.Common.{◌≡◌, ℕ, ◌+◌, ◌*◌, ◌<◌, ◌≤◌, ◌⊎◌, Bool, true, false, eqb, leb, ◌&&◌, List, [], ◌∷◌, length, Option, Some, None, Result, Ok, Err, refl, sym, ap, ◌∙◌, inl, inr, arith}
+use Rattle.std.proofs.Common.{◌≡◌, ℕ, ◌<◌, ◌≤◌, Bool, true, false, eqb, leb, List, length, Option, Some, None, Result, Ok, Err, refl, sym, ap, ◌∙◌, inl, inr, arith}
 use Rattle.std.specs.Prelude.{IfOk, IsErrOf}
-use Rattle.std.proofs.lemmas.Bool.{leb-false, le-leb, lt-leb, eq-eqb, ne_eqb, and_left, and_right, cases_Bool}
+use Rattle.std.proofs.lemmas.Bool.{leb-false, le-leb, lt-leb, eq-eqb, ne_eqb, and_right, cases_Bool}
 use Rattle.iso8211_formats.specs.declared.format.Format.{Format}
 use Rattle.iso8211_formats.specs.declared.fault.DescriptorFault.{DescriptorFault}
 use Rattle.iso8211_formats.specs.declared.fault.DescriptorFault.TheVariants.{Bad, NoMemory}
@@ -9,7 +9,7 @@ use Rattle.iso8211_formats.specs.Layout.{Layout, IsLayout}
 use Rattle.iso8211_formats.specs.Grammar.{Spells}
 use Rattle.iso8211_formats.specs.Reading.{◌>>=◌, guarded, parts_of, labels_of, formats_of, at_most, layout_with, descriptor_of}
 use Rattle.iso8211_formats.specs.Answers.{Fails, Gives}
-use Rattle.iso8211_formats.proofs.Options.{bind_some, guarded_some, some_is}
+use Rattle.iso8211_formats.proofs.Options.{bind_some, guarded_some}
 use Rattle.iso8211_formats.proofs.LabelTexts.{length-labels_of}
 use Rattle.iso8211_formats.proofs.Fields.{descriptor_of_found, descriptor_of_again}
 

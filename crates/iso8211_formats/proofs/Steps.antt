@@ -8,8 +8,8 @@ use Rattle.iso8211_formats.specs.Reading.{◌>>=◌, guarded, cut_at, item_of, i
 use Rattle.iso8211_formats.specs.declared.fault.DescriptorFault.{DescriptorFault}
 use Rattle.iso8211_formats.specs.declared.fault.DescriptorFault.TheVariants.{Bad, NoMemory}
 use Rattle.iso8211_formats.specs.Answers.{Fails, Leaves}
-use Rattle.iso8211_formats.proofs.Options.{guarded_some, none_unless, chosen}
-use Rattle.iso8211_formats.proofs.Cuts.{Lacks, cut_at_found, cut_at_again}
+use Rattle.iso8211_formats.proofs.Options.{guarded_some, chosen}
+use Rattle.iso8211_formats.proofs.Cuts.{Lacks, cut_at_found}
 use Rattle.iso8211_formats.proofs.Items.{onto_front, whole_part}
 
 abbrev both : Option (List Format) → Option (List Format) → Option (List Format)
@@ -24,8 +24,8 @@ over most formats more e =
     elim (cases_Bool (leb (length formats) most)) [
       | inl h ↦ absurd (let e' : guarded true formats ≡ None = ap (λ (b : Bool). guarded b formats) (sym h) ∙ e in cc)
       | inr h ↦
-        let long : leb (length (formats ++ more)) most ≡ false = lt-leb _ _ (omega (arith, leb-false _ _ h, length-append formats more)) in
-        rw long refl
+          let long : leb (length (formats ++ more)) most ≡ false = lt-leb _ _ (omega (arith, leb-false _ _ h, length-append formats more)) in
+          rw long refl
     ]
 
 more_ok : (most : ℕ) (formats new : List Format) (first rest : Option (List Format)) → at_most most (behind formats first) ≡ Some new → at_most most (behind formats (both first rest)) ≡ at_most most (behind new rest)

@@ -1,6 +1,6 @@
 -- The layout that a data descriptive field spells, where it spells one: the field is cut at its unit terminators,
 -- its labels are found by their places, and its format controls are cut at their commas.
-use Rattle.std.specs.Prelude.{◌≡◌, ℕ, suc, ◌+◌, ◌-◌, ◌%◌, ◌≤◌, Bool, true, false, ◌&&◌, ◌||◌, ◌==◌, nat_lt, nat_le, if◌then◌else◌, List, [], ◌∷◌, ◌++◌, length, drop, replicate, Option, Some, None, option_map, option_and_then}
+use Rattle.std.specs.Prelude.{ℕ, suc, ◌-◌, ◌%◌, Bool, true, false, ◌&&◌, ◌||◌, ◌==◌, nat_lt, nat_le, if◌then◌else◌, List, [], ◌∷◌, ◌++◌, length, drop, replicate, Option, Some, None, option_map}
 use Rattle.std.specs.List.{slice_split}
 use Rattle.std.specs.Char.{is_ascii_digit}
 use Rattle.std.specs.Str.{all_ascii_digits}
@@ -92,9 +92,6 @@ items_of (text ∷ texts) = do
   first ← item_of text
   rest ← items_of texts
   Some (first ++ rest)
-
-
-
 
 -- a text without `)` and the field terminator at its end
 unfoldable pub before_end : List ℕ → Option (List ℕ)

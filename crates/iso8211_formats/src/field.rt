@@ -89,11 +89,9 @@ pub fn read_descriptor(alloc: Global, field: &[u8]) -> Result<Descriptor, Descri
 /// A field spells one descriptor at most.
 pub fn one_descriptor()
     ensures { (field : List ℕ) (a b : Layout) → Spells a field → Spells b field → a ≡ b }
-{
-}
+{}
 
 /// The function that definitions cite gives what a field spells.
 pub fn reading_is_spelling()
     ensures { (field : List ℕ) (layout : Layout) → (descriptor_of field ≡ Some layout) ↔ Spells layout field }
-{
-}
+{}

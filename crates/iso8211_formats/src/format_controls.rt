@@ -136,11 +136,7 @@ fn push_repeated(formats: &mut FormatList, format: Format, count: u32) -> Result
 }
 
 /// Adds the formats of an item, where there are at most so many formats then.
-fn push_item(
-    formats: &mut FormatList,
-    text: &[u8],
-    most: usize,
-) -> Result<(), DescriptorFault>
+fn push_item(formats: &mut FormatList, text: &[u8], most: usize) -> Result<(), DescriptorFault>
     ensures { Leaves result formats.new (at_most most (behind formats.old (item_of text.now))) }
 {
     let Some((count, format)) = read_item(text) else {

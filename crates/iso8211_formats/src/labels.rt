@@ -94,10 +94,7 @@ fn read_grouped(alloc: Global, text: &[u8]) -> Result<(LabelList, u32), Descript
 
 /// The labels of an array descriptor, and the place, from 1, of the label that has the mark.
 #[tactic(auto, unfolding(crate::specs::Reading::labels_of))]
-pub fn read_labels(
-    alloc: Global,
-    text: &[u8],
-) -> Result<(LabelList, Option<u32>), DescriptorFault>
+pub fn read_labels(alloc: Global, text: &[u8]) -> Result<(LabelList, Option<u32>), DescriptorFault>
     requires { length text.now ≤ 320 }
     ensures { Gives result (labels_of text.now) }
 {

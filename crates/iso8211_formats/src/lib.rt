@@ -7,6 +7,8 @@ mod field;
 mod format;
 mod format_controls;
 mod labels;
+#[cfg(test)]
+mod tests;
 mod text;
 
 pub use descriptor::{Descriptor, LabelList};

@@ -1,7 +1,5 @@
-use Rattle.std.proofs.Common.{◌≡◌, ◌≤◌, List, ℕ, Some, length, arith, sym, ap, ◌∙◌}
+use Rattle.std.proofs.Common.{length, arith, sym, ap, ◌∙◌}
 use Rattle.std.proofs.lemmas.Result.{err_from_is_err_and}
-use Rattle.iso8211_formats.specs.Layout.{Layout, IsLayout}
-use Rattle.iso8211_formats.specs.Reading.{parts_of, at_most, formats_of, labels_of, descriptor_of}
 use Rattle.iso8211_formats.proofs.Fields.{descriptor_of_found}
 use Rattle.iso8211_formats.proofs.Stages.{no_parts, long_array, labels_fail, formats_fail, too_many, not_as_many, made}
 use Rattle.iso8211_formats.proofs.field.read.Goals as goal
@@ -27,9 +25,9 @@ pub returns-then-count-gt-MOST_LABELS : goal.returns-then-count-gt-MOST_LABELS
 returns-then-count-gt-MOST_LABELS c =
     elim c.then-count-gt-MOST_LABELS.branch [
       | then-count-gt-MOST_LABELS-via-then-count-gt-MOST_LABELS w ↦
-        too_many c.args.field.now _ (c.in_ok-labels.labels, c.in_ok-labels.repeats_from) _ _ (sym c.in-Some.ensures) c.in_ok-labels.ensures c.in_ok-formats.ensures (omega (arith, ap length c.as_slice-count.ensures))
+          too_many c.args.field.now _ (c.in_ok-labels.labels, c.in_ok-labels.repeats_from) _ _ (sym c.in-Some.ensures) c.in_ok-labels.ensures c.in_ok-formats.ensures (omega (arith, ap length c.as_slice-count.ensures))
       | then-count-gt-MOST_LABELS-via-else-count-gt-MOST_LABELS+then-as_slice-count w ↦
-        not_as_many c.args.field.now _ (c.in_ok-labels.labels, c.in_ok-labels.repeats_from) _ _ (sym c.in-Some.ensures) c.in_ok-labels.ensures c.in_ok-formats.ensures (λ same. w.if-as_slice-count.true (ap length w.as_slice.ensures ∙ same ∙ sym (ap length c.as_slice-count.ensures)))
+          not_as_many c.args.field.now _ (c.in_ok-labels.labels, c.in_ok-labels.repeats_from) _ _ (sym c.in-Some.ensures) c.in_ok-labels.ensures c.in_ok-formats.ensures (λ same. w.if-as_slice-count.true (ap length w.as_slice.ensures ∙ same ∙ sym (ap length c.as_slice-count.ensures)))
     ]
 
 pub returns : goal.returns

@@ -1,4 +1,4 @@
-use Rattle.std.proofs.Common.{rules, ◌≡◌, arith, sym, replicate, ◌++◌, ap, length}
+use Rattle.std.proofs.Common.{arith, sym, replicate, ap, length}
 use Rattle.std.proofs.lemmas.List.{length-replicate}
 use Rattle.iso8211_formats.proofs.Steps.{pushed_none, pushed_over, pushed}
 use Rattle.iso8211_formats.proofs.format_controls.push_item.Goals as goal

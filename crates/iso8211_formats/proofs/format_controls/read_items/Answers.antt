@@ -1,4 +1,4 @@
-use Rattle.std.proofs.Common.{rules, ◌≡◌, arith, sym, ap, ◌∙◌, eqb, Option, List, Some, None}
+use Rattle.std.proofs.Common.{rules, ◌≡◌, sym, ap, ◌∙◌, eqb, List, Some, None}
 use Rattle.std.specs.List.{slice_split}
 use Rattle.std.proofs.lemmas.Result.{err_from_is_err_and}
 use Rattle.iso8211_formats.specs.declared.format.Format.{Format}

@@ -10,7 +10,7 @@ loop-after-preserved c =
     let rest = c.loop-after.rest.now in
     let cut = sym c.in-Some.ensures.parts in
     let new : c.push.new.self ≡ c.loop-after.labels ++ take 4 rest ∷ [] =
-        c.in_ok-push.ensures.ok ∙ ap (λ (l : List ℕ). c.loop-after.labels ++ l ∷ []) c.label_at-label.ensures
+    c.in_ok-push.ensures.ok ∙ ap (λ (l : List ℕ). c.loop-after.labels ++ l ∷ []) c.label_at-label.ensures
     in
     (ap (λ (ls : List (List ℕ)). pushed ls (plain_labels c.in-Some.after.now)) new ∙ plain_next c.loop-after.labels rest _ _ cut c.loop-after.invariant.0, sym (is_plain_next rest _ cut) ∙ c.loop-after.invariant.1)
 
@@ -27,6 +27,6 @@ returns c =
     let test : eqb (length rest) 4 ≡ true = sym (is_plain_last rest last) ∙ c.loop-after.invariant.1 in
     let four = eqb-true (length rest) 4 test in
     let new : c.push-2.new.self ≡ c.loop-after.labels ++ rest ∷ [] =
-        c.in_ok-push-2.ensures.ok ∙ ap (λ (l : List ℕ). c.loop-after.labels ++ l ∷ []) (c.label_at-last.ensures ∙ take_all 4 rest (omega (arith, four)))
+    c.in_ok-push-2.ensures.ok ∙ ap (λ (l : List ℕ). c.loop-after.labels ++ l ∷ []) (c.label_at-last.ensures ∙ take_all 4 rest (omega (arith, four)))
     in
     plain_last c.loop-after.labels rest _ last four c.loop-after.invariant.0 ∙ ap (λ (ls : List (List ℕ)). Some ls) (sym new)

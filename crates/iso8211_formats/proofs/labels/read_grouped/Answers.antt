@@ -15,6 +15,6 @@ pub loop-group-preserved : goal.loop-group-preserved
 loop-group-preserved c =
     let rest = c.loop-group.rest.now in
     let new : c.push.new.self ≡ c.loop-group.labels ++ take 4 rest ∷ [] =
-        c.in_ok-push.ensures.ok ∙ ap (λ (l : List ℕ). c.loop-group.labels ++ l ∷ []) c.label_at-label.ensures
+    c.in_ok-push.ensures.ok ∙ ap (λ (l : List ℕ). c.loop-group.labels ++ l ∷ []) c.label_at-label.ensures
     in
     (ap (λ (ls : List (List ℕ)). after ls (grouped_labels (c.loop-group.place + 1) c.in-Some-after_label.after.now)) new ∙ grouped_next c.loop-group.labels c.loop-group.place rest _ _ c.in_default.ensures.none (sym c.in-Some-after_label.ensures.parts) c.loop-group.invariant.0, omega (arith, c.in-Some-after_label.ensures.shorter))

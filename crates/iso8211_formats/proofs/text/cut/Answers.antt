@@ -1,4 +1,4 @@
-use Rattle.std.proofs.Common.{rules, ◌≡◌, ◌+◌, Some, None, take, drop, List, ℕ, ap, sym, ◌∙◌}
+use Rattle.std.proofs.Common.{sym, ◌∙◌}
 use Rattle.std.proofs.lemmas.List.{take_rest}
 use Rattle.iso8211_formats.proofs.Searches.{cut_at-found, cut_at-missed}
 use Rattle.iso8211_formats.proofs.text.cut.Goals as goal
