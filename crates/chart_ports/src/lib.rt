@@ -6,14 +6,22 @@
 //! raise that count itself.
 #![tactic(auto)]
 
+mod calls;
 mod desk;
 mod file_bytes;
+mod memory_desk;
+mod memory_shelf;
+mod memory_source;
 mod shelf;
 mod source;
 mod steps;
 
+pub use calls::{Calls, FailingCalls};
 pub use desk::Desk;
 pub use file_bytes::FileBytes;
+pub use memory_desk::MemoryDesk;
+pub use memory_shelf::MemoryShelf;
+pub use memory_source::MemorySource;
 pub use shelf::{Fetched, Shelf, ShelfError};
 pub use source::{Failed, Source};
 pub use steps::Steps;
