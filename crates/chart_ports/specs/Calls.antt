@@ -1,11 +1,7 @@
 -- The calls of a form in memory: those on a list fail, and each failure is counted.
-use Rattle.std.specs.Prelude.{ℕ, ◌+◌, ◌≡◌, ◌↔◌, List, Contains, min}
-use Rattle.chart_ports.specs.Count.{LAST}
+use Rattle.std.specs.Prelude.{ℕ, ◌≡◌, ◌↔◌, List, Contains}
+use Rattle.chart_ports.specs.Count.{one_more}
 use Rattle.chart_ports.specs.declared.calls.Calls.{Calls}
-
--- the count after one more, which stays at its last value
-abbrev pub one_more : ℕ → ℕ
-one_more count = min (count + 1) LAST
 
 -- no call was made yet
 pub record IsNew (failing : List ℕ) (calls : Calls) : Type 0 where

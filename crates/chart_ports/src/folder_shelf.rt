@@ -1,9 +1,9 @@
 //! The files under the current folder, as a shelf.
 
 ghost use Rattle.std.specs.Prelude.{◌≡◌, ◌≤◌, None, false, IsTrue, IfOk, IsErrOf, Ok};
-ghost use Rattle.chart_ports.specs.Count.{Rose};
+ghost use Rattle.chart_ports.specs.Count.{Rose, one_more};
 ghost use Rattle.chart_ports.specs.Fetched.{IsWithin};
-ghost use Rattle.chart_ports.specs.Folder.{leads_out};
+ghost use Rattle.chart_ports.specs.Folder.{goes_up, leads_out};
 
 use crate::file_bytes::FileBytes;
 use crate::shelf::{Fetched, Shelf, ShelfError};
@@ -27,7 +27,14 @@ pub struct FolderShelf<R> {
 fn leads_out(name: &str) -> bool
     ensures { result ≡ leads_out name.now }
 {
-    name.starts_with('/') || name.split('/').any(|part| part == "..")
+    name.as_bytes().starts_with(b"/") || goes_up(name)
+}
+
+// Whether a part of the name is `..`.
+fn goes_up(name: &str) -> bool
+    ensures { result ≡ goes_up name.now }
+{
+    name.split('/').any(|part| part == "..")
 }
 
 // Reads a file, and at most one byte more than the limit. There is room from the start for the size
@@ -59,7 +66,7 @@ impl<R: Files> FolderShelf<R> {
 }
 
 impl<R: Files> Shelf for FolderShelf<R> {
-    ghost use Rattle.chart_ports.specs.FolderShelf.{faults_of, HasOutcome};
+    ghost use Rattle.chart_ports.specs.FolderShelf.{faults_of};
 
     ghost tells = { false };
 
@@ -74,7 +81,10 @@ impl<R: Files> Shelf for FolderShelf<R> {
 
         // A name that leads out is absent, whatever files there are.
         ensures outside { IsTrue (leads_out name.now) → result ≡ Ok Fetched.Absent }
-        ensures counted { faults_of self.new ≡ faults_after (faults_of self.old) result }
+
+        // A fault is counted exactly where the answer is Failed.
+        ensures counted { IsErrOf result ShelfError.Failed → faults_of self.new ≡ one_more (faults_of self.old) }
+        ensures steady { ¬ (IsErrOf result ShelfError.Failed) → faults_of self.new ≡ faults_of self.old }
     {
         if leads_out(name) {
             return Ok(Fetched::Absent);
