@@ -18,6 +18,8 @@ mod shelf;
 mod source;
 mod std_source;
 mod steps;
+#[cfg(test)]
+mod tests;
 
 pub use calls::{Calls, FailingCalls};
 pub use desk::Desk;

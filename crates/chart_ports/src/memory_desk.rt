@@ -33,7 +33,11 @@ impl MemoryDesk {
     }
 
     /// A desk that has said nothing, with room for so many bytes.
-    pub fn with_room(alloc: Global, failing: FailingCalls, bytes: usize) -> Result<MemoryDesk, AllocError>
+    pub fn with_room(
+        alloc: Global,
+        failing: FailingCalls,
+        bytes: usize,
+    ) -> Result<MemoryDesk, AllocError>
         ensures said { IfOk result (λ desk. said_of desk ≡ []) }
         ensures room { IfOk result (λ desk. bytes ≤ room_of desk) }
         ensures calls { IfOk result (λ desk. IsNew failing (calls_of desk)) }

@@ -43,8 +43,17 @@ impl<R: Read> StdSource<R> {
         ensures not_at_end { ¬ (IsTrue (is_at_end result)) }
         ensures faults { faults_of result ≡ 0 }
     {
+        StdSource::over(rt.reader())
+    }
+
+    /// The same over another reader.
+    pub fn over(reader: R) -> StdSource<R>
+        ensures given { given_of result ≡ 0 }
+        ensures not_at_end { ¬ (IsTrue (is_at_end result)) }
+        ensures faults { faults_of result ≡ 0 }
+    {
         StdSource {
-            reader: rt.reader(),
+            reader,
             given: 0,
             is_at_end: false,
             faults: 0,
@@ -56,6 +65,13 @@ impl<R: Read> StdSource<R> {
         ensures { result ≡ given_of self.now }
     {
         self.given
+    }
+
+    /// Whether the last pull into a buffer with room answered 0.
+    pub fn is_at_end(&self) -> bool
+        ensures { result ≡ is_at_end self.now }
+    {
+        self.is_at_end
     }
 
     /// How many calls have failed. At 2^64 - 1 the number stays.

@@ -1,4 +1,4 @@
-use Rattle.std.proofs.Common.{arith, take, drop, ◌≡◌}
+use Rattle.std.proofs.Common.{arith}
 use Rattle.std.proofs.lemmas.Grind.{common_steps}
 use Rattle.chart_ports.proofs.Given.{left_after}
 use Rattle.chart_ports.proofs.memory_source.MemorySourceSource.pull.Goals as goal
