@@ -1,7 +1,6 @@
--- What a pull moves from the bytes that are left.
-use Rattle.std.proofs.Common.{◌≡◌, sym, ℕ, ◌+◌, List, ◌++◌, take, drop}
-use Rattle.std.proofs.lemmas.List.{take-append-drop, drop-drop}
+-- The bytes behind those that were given.
+use Rattle.std.proofs.Common.{◌≡◌, sym, ℕ, ◌+◌, List, drop}
+use Rattle.std.proofs.lemmas.List.{drop-drop}
 
--- the bytes that were moved, and then those behind them
-pub left_after : (bytes : List ℕ) (at count : ℕ) (moved : List ℕ) → moved ≡ take count (drop at bytes) → drop at bytes ≡ moved ++ drop (at + count) bytes
-left_after bytes at count moved e = rw (e, ← drop-drop count at bytes) (sym (take-append-drop count (drop at bytes)))
+pub drop_further : (bytes : List ℕ) (at count : ℕ) → drop (at + count) bytes ≡ drop count (drop at bytes)
+drop_further bytes at count = sym (drop-drop count at bytes)

@@ -2,6 +2,10 @@
 use Rattle.std.specs.Prelude.{ℕ, Bool}
 use Rattle.chart_ports.specs.declared.std_source.StdSource.{StdSource}
 
+-- what it reads from
+abbrev pub reader_of : {R : Type 0} → StdSource R → R
+reader_of source = source.reader
+
 -- how many bytes it has given
 abbrev pub given_of : {R : Type 0} → StdSource R → ℕ
 given_of source = source.given

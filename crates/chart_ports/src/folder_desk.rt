@@ -1,12 +1,13 @@
 //! The desk of a folder: what is said goes to standard output.
 
 ghost use Rattle.std.specs.Prelude.{◌≡◌, [], false, OnErr, OnOk};
+ghost use Rattle.std.specs.Io.KnownBytes.{Appends};
 ghost use Rattle.chart_ports.specs.Count.{HasCause, one_more};
 
 use crate::desk::Desk;
 use crate::source::Failed;
 use std::io;
-use std::io::ErrorKind;
+use std::io::{ErrorKind, Write};
 
 // How many signals in all may interrupt the writes of one call before that counts as a fault.
 const INTERRUPTIONS: u8 = 64;
@@ -20,12 +21,14 @@ pub struct FolderDesk<R> {
     faults: u64,
 }
 
-// Writes all of the bytes, a piece at a time.
-fn write_pieces<R: Print>(rt: &R, bytes: &[u8]) -> io::Result<()> {
+// Writes all of the bytes, in order, a piece at a time.
+fn write_pieces<W: Write>(to: &mut W, bytes: &[u8]) -> io::Result<()>
+    ensures { OnOk result (Appends (W.contents to.old) (W.contents to.new) bytes.now) }
+{
     let mut rest = bytes;
     let mut interruptions_left = INTERRUPTIONS;
     while !rest.is_empty() {
-        match rt.write_some(rest) {
+        match to.write(rest) {
             Ok(0) => return Err(ErrorKind::WriteZero.into()),
             Ok(count) => rest = &rest[count..],
             Err(error) if error.kind() == ErrorKind::Interrupted && interruptions_left > 0 => {
@@ -69,7 +72,7 @@ impl<R: Print> Desk for FolderDesk<R> {
         ensures counted { OnErr result (faults_of self.new ≡ one_more (faults_of self.old)) }
         ensures steady { OnOk result (faults_of self.new ≡ faults_of self.old) }
     {
-        match write_pieces(&self.rt, bytes) {
+        match write_pieces(&mut io::writer(&self.rt), bytes) {
             Ok(()) => Ok(()),
             Err(_) => {
                 self.faults = self.faults.saturating_add(1);

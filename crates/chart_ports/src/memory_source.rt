@@ -24,7 +24,7 @@ pub struct MemorySource {
 // Copies as many bytes as both have, and at most `most`, and answers how many.
 fn copy_front(from: &[u8], to: &mut [u8], most: usize) -> usize
     ensures count { result ≡ min (length to.old) (min most (length from.now)) }
-    ensures front { take result to.new ≡ take result from.now }
+    ensures front { take result to.new ++ drop result from.now ≡ from.now }
     ensures behind { drop result to.new ≡ drop result to.old }
 {
     let count = to.len().min(most.min(from.len()));
@@ -102,7 +102,7 @@ impl Source for MemorySource {
 
     ghost faults = { λ source. (calls_of source).faults };
 
-    #[tactic(auto, using(crate::proofs::Causes::has_cause_passed, crate::proofs::Given::left_after))]
+    #[tactic(auto, using(crate::proofs::Causes::has_cause_passed, crate::proofs::Given::drop_further))]
     fn pull(&mut self, buf: &mut [u8]) -> Result<usize, Failed>
         ensures within { IfOk result (λ n. n ≤ length buf.old) }
         ensures bytes { IfOk result (λ n. left_of self.old ≡ take n buf.new ++ left_of self.new) }

@@ -1,6 +1,7 @@
 //! Standard input, as a source.
 
 ghost use Rattle.std.specs.Prelude.{◌≡◌, ◌+◌, ◌<◌, ◌≤◌, ◌↔◌, [], false, IsTrue, IfOk, OnErr, OnOk, Ok, length, min};
+ghost use Rattle.std.specs.Io.KnownBytes.{ReadConsumes};
 ghost use Rattle.chart_ports.specs.Count.{HasCause, LAST, one_more};
 
 use crate::source::{Failed, Source};
@@ -22,8 +23,10 @@ pub struct StdSource<R> {
 }
 
 // One read, tried again where a signal interrupts it.
+#[tactic(auto, using(crate::proofs::Reading::read_after))]
 fn read_once<R: Read>(reader: &mut R, buf: &mut [u8]) -> io::Result<usize>
-    ensures { IfOk result (λ n. n ≤ length buf.old) }
+    ensures within { IfOk result (λ n. n ≤ length buf.old) }
+    ensures read { ReadConsumes (R.remaining reader.old) (R.remaining reader.new) result buf.new }
 {
     for _ in 0..INTERRUPTIONS {
         match reader.read(buf) {
@@ -35,7 +38,7 @@ fn read_once<R: Read>(reader: &mut R, buf: &mut [u8]) -> io::Result<usize>
 }
 
 impl<R: Read> StdSource<R> {
-    ghost use Rattle.chart_ports.specs.StdSource.{given_of, is_at_end, faults_of};
+    ghost use Rattle.chart_ports.specs.StdSource.{reader_of, given_of, is_at_end, faults_of};
 
     /// The standard input of the runtime.
     pub fn new<I: Input<Reader = R>>(rt: &I) -> StdSource<R>
@@ -48,6 +51,7 @@ impl<R: Read> StdSource<R> {
 
     /// The same over another reader.
     pub fn over(reader: R) -> StdSource<R>
+        ensures reader { reader_of result ≡ reader }
         ensures given { given_of result ≡ 0 }
         ensures not_at_end { ¬ (IsTrue (is_at_end result)) }
         ensures faults { faults_of result ≡ 0 }
@@ -83,7 +87,7 @@ impl<R: Read> StdSource<R> {
 }
 
 impl<R: Read> Source for StdSource<R> {
-    ghost use Rattle.chart_ports.specs.StdSource.{given_of, is_at_end, faults_of};
+    ghost use Rattle.chart_ports.specs.StdSource.{reader_of, given_of, is_at_end, faults_of};
 
     ghost tells = { false };
 
@@ -103,6 +107,9 @@ impl<R: Read> Source for StdSource<R> {
 
         ensures at_end { 0 < length buf.old → (IsTrue (is_at_end self.new) ↔ (result ≡ Ok 0)) }
         ensures no_room { length buf.old ≡ 0 → is_at_end self.new ≡ is_at_end self.old }
+
+        // Where the reader's bytes are known, a pull gives the next of them, and 0 at their end.
+        ensures read { ReadConsumes (R.remaining (reader_of self.old)) (R.remaining (reader_of self.new)) result buf.new }
 
         ensures cause { HasCause (faults_of self.old) (faults_of self.new) result }
         ensures counted { OnErr result (faults_of self.new ≡ one_more (faults_of self.old)) }
