@@ -1,8 +1,8 @@
 //! The files under the current folder, as a shelf.
 
-ghost use Rattle.std.specs.Prelude.{◌≡◌, ◌≤◌, None, false, IsTrue, IfOk, IsErrOf, Ok};
-ghost use Rattle.chart_ports.specs.Count.{Rose, one_more};
-ghost use Rattle.chart_ports.specs.Fetched.{IsWithin};
+ghost use Rattle.std.specs.Prelude.{◌≡◌, ◌<◌, ◌≤◌, None, Some, false, IsTrue, IfOk, IfSome, IsErrOf, Ok, length};
+ghost use Rattle.chart_ports.specs.Count.{LAST, Rose, one_more};
+ghost use Rattle.chart_ports.specs.Fetched.{IsWithin, fetched_of};
 ghost use Rattle.chart_ports.specs.Folder.{goes_up, leads_out};
 
 use crate::file_bytes::FileBytes;
@@ -37,14 +37,30 @@ fn goes_up(name: &str) -> bool
     name.split('/').any(|part| part == "..")
 }
 
-// Reads a file, and at most one byte more than the limit. There is room from the start for the size
-// that the file has then, and a byte more of each: so it is read in place, also where it ends there.
-fn read_file<R: Files>(files: &R, alloc: Global, name: &str, limit: u64) -> io::Result<Vec<u8>> {
-    let file = File::open(files, name)?;
-    let room = file.metadata()?.len().min(limit).saturating_add(2);
+// A file as the shelf answers it, of which at most one byte more than the limit is read. `size` is
+// the size that it is said to have: with room for that, and for the read that sees its end, the bytes
+// are read in place. A file that is longer or shorter than that is read as it comes.
+#[tactic(auto, using(crate::proofs::Front::taken_whole, crate::proofs::Front::taken_long))]
+fn read_front<F: Read + Drop>(file: F, alloc: Global, size: u64, limit: u64) -> io::Result<Fetched>
+    ensures within { IfOk result (IsWithin limit) }
+    ensures found { IfSome (F.remaining file) (λ bytes. length bytes < LAST →
+        IfOk result (λ fetched. fetched ≡ fetched_of limit (Some bytes))) }
+{
+    let room = size.min(limit).saturating_add(2);
     let mut bytes = Vec::with_capacity(alloc, room as usize)?;
     file.take(limit.saturating_add(1)).read_to_end(&mut bytes)?;
-    Ok(bytes)
+    if bytes.len() as u64 > limit {
+        return Ok(Fetched::Long);
+    }
+    Ok(Fetched::Bytes(FileBytes::from_vec(bytes)))
+}
+
+fn read_file<R: Files>(files: &R, alloc: Global, name: &str, limit: u64) -> io::Result<Fetched>
+    ensures { IfOk result (IsWithin limit) }
+{
+    let file = File::open(files, name)?;
+    let size = file.metadata()?.len();
+    read_front(file, alloc, size, limit)
 }
 
 impl<R: Files> FolderShelf<R> {
@@ -90,8 +106,7 @@ impl<R: Files> Shelf for FolderShelf<R> {
             return Ok(Fetched::Absent);
         }
         match read_file(&self.files, alloc, name, limit) {
-            Ok(bytes) if bytes.len() as u64 > limit => Ok(Fetched::Long),
-            Ok(bytes) => Ok(Fetched::Bytes(FileBytes::from_vec(bytes))),
+            Ok(fetched) => Ok(fetched),
             Err(error) if error.kind() == ErrorKind::NotFound => Ok(Fetched::Absent),
             Err(error) if error.kind() == ErrorKind::OutOfMemory => Err(ShelfError::NoMemory),
             Err(_) => {
