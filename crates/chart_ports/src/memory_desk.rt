@@ -1,6 +1,6 @@
 //! A desk in memory, which tells contracts what was said.
 
-ghost use Rattle.std.specs.Prelude.{◌≡◌, ◌⊎◌, ◌/◌, ◌<◌, ◌≤◌, ◌++◌, [], true, IfOk, OnOk, OnErr, IsOk, IsErr, length, take};
+ghost use Rattle.std.specs.Prelude.{◌≡◌, ◌⊎◌, ◌+◌, ◌/◌, ◌<◌, ◌≤◌, ◌++◌, [], true, IfOk, OnOk, OnErr, IsOk, IsErr, length, take};
 ghost use Rattle.chart_ports.specs.Count.{HasCause};
 ghost use Rattle.chart_ports.specs.Said.{SaysFront};
 
@@ -82,6 +82,9 @@ impl Desk for MemoryDesk {
         ensures listed { IsToFail (calls_of self.old) → IsErr result }
         ensures torn { IsToFail (calls_of self.old) → length bytes.now / 2 ≤ room_of self.old →
             said_of self.new ≡ said_of self.old ++ take (length bytes.now / 2) bytes.now }
+
+        // What fits takes no more room than it has bytes.
+        ensures room { length bytes.now ≤ room_of self.old → room_of self.old ≤ room_of self.new + length bytes.now }
 
         // Another call fails only for want of room, and says nothing then.
         ensures unlisted { IsErr result → IsToFail (calls_of self.old) ⊎ (room_of self.old < length bytes.now) }
