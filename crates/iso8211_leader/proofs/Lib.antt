@@ -1,1 +1,2 @@
 mod DigitsLemmas
+mod Tag

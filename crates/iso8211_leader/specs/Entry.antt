@@ -38,5 +38,5 @@ unfoldable pub entry_of : Frame → List ℕ → Entry
 entry_of frame text = record {
   tag = take 4 text;
   length = number_of (field_length frame text);
-  position = number_of (field_position frame text)
+  position = number_of (field_position frame text);
 }

@@ -48,7 +48,7 @@ frame_of text = record {
   length = number_of (length_digits text);
   base = number_of (base_digits text);
   size_length = slice_index text 20 - 48;
-  size_position = slice_index text 21 - 48
+  size_position = slice_index text 21 - 48;
 }
 
 -- a leader that was read, as what it says
@@ -57,5 +57,5 @@ frame leader = record {
   length = leader.length;
   base = leader.base;
   size_length = leader.size_length;
-  size_position = leader.size_position
+  size_position = leader.size_position;
 }

@@ -1,6 +1,6 @@
 //! Leaders and entries as they stand in the bytes of a file.
 
-ghost use Rattle.std.specs.Prelude.{◌≡◌, ◌↔◌, true, ◌-◌, ◌+◌, ◌≤◌, ◌<◌, length, slice_index, IfOk, IfErr, IsTrue, MatchOption, codes};
+ghost use Rattle.std.specs.Prelude.{◌≡◌, ◌↔◌, true, ◌-◌, ◌+◌, ◌≤◌, ◌<◌, length, slice_index, IfOk, IfErr, IfSome, IfNone, IsTrue, take, drop, MatchOption, codes};
 ghost use Rattle.std.specs.Option.{SomeIff};
 ghost use Rattle.std.specs.List.{slice_range};
 ghost use Rattle.iso8211_leader.specs.Leader.{leader_text, HasLeader, frame_of, frame, identifier};
@@ -29,13 +29,31 @@ pub fn read_leader(bytes: &[u8], at: usize, first: bool) -> Result<Leader, Frame
     ensures refused { IfErr result (λ fault. ¬ HasLeader first (leader_text bytes.now at)) }
     ensures fault { IfErr result (λ fault. fault ≡ FrameFault.Leader at) }
 {
-    if at > bytes.len() || bytes.len() - at < LEADER_LENGTH {
+    let Some(text) = text_at(bytes, at, LEADER_LENGTH) else {
         return Err(FrameFault::Leader(at));
-    }
-    match leader_in(&bytes[at..at + LEADER_LENGTH], first) {
+    };
+    match leader_in(text, first) {
         Some(leader) => Ok(leader),
         None => Err(FrameFault::Leader(at)),
     }
+}
+
+/// So many bytes from a place on, where the file has them.
+fn text_at(bytes: &[u8], at: usize, size: usize) -> Option<&[u8]>
+    requires { 0 < size }
+    ensures text { IfSome result (λ text. text.now ≡ take size (drop at bytes.now)) }
+    ensures whole { IfSome result (λ text. length text.now ≡ size) }
+    ensures short { IfNone result (length (take size (drop at bytes.now)) < size) }
+{
+    if at > bytes.len() {
+        return None;
+    }
+    let (_, rest) = bytes.split_at(at);
+    if rest.len() < size {
+        return None;
+    }
+    let (text, _) = rest.split_at(size);
+    Some(text)
 }
 
 /// The leader that 24 bytes are.
@@ -95,10 +113,13 @@ pub fn read_entry(
     ensures fault { IfErr result (λ fault. fault ≡ FrameFault.Directory place) }
 {
     let size = 4 + leader.size_length as usize + leader.size_position as usize;
-    if place > bytes.len() || bytes.len() - place < size || !ends_before(place + size, at, leader) {
+    let Some(text) = text_at(bytes, place, size) else {
+        return Err(FrameFault::Directory(place));
+    };
+    if !ends_before(place + size, at, leader) {
         return Err(FrameFault::Directory(place));
     }
-    match entry_in(&bytes[place..place + size], leader) {
+    match entry_in(text, leader) {
         Some(entry) => Ok(entry),
         None => Err(FrameFault::Directory(place)),
     }
@@ -118,7 +139,8 @@ fn entry_in(text: &[u8], leader: &Leader) -> Option<Entry>
 {
     let position_from = 4 + leader.size_length as usize;
     let length = number_in(&text[4..position_from])?;
-    let position = number_in(&text[position_from..])?;
+    let position_to = position_from + leader.size_position as usize;
+    let position = number_in(&text[position_from..position_to])?;
     Some(Entry {
         tag: [text[0], text[1], text[2], text[3]],
         length,

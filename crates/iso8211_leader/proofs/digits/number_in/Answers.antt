@@ -1,5 +1,4 @@
-use Rattle.std.proofs.Common.{◌≡◌, ℕ, ◌+◌, ◌-◌, ◌*◌, ◌^◌, ◌<◌, ◌≤◌, sym, arith}
-use Rattle.iso8211_leader.specs.Digits.{AreDigits, number_of}
+use Rattle.std.proofs.Common.{◌<◌, sym, arith}
 use Rattle.iso8211_leader.proofs.DigitsLemmas.{AreDigits-none, number_of-none, AreDigits-more, number_of-more, AreDigits-other, room, below-more}
 use Rattle.iso8211_leader.proofs.digits.number_in.Goals as goal
 
@@ -7,7 +6,7 @@ pub loop-byte-init : goal.loop-byte-init
 loop-byte-init c = record {
   digits = AreDigits-none c.args.text.now;
   value = number_of-none c.args.text.now;
-  below = omega arith
+  below = omega arith;
 }
 
 pub returns-then-not-is_ascii_digit-clause-value : goal.returns-then-not-is_ascii_digit-clause-value
@@ -28,5 +27,5 @@ pub loop-byte-preserved : goal.loop-byte-preserved
 loop-byte-preserved c = record {
   digits = AreDigits-more _ _ c.loop-byte-test.true c.loop-byte.invariant.digits (sym c.if-not-is_ascii_digit.ensures.value);
   value = rw (number_of-more c.args.text.now c.loop-byte.byte-index c.loop-byte-test.true, ← c.loop-byte.invariant.value);
-  below = below-more _ _ _ c.loop-byte.invariant.below c.if-not-is_ascii_digit.ensures.cases.1
+  below = below-more _ _ _ c.loop-byte.invariant.below c.if-not-is_ascii_digit.ensures.cases.1;
 }

@@ -6,5 +6,5 @@ abbrev pub invariant-loop-byte : goal.invariant-loop-byte
 invariant-loop-byte l = record {
   digits : AreDigits (take l.byte-index l.text);
   value : l.number ≡ number_of (take l.byte-index l.text);
-  below : l.number < 10 ^ l.byte-index
+  below : l.number < 10 ^ l.byte-index;
 }
