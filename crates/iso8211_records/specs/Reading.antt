@@ -22,6 +22,10 @@ entries_of (suc bound) frame (byte ∷ text) =
       Some (entry_of frame (take (entry_size frame) (byte ∷ text)) ∷ entries))
     else None
 
+-- the entries of a directory's text
+abbrev pub directory_entries : Frame → List ℕ → Option (List Entry)
+directory_entries frame text = entries_of (length text) frame text
+
 -- the text of a field, which its terminator ends
 unfoldable pub text_of : List ℕ → Option (List ℕ)
 text_of bytes =
@@ -51,7 +55,7 @@ fields_of layout_of bytes frame (entry ∷ entries) = do
 -- the entries of the directory of the record of this frame that begins the bytes
 unfoldable pub directory_of : Frame → List ℕ → Option (List Entry)
 directory_of frame bytes =
-    if slice_index bytes (frame.base - 1) == FIELD_TERMINATOR then entries_of (frame.base - 25) frame (slice_range bytes 24 (frame.base - 1)) else None
+    if slice_index bytes (frame.base - 1) == FIELD_TERMINATOR then directory_entries frame (slice_range bytes 24 (frame.base - 1)) else None
 
 -- the fields of the data record that begins the bytes, and the bytes after it
 unfoldable pub data_record_at : (List ℕ → Option Layout) → List ℕ → Option (List RawField × List ℕ)

@@ -11,7 +11,7 @@ use Rattle.iso8211_records.specs.Reading.{data_records_of, come_to}
 
 -- the layouts of the one known data descriptive record: DSID alone is listed, and has no group
 unfoldable pub known_layouts : List ℕ → Option Layout
-known_layouts tag = if bytes_eq tag DSID then Some (record { once = DSID_FORMATS; group = [] }) else None
+known_layouts tag = if bytes_eq DSID tag then Some (record { once = DSID_FORMATS; group = [] }) else None
 
 -- the bytes are the known data descriptive record and then data records, and this is what they hold
 pub record IsRecordFile (bytes : List ℕ) (file : RecordFile) : Type 0 where

@@ -14,11 +14,15 @@ abbrev pub ◌>>=◌ : {A B : Type 0} → Option A → (A → Option B) → Opti
 None >>= f = None
 (Some x) >>= f = f x
 
+-- A function failed so: reading gives nothing, unless memory ran out.
+abbrev pub Fails : {Y : Type 0} → FileFault → Option Y → Type 0
+Fails Unsupported read = read ≡ None
+Fails NoMemory read = Unit {0}
+
 -- What a function returned, seen by view, is what reading gives, unless memory ran out.
 abbrev pub Gives : {X Y : Type 0} → (X → Y) → Result X FileFault → Option Y → Type 0
 Gives view (Ok x) read = read ≡ Some (view x)
-Gives view (Err Unsupported) read = read ≡ None
-Gives view (Err NoMemory) read = Unit {0}
+Gives view (Err fault) read = Fails fault read
 
 -- what was read, behind what was read before it
 abbrev pub before_all : {A : Type 0} → List A → Option (List A) → Option (List A)

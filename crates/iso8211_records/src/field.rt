@@ -1,6 +1,8 @@
 //! A data record: its directory and its fields.
 
 ghost use Rattle.std.specs.Prelude.{◌≡◌, ◌≤◌, ◌∷◌, [], length};
+ghost use Rattle.std.specs.List.{list_any};
+ghost use Rattle.std.specs.Str.{bytes_eq};
 ghost use Rattle.iso8211_leader.specs.Leader.{frame};
 ghost use Rattle.iso8211_records.specs.Tags.{DSID};
 ghost use Rattle.iso8211_records.specs.RecordFile.{known_layouts};
@@ -23,6 +25,7 @@ const DIRECTORY: usize = 24;
 /// # Errors
 ///
 /// `Unsupported` exactly where no sound data record begins the bytes; `NoMemory`.
+#[tactic(auto, unfolding(crate::specs::Reading::data_record_at))]
 pub(crate) fn read_data_record<'a>(
     alloc: Global,
     bytes: &'a [u8],
@@ -31,8 +34,9 @@ pub(crate) fn read_data_record<'a>(
     requires { tags.now ≡ DSID ∷ [] }
     ensures { Gives (λ read. (read.0, read.1.now)) result (data_record_at known_layouts bytes.now) }
 {
-    let Ok(leader) = read_leader(bytes, 0, false) else {
-        return Err(FileFault::Unsupported);
+    let leader = match read_leader(bytes, 0, false) {
+        Ok(leader) => leader,
+        Err(_) => return Err(FileFault::Unsupported),
     };
     let length = leader.length as usize;
     if bytes.len() < length {
@@ -61,10 +65,10 @@ fn read_directory(
     let mut entries = Vec::new(alloc);
     let mut place = DIRECTORY;
     while place < closing {
-        let Ok(entry) = read_entry(bytes, 0, leader, place) else {
-            return Err(FileFault::Unsupported);
-        };
-        entries.push(entry)?;
+        match read_entry(bytes, 0, leader, place) {
+            Ok(entry) => entries.push(entry)?,
+            Err(_) => return Err(FileFault::Unsupported),
+        }
         place += size;
     }
     Ok(entries)
@@ -90,6 +94,7 @@ fn read_fields(
 }
 
 /// Reads the field that an entry names in the record that begins the bytes.
+#[tactic(auto, unfolding(crate::specs::Reading::field_of, crate::specs::Reading::field_by, crate::specs::RecordFile::known_layouts))]
 fn read_field(
     alloc: Global,
     bytes: &[u8],
@@ -107,7 +112,7 @@ fn read_field(
         return Err(FileFault::Unsupported);
     }
     let tag = entry.tag;
-    if !tags.contains(&tag) {
+    if !is_listed(tags, &tag) {
         let values = ValueList::new(alloc);
         return Ok(RawField { tag, values });
     }
@@ -116,7 +121,15 @@ fn read_field(
     Ok(RawField { tag, values })
 }
 
+/// Whether the tag is one of the list.
+fn is_listed(tags: &[[u8; 4]], tag: &[u8; 4]) -> bool
+    ensures { result ≡ list_any (λ listed. bytes_eq listed tag.now) tags.now }
+{
+    tags.iter().any(|listed| listed == tag)
+}
+
 /// The text of a field, which its terminator ends.
+#[tactic(auto, unfolding(crate::specs::Reading::text_of))]
 fn text_in(bytes: &[u8]) -> Result<&[u8], FileFault>
     ensures { Gives (λ text. text.now) result (text_of bytes.now) }
 {

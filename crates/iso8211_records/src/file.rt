@@ -23,6 +23,7 @@ use std::sync::ledger::Ledger;
 /// # Errors
 ///
 /// `Unsupported` exactly where the bytes are no such file; `NoMemory`.
+#[tactic(auto, unfolding(crate::specs::RecordFile::record_file_of, crate::specs::RecordFile::data_records_in))]
 pub fn read_file<C: Ledger>(
     alloc: Global,
     bytes: &[u8],

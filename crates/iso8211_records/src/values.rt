@@ -1,9 +1,9 @@
 //! The values of a field, from its text.
 
-ghost use Rattle.std.specs.Prelude.{◌≡◌, ◌⊎◌, ◌++◌, List, length, Ok, Err, Some, None, IfOk, IfSome, IfNone, MatchOption, pos};
+ghost use Rattle.std.specs.Prelude.{◌≡◌, ◌⊎◌, ◌<◌, length, position, Ok, Err, Some, None, IfOk, IfSome};
 ghost use Rattle.iso8211_records.specs.declared.value.Value.{Value as ValueOf};
 ghost use Rattle.iso8211_records.specs.Spelling.{unsigned, signed, IsNumberSize, Layout};
-ghost use Rattle.iso8211_records.specs.Values.{Gives, front_at, open_text_at, value_at, values_at, groups_at, values_of, number_size, before, before_all};
+ghost use Rattle.iso8211_records.specs.Values.{Gives, front_at, open_text_at, value_at, values_at, groups_at, values_of, number_size, is_terminator, before, before_all};
 
 use crate::fault::FileFault;
 use crate::known::{FIELD_TERMINATOR, UNIT_TERMINATOR};
@@ -18,6 +18,7 @@ use std::alloc::{AllocError, Global};
 /// # Errors
 ///
 /// `Unsupported` exactly where the text has no such reading; `NoMemory`.
+#[tactic(auto, unfolding(crate::specs::Values::values_of))]
 pub(crate) fn read_values(
     alloc: Global,
     text: &[u8],
@@ -26,39 +27,42 @@ pub(crate) fn read_values(
 ) -> Result<ValueList, FileFault>
     ensures { Gives (λ values. values) result (values_of (record { once = once.now; group = group.now }) text.now) }
 {
-    let mut values = Vec::new(alloc);
-    let rest = read_each(alloc, text, once, &mut values)?;
-    read_groups(alloc, rest, group, &mut values)?;
+    let (values, rest) = read_each(alloc, text, once, Vec::new(alloc))?;
+    let values = read_groups(alloc, rest, group, values)?;
     Ok(ValueList::from_vec(values))
 }
 
-/// Reads whole groups up to the end of the bytes, and puts their values after the others.
+/// Reads whole groups up to the end of the bytes, and gives their values after the others.
 fn read_groups(
     alloc: Global,
     bytes: &[u8],
     group: &[Format],
-    values: &mut Vec<Value>,
-) -> Result<(), FileFault>
-    ensures { Gives (λ _. values.new.items) result (before_all values.old.items (groups_at (length bytes.now) group.now bytes.now)) }
+    mut values: Vec<Value>,
+) -> Result<Vec<Value>, FileFault>
+    ensures { Gives (λ all. all.items) result (before_all values.items (groups_at (length bytes.now) group.now bytes.now)) }
 {
-    if group.is_empty() && !bytes.is_empty() {
-        return Err(FileFault::Unsupported);
+    if group.is_empty() {
+        return if bytes.is_empty() {
+            Ok(values)
+        } else {
+            Err(FileFault::Unsupported)
+        };
     }
     let mut rest = bytes;
     while !rest.is_empty() {
-        rest = read_each(alloc, rest, group, values)?;
+        (values, rest) = read_each(alloc, rest, group, values)?;
     }
-    Ok(())
+    Ok(values)
 }
 
-/// Reads a value by each format, puts the values after the others, and gives the bytes that are left.
+/// Reads a value by each format, and gives the values after the others, and the bytes that are left.
 fn read_each<'a>(
     alloc: Global,
     bytes: &'a [u8],
     formats: &[Format],
-    values: &mut Vec<Value>,
-) -> Result<&'a [u8], FileFault>
-    ensures { Gives (λ rest. (values.new.items, rest.now)) result (before values.old.items (values_at formats.now bytes.now)) }
+    mut values: Vec<Value>,
+) -> Result<(Vec<Value>, &'a [u8]), FileFault>
+    ensures { Gives (λ read. (read.0.items, read.1.now)) result (before values.items (values_at formats.now bytes.now)) }
 {
     let mut rest = bytes;
     for format in formats {
@@ -66,10 +70,11 @@ fn read_each<'a>(
         values.push(value)?;
         rest = after;
     }
-    Ok(rest)
+    Ok((values, rest))
 }
 
 /// Reads the value at the front of the bytes, and gives the bytes after it.
+#[tactic(auto, unfolding(crate::specs::Values::value_at))]
 fn read_value(alloc: Global, bytes: &[u8], format: Format) -> Result<(Value, &[u8]), FileFault>
     ensures { Gives (λ read. (read.0, read.1.now)) result (value_at format bytes.now) }
 {
@@ -98,13 +103,11 @@ fn read_value(alloc: Global, bytes: &[u8], format: Format) -> Result<(Value, &[u
 }
 
 /// The text up to a unit terminator, and the bytes after that.
+#[tactic(auto, unfolding(crate::specs::Values::open_text_at))]
 fn open_text(bytes: &[u8]) -> Result<(&[u8], &[u8]), FileFault>
     ensures { Gives (λ read. (read.0.now, read.1.now)) result (open_text_at bytes.now) }
 {
-    let found = bytes
-        .iter()
-        .position(|byte| *byte == FIELD_TERMINATOR || *byte == UNIT_TERMINATOR);
-    let Some(end) = found else {
+    let Some(end) = terminator_of(bytes) else {
         return Err(FileFault::Unsupported);
     };
     if bytes[end] != UNIT_TERMINATOR {
@@ -115,7 +118,18 @@ fn open_text(bytes: &[u8]) -> Result<(&[u8], &[u8]), FileFault>
     Ok((text, rest))
 }
 
+/// The place of the first byte that can't stand in a text without a width.
+fn terminator_of(bytes: &[u8]) -> Option<usize>
+    ensures place { result ≡ position is_terminator bytes.now }
+    ensures inside { IfSome result (λ end. end < length bytes.now) }
+{
+    bytes
+        .iter()
+        .position(|byte| *byte == FIELD_TERMINATOR || *byte == UNIT_TERMINATOR)
+}
+
 /// So many bytes from the front, at least one, and the bytes after them.
+#[tactic(auto, unfolding(crate::specs::Values::front_at))]
 fn front(bytes: &[u8], size: usize) -> Result<(&[u8], &[u8]), FileFault>
     ensures read { Gives (λ read. (read.0.now, read.1.now)) result (front_at size bytes.now) }
     ensures size { IfOk result (λ read. length read.0.now ≡ size) }
@@ -127,6 +141,7 @@ fn front(bytes: &[u8], size: usize) -> Result<(&[u8], &[u8]), FileFault>
 }
 
 /// The bytes of a binary number, and the bytes after them.
+#[tactic(auto, unfolding(crate::specs::Values::front_at))]
 fn number_front(bytes: &[u8], size: u8) -> Result<(&[u8], &[u8]), FileFault>
     ensures read { Gives (λ read. (read.0.now, read.1.now)) result (front_at (number_size size) bytes.now) }
     ensures size { IfOk result (λ read. IsNumberSize (length read.0.now)) }
@@ -138,6 +153,7 @@ fn number_front(bytes: &[u8], size: u8) -> Result<(&[u8], &[u8]), FileFault>
 }
 
 /// The number that bytes are, the least significant first.
+#[tactic(auto, unfolding(crate::specs::Spelling::unsigned))]
 fn unsigned_of(bytes: &[u8]) -> u32
     requires { IsNumberSize (length bytes.now) }
     ensures { result ≡ unsigned bytes.now }
@@ -151,6 +167,7 @@ fn unsigned_of(bytes: &[u8]) -> u32
 }
 
 /// The number that bytes are in two's complement, the least significant first.
+#[tactic(auto, unfolding(crate::specs::Spelling::signed))]
 fn signed_of(bytes: &[u8]) -> i64
     requires { IsNumberSize (length bytes.now) }
     ensures { result ≡ signed bytes.now }
