@@ -91,11 +91,11 @@ pub entries-none : (front : List Entry) (bytes : List ℕ) (frame : Frame) (plac
 entries-none front bytes frame place total left whole none so_far =
     let some : 0 < length (text_from bytes frame place) = let len = text_from-length bytes frame place whole in omega arith in
     let stop : directory_entries frame (text_from bytes frame place) ≡ None =
-        elim (is_entry frame (take (entry_size frame) (text_from bytes frame place)))
-        as (λ b. is_entry frame (take (entry_size frame) (text_from bytes frame place)) ≡ b → directory_entries frame (text_from bytes frame place) ≡ None) [
-          | true ↦ λ e. absurd (none (entry-there bytes frame place whole (is_entry-is frame (take (entry_size frame) (text_from bytes frame place)) e)))
-          | false ↦ λ e. entries-stop frame (text_from bytes frame place) some e
-        ] refl in
+    elim (is_entry frame (take (entry_size frame) (text_from bytes frame place)))
+    as (λ b. is_entry frame (take (entry_size frame) (text_from bytes frame place)) ≡ b → directory_entries frame (text_from bytes frame place) ≡ None) [
+      | true ↦ λ e. absurd (none (entry-there bytes frame place whole (is_entry-is frame (take (entry_size frame) (text_from bytes frame place)) e)))
+      | false ↦ λ e. entries-stop frame (text_from bytes frame place) some e
+    ] refl in
     sym so_far ∙ ap (before_all front) stop
   where
     entry-there : (bytes : List ℕ) (frame : Frame) (place : ℕ) → frame.base ≤ length bytes → IsEntry frame (take (entry_size frame) (text_from bytes frame place)) → HasEntry frame bytes 0 place
@@ -105,7 +105,7 @@ entries-none front bytes frame place total left whole none so_far =
         let inside : place + entry_size frame ≤ frame.base - 1 = omega arith in
         record {
           before_closing = omega arith;
-          entry = rw (front-of-text bytes place (frame.base - 1) (entry_size frame) inside) at h
+          entry = rw (front-of-text bytes place (frame.base - 1) (entry_size frame) inside) at h;
         }
 
 -- and all of them

@@ -21,10 +21,11 @@ values_at-sound (format ∷ formats) bytes values rest h =
     let is : p.0.0 ∷ q.0.0 ≡ values = grind arith in
     let left : q.0.1 ≡ rest = grind arith in
     let first = value_at-sound format bytes p.0.0 p.0.1 p.1 in
-    let others = values_at-sound formats p.0.1 q.0.0 q.0.1 q.1 in
-    (first.0 ++ others.0,
+    let others = values_at-sound formats p.0.1 q.0.0 q.0.1 q.1 in (
+      first.0 ++ others.0,
       first.1 ∙ ap (λ (l : List ℕ). first.0 ++ l) (others.1 ∙ ap (λ (l : List ℕ). others.0 ++ l) left) ∙ sym (append_assoc first.0 others.0 rest),
-      subst (λ (vs : List Value). AreSpelled (format ∷ formats) vs (first.0 ++ others.0)) is (first.0, others.0, refl, first.2, others.2))
+      subst (λ (vs : List Value). AreSpelled (format ∷ formats) vs (first.0 ++ others.0)) is (first.0, others.0, refl, first.2, others.2),
+    )
 
 pub values_at-again : (formats : List Format) (values : List Value) (front rest : List ℕ) → AreSpelled formats values front → values_at formats (front ++ rest) ≡ Some (values, rest)
 unfolding values_at
@@ -60,11 +61,14 @@ AreSpelled-split (f ∷ fs) gs [] text h = absurd h
 AreSpelled-split (f ∷ fs) gs (v ∷ vs) text h =
     let p = AreSpelled-split fs gs vs h.1 h.4 in
     record {
-      us = v ∷ p.us; ws = p.ws; a = h.0 ++ p.a; b = p.b;
+      us = v ∷ p.us;
+      ws = p.ws;
+      a = h.0 ++ p.a;
+      b = p.b;
       values_are = ap (λ (l : List Value). v ∷ l) p.values_are;
       text_is = h.2 ∙ ap (λ (l : List ℕ). h.0 ++ l) p.text_is ∙ sym (append_assoc h.0 p.a p.b);
       front = (h.0, p.a, refl, h.3, p.front);
-      back = p.back
+      back = p.back;
     }
 
 pub AreSpelled-shorter : (fs : List Format) (vs : List Value) (text : List ℕ) → AreSpelled fs vs text → length fs ≤ length text
@@ -101,11 +105,12 @@ groups_at-sound (suc bound) group (byte ∷ bytes) values h =
     let q = bind_some (groups_at bound group p.0.1) (λ more. Some (p.0.0 ++ more)) values p.2 in
     let is : p.0.0 ++ q.0 ≡ values = grind arith in
     let first = values_at-sound group (byte ∷ bytes) p.0.0 p.0.1 p.1 in
-    let others = groups_at-sound bound group p.0.1 q.0 q.1 in
-    (suc others.0,
+    let others = groups_at-sound bound group p.0.1 q.0 q.1 in (
+      suc others.0,
       subst (λ (vs : List Value). AreSpelled (groups (suc others.0) group) vs (byte ∷ bytes)) is
-      (subst (λ (l : List ℕ). AreSpelled (groups (suc others.0) group) (p.0.0 ++ q.0) l) (sym first.1)
-      (AreSpelled-append group (groups others.0 group) p.0.0 q.0 first.0 p.0.1 first.2 others.1)))
+          (subst (λ (l : List ℕ). AreSpelled (groups (suc others.0) group) (p.0.0 ++ q.0) l) (sym first.1)
+          (AreSpelled-append group (groups others.0 group) p.0.0 q.0 first.0 p.0.1 first.2 others.1)),
+    )
 
 pub groups_at-nil : (bound : ℕ) (group : List Format) → groups_at bound group [] ≡ Some []
 unfolding groups_at
@@ -135,11 +140,12 @@ values_of-sound layout text values h =
     let q = bind_some (groups_at (length p.0.1) layout.group p.0.1) (λ more. Some (p.0.0 ++ more)) values p.2 in
     let is : p.0.0 ++ q.0 ≡ values = grind arith in
     let first = values_at-sound layout.once text p.0.0 p.0.1 p.1 in
-    let others = groups_at-sound (length p.0.1) layout.group p.0.1 q.0 q.1 in
-    (others.0,
+    let others = groups_at-sound (length p.0.1) layout.group p.0.1 q.0 q.1 in (
+      others.0,
       subst (λ (vs : List Value). AreSpelled (layout.once ++ groups others.0 layout.group) vs text) is
-      (subst (λ (l : List ℕ). AreSpelled (layout.once ++ groups others.0 layout.group) (p.0.0 ++ q.0) l) (sym first.1)
-      (AreSpelled-append layout.once (groups others.0 layout.group) p.0.0 q.0 first.0 p.0.1 first.2 others.1)))
+          (subst (λ (l : List ℕ). AreSpelled (layout.once ++ groups others.0 layout.group) (p.0.0 ++ q.0) l) (sym first.1)
+          (AreSpelled-append layout.once (groups others.0 layout.group) p.0.0 q.0 first.0 p.0.1 first.2 others.1)),
+    )
 
 pub values_of-again : (layout : Layout) (values : List Value) (text : List ℕ) → IsFieldText layout values text → values_of layout text ≡ Some values
 unfolding values_of

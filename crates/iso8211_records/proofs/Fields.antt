@@ -39,10 +39,10 @@ pub record-refused : (layout_of : List ℕ → Option Layout) (bytes : List ℕ)
 unfolding data_record_at
 record-refused layout_of bytes none =
     let test : is_leader false (take 24 bytes) ≡ false =
-        elim (is_leader false (take 24 bytes)) as (λ b. is_leader false (take 24 bytes) ≡ b → b ≡ false) [
-          | true ↦ λ e. absurd (none (is_leader-is false (take 24 bytes) e))
-          | false ↦ λ e. refl
-        ] refl in
+    elim (is_leader false (take 24 bytes)) as (λ b. is_leader false (take 24 bytes) ≡ b → b ≡ false) [
+      | true ↦ λ e. absurd (none (is_leader-is false (take 24 bytes) e))
+      | false ↦ λ e. refl
+    ] refl in
     rw test refl
 
 pub record-read : (layout_of : List ℕ → Option Layout) (bytes : List ℕ) (frame : Frame) (entries : List Entry) (fields : List RawField)

@@ -93,10 +93,10 @@ pub is_leader-is : (first : Bool) (text : List ℕ) → is_leader first text ≡
 unfolding is_leader AreDigits
 is_leader-is first text h =
     let p = ten_parts
-      (eqb (length text) 24) (list_all is_ascii_digit (length_digits text)) (eqb (slice_index text 6) (identifier first))
-      (not first || (eqb (slice_index text 10) 48 && eqb (slice_index text 11) 57)) (list_all is_ascii_digit (base_digits text))
-      (leb 25 (number_of (base_digits text))) (leb (number_of (base_digits text)) (number_of (length_digits text)))
-      (is_in_range 49 57 (slice_index text 20)) (is_in_range 49 57 (slice_index text 21)) (eqb (slice_index text 23) 52) h in
+    (eqb (length text) 24) (list_all is_ascii_digit (length_digits text)) (eqb (slice_index text 6) (identifier first))
+    (not first || (eqb (slice_index text 10) 48 && eqb (slice_index text 11) 57)) (list_all is_ascii_digit (base_digits text))
+    (leb 25 (number_of (base_digits text))) (leb (number_of (base_digits text)) (number_of (length_digits text)))
+    (is_in_range 49 57 (slice_index text 20)) (is_in_range 49 57 (slice_index text 21)) (eqb (slice_index text 23) 52) h in
     record {
       whole = eq-test _ _ p.first;
       length_in_digits = p.second;
@@ -107,20 +107,20 @@ is_leader-is first text h =
       field_area = at_most-is _ _ p.seventh;
       size_of_length = in_range-is 49 57 _ p.eighth;
       size_of_position = in_range-is 49 57 _ p.ninth;
-      size_of_tag = eq-test _ _ p.tenth
+      size_of_tag = eq-test _ _ p.tenth;
     }
 
 pub is_leader-from : (first : Bool) (text : List ℕ) → HasLeader first text → is_leader first text ≡ true
 unfolding is_leader AreDigits
 is_leader-from first text h =
     both _ _ (both _ _ (both _ _ (both _ _ (both _ _ (both _ _ (both _ _ (both _ _ (both _ _
-      (test-eq _ _ h.whole)
-      h.length_in_digits)
-      (test-eq _ _ h.kind))
-      (control_test first text h.whole h.control_length))
-      h.base_in_digits)
-      (at_most-from _ _ h.directory))
-      (at_most-from _ _ h.field_area))
-      (in_range-from 49 57 _ h.size_of_length))
-      (in_range-from 49 57 _ h.size_of_position))
-      (test-eq _ _ h.size_of_tag)
+    (test-eq _ _ h.whole)
+    h.length_in_digits)
+    (test-eq _ _ h.kind))
+    (control_test first text h.whole h.control_length))
+    h.base_in_digits)
+    (at_most-from _ _ h.directory))
+    (at_most-from _ _ h.field_area))
+    (in_range-from 49 57 _ h.size_of_length))
+    (in_range-from 49 57 _ h.size_of_position))
+    (test-eq _ _ h.size_of_tag)

@@ -8,3 +8,4 @@ mod Records
 mod Fields
 mod RecordLaws
 mod FileLaws
+mod Counts

@@ -21,7 +21,7 @@ pub values-more : (front : List Value) (formats : List Format) (i : ℕ) (d : Fo
 unfolding values_at
 values-more front formats i d bytes value after total inside one so_far =
     let step : before front (values_at (drop i formats) bytes) ≡ before (front ++ value ∷ []) (values_at (drop (suc i) formats) after) =
-        rw (drop-cons formats i d inside, one) (regroup front value (values_at (drop (suc i) formats) after)) in
+    rw (drop-cons formats i d inside, one) (regroup front value (values_at (drop (suc i) formats) after)) in
     rw add-one (sym step ∙ so_far)
 
 -- or no value
@@ -40,7 +40,7 @@ pub values-all : (front : List Value) (formats : List Format) (i : ℕ) (bytes :
 unfolding values_at
 values-all front formats i bytes total all so_far =
     let step : before front (values_at (drop i formats) bytes) ≡ Some (front, bytes) =
-        rw (drop_of_length-le formats all) (ap (λ (values : List Value). Some (values, bytes)) (append-nil front)) in
+    rw (drop_of_length-le formats all) (ap (λ (values : List Value). Some (values, bytes)) (append-nil front)) in
     sym so_far ∙ step
 
 -- ---- groups
@@ -61,12 +61,12 @@ groups-bound zero other group (byte ∷ bytes) enough enough_too some = absurd (
 groups-bound (suc bound) zero group (byte ∷ bytes) enough enough_too some = absurd (omega arith)
 groups-bound (suc bound) (suc other) group (byte ∷ bytes) enough enough_too some =
     after-values bound other group (byte ∷ bytes) (values_at group (byte ∷ bytes)) (λ values rest h.
-      let less = values-shorter group (byte ∷ bytes) values rest h in
-      groups-bound bound other group rest (omega arith) (omega arith) some)
+    let less = values-shorter group (byte ∷ bytes) values rest h in
+    groups-bound bound other group rest (omega arith) (omega arith) some)
   where
     after-values : (bound other : ℕ) (group : List Format) (bytes : List ℕ) (read : Option (List Value × List ℕ))
-      → ((values : List Value) (rest : List ℕ) → read ≡ Some (values, rest) → groups_at bound group rest ≡ groups_at other group rest)
-      → (read >>= λ x. groups_at bound group x.1 >>= λ more. Some (x.0 ++ more)) ≡ (read >>= λ x. groups_at other group x.1 >>= λ more. Some (x.0 ++ more))
+        → ((values : List Value) (rest : List ℕ) → read ≡ Some (values, rest) → groups_at bound group rest ≡ groups_at other group rest)
+        → (read >>= λ x. groups_at bound group x.1 >>= λ more. Some (x.0 ++ more)) ≡ (read >>= λ x. groups_at other group x.1 >>= λ more. Some (x.0 ++ more))
     after-values bound other group bytes None same = refl
     after-values bound other group bytes (Some x) same = rw (same x.0 x.1 refl) refl
 
@@ -113,7 +113,7 @@ groups-fail Unsupported front group (byte ∷ bytes) total left none so_far =
     sym so_far ∙ no_group front (values_at group (byte ∷ bytes)) (length bytes) group none
   where
     no_group : (front : List Value) (read : Option (List Value × List ℕ)) (bound : ℕ) (group : List Format) → before front read ≡ None
-      → before_all front (read >>= λ x. groups_at bound group x.1 >>= λ more. Some (x.0 ++ more)) ≡ None
+        → before_all front (read >>= λ x. groups_at bound group x.1 >>= λ more. Some (x.0 ++ more)) ≡ None
     no_group front None bound group h = refl
     no_group front (Some x) bound group h = absurd cc
 

@@ -60,6 +60,7 @@ entries_of-again (suc bound) frame (entry ∷ entries) (byte ∷ text) enough h 
   where
     front-of-entry : (frame : Frame) (front rest text : List ℕ) → text ≡ front ++ rest → IsEntry frame front → take (entry_size frame) text ≡ front
     front-of-entry frame front rest text parts h = rw (parts, ← h.whole) (take-append_seam front rest)
+
     rest-of-entry : (frame : Frame) (front rest text : List ℕ) → text ≡ front ++ rest → IsEntry frame front → drop (entry_size frame) text ≡ rest
     rest-of-entry frame front rest text parts h = rw (parts, ← h.whole) (drop-append_seam front rest)
 
@@ -107,10 +108,14 @@ field_by-sound None tag bytes field h =
 field_by-sound (Some layout) tag bytes field h =
     let p = bind_some (text_of bytes) (λ text. values_of layout text >>= λ values. Some (record { tag = tag; values = values })) field h in
     let q = bind_some (values_of layout p.0) (λ values. Some (record { tag = tag; values = values })) field p.2 in
-    let is : field ≡ record { tag = tag; values = q.0 } = grind arith in
-    (ap (λ (f : RawField). f.tag) is,
-      (p.0, text_of-sound bytes p.0 p.1,
-        subst (λ (vs : List Value). IsFieldText layout vs p.0) (sym (ap (λ (f : RawField). f.values) is)) (values_of-sound layout p.0 q.0 q.1)))
+    let is : field ≡ record { tag = tag; values = q.0 } = grind arith in (
+      ap (λ (f : RawField). f.tag) is,
+      (
+        p.0,
+        text_of-sound bytes p.0 p.1,
+        subst (λ (vs : List Value). IsFieldText layout vs p.0) (sym (ap (λ (f : RawField). f.values) is)) (values_of-sound layout p.0 q.0 q.1),
+      ),
+    )
 
 pub field_by-again : (layout : Option Layout) (tag bytes : List ℕ) (field : RawField) → field.tag ≡ tag → MatchOption layout (field.values ≡ []) (λ l. IsField l field.values bytes)
     → field_by layout tag bytes ≡ Some field
@@ -210,8 +215,9 @@ data_record_at-sound layout_of bytes fields after h =
     let parts : bytes ≡ piece ++ after = sym (take-append-drop frame.length bytes) ∙ ap (λ (l : List ℕ). piece ++ l) (sym r.rest) in
     let same : take 24 piece ≡ take 24 bytes = take-take 24 frame.length bytes (omega arith) in
     let directory = directory_of-sound piece after frame r.entries facts.0 (omega arith) (ap (directory_of frame) (sym parts) ∙ r.directory) in
-    let all_fields = fields_of-sound layout_of piece after frame r.entries fields len (ap (λ (l : List ℕ). fields_of layout_of l frame r.entries) (sym parts) ∙ r.all_fields) in
-    (piece, parts,
+    let all_fields = fields_of-sound layout_of piece after frame r.entries fields len (ap (λ (l : List ℕ). fields_of layout_of l frame r.entries) (sym parts) ∙ r.all_fields) in (
+      piece,
+      parts,
       record {
         frame = frame;
         entries = r.entries;
@@ -220,11 +226,12 @@ data_record_at-sound layout_of bytes fields after h =
           says = ap frame_of (sym same);
           whole = len;
           directory = directory.0;
-          closing = directory.1
+          closing = directory.1;
         };
-        has_fields = all_fields
+        has_fields = all_fields;
       },
-      omega arith)
+      omega arith,
+    )
 
 pub data_record_at-again : (layout_of : List ℕ → Option Layout) (piece rest : List ℕ) (fields : List RawField) → IsDataRecord layout_of piece fields → data_record_at layout_of (piece ++ rest) ≡ Some (fields, rest)
 data_record_at-again layout_of piece rest fields h =
@@ -237,11 +244,11 @@ data_record_at-again layout_of piece rest fields h =
     let len : length piece ≡ h.frame.length = is.whole in
     let same : take 24 (piece ++ rest) ≡ take 24 piece = take-append-le 24 piece rest (omega arith) in
     record-read layout_of (piece ++ rest) h.frame h.entries fields
-      (subst (λ (text : List ℕ). HasLeader false text) (sym same) is.leader)
-      (says ∙ ap frame_of (sym same))
-      (omega (arith, length-append piece rest))
-      (directory_of-again piece rest h.frame h.entries low (omega arith) is.directory is.closing)
-      (fields_of-again layout_of piece rest h.frame h.entries fields len h.has_fields)
+    (subst (λ (text : List ℕ). HasLeader false text) (sym same) is.leader)
+    (says ∙ ap frame_of (sym same))
+    (omega (arith, length-append piece rest))
+    (directory_of-again piece rest h.frame h.entries low (omega arith) is.directory is.closing)
+    (fields_of-again layout_of piece rest h.frame h.entries fields len h.has_fields)
     ∙ ap (λ (l : List ℕ). Some (fields, l)) (ap (λ n. drop n (piece ++ rest)) (sym len) ∙ drop-append_seam piece rest)
 
 -- ---- data records up to the end
@@ -260,7 +267,7 @@ data_records_of-sound layout_of (suc bound) (byte ∷ bytes) records h =
     subst (λ (rs : List (List RawField)). AreDataRecords layout_of (byte ∷ bytes) rs) is
     (first.0, p.0.1, first.1, first.2, others)
 
-data_record-some : (layout_of : List ℕ → Option Layout) (piece rest bytes : List ℕ) (fields : List RawField) → IsDataRecord layout_of piece fields → bytes ≡ piece ++ rest → 25 + length rest ≤ length bytes
+pub data_record-some : (layout_of : List ℕ → Option Layout) (piece rest bytes : List ℕ) (fields : List RawField) → IsDataRecord layout_of piece fields → bytes ≡ piece ++ rest → 25 + length rest ≤ length bytes
 data_record-some layout_of piece rest bytes fields h parts =
     let is : IsRecord false piece h.frame h.entries = h.is_record in
     let low = frame-length (take 24 piece) false is.leader in

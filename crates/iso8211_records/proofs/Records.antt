@@ -34,7 +34,7 @@ pub fields-more : (layout_of : List ℕ → Option Layout) (bytes : List ℕ) (f
 unfolding fields_of
 fields-more layout_of bytes frame front entries i d field total inside one so_far =
     let step : before_all front (fields_of layout_of bytes frame (drop i entries)) ≡ before_all (front ++ field ∷ []) (fields_of layout_of bytes frame (drop (suc i) entries)) =
-        rw (drop-cons entries i d inside, one) (join front field (fields_of layout_of bytes frame (drop (suc i) entries))) in
+    rw (drop-cons entries i d inside, one) (join front field (fields_of layout_of bytes frame (drop (suc i) entries))) in
     rw add-one (sym step ∙ so_far)
 
 pub fields-fail : (fault : FileFault) (layout_of : List ℕ → Option Layout) (bytes : List ℕ) (frame : Frame) (front : List RawField) (entries : List Entry) (i : ℕ) (d : Entry) (total : Option (List RawField))
@@ -51,7 +51,7 @@ pub fields-all : (layout_of : List ℕ → Option Layout) (bytes : List ℕ) (fr
 unfolding fields_of
 fields-all layout_of bytes frame front entries i total all so_far =
     let step : before_all front (fields_of layout_of bytes frame (drop i entries)) ≡ Some front =
-        rw (drop_of_length-le entries all) (ap (λ (fs : List RawField). Some fs) (append-nil front)) in
+    rw (drop_of_length-le entries all) (ap (λ (fs : List RawField). Some fs) (append-nil front)) in
     sym so_far ∙ step
 
 -- ---- data records
@@ -70,7 +70,7 @@ unfolding data_record_at
 data_record-read layout_of bytes fields after h =
     let frame : Frame = frame_of (take 24 bytes) in
     let t = cond_is (is_leader false (take 24 bytes) && leb frame.length (length bytes))
-      (directory_of frame bytes >>= λ entries. fields_of layout_of bytes frame entries >>= λ fields. Some (fields, drop frame.length bytes)) (fields, after) h in
+    (directory_of frame bytes >>= λ entries. fields_of layout_of bytes frame entries >>= λ fields. Some (fields, drop frame.length bytes)) (fields, after) h in
     let tests = both_parts (is_leader false (take 24 bytes)) (leb frame.length (length bytes)) t.0 in
     let p = bind_some (directory_of frame bytes) (λ entries. fields_of layout_of bytes frame entries >>= λ fields. Some (fields, drop frame.length bytes)) (fields, after) t.1 in
     let q = bind_some (fields_of layout_of bytes frame p.0) (λ fields. Some (fields, drop frame.length bytes)) (fields, after) p.2 in
@@ -82,7 +82,7 @@ data_record-read layout_of bytes fields after h =
       entries = p.0;
       directory = p.1;
       all_fields = q.1 ∙ ap (λ (fs : List RawField). Some fs) is;
-      rest = sym left
+      rest = sym left;
     }
   where
     at_most : (a b : ℕ) → leb a b ≡ true → a ≤ b
@@ -111,12 +111,12 @@ records-bound layout_of zero other (byte ∷ bytes) enough enough_too = absurd (
 records-bound layout_of (suc bound) zero (byte ∷ bytes) enough enough_too = absurd (omega arith)
 records-bound layout_of (suc bound) (suc other) (byte ∷ bytes) enough enough_too =
     after-record (data_record_at layout_of (byte ∷ bytes)) (λ fields rest h.
-      let less = record-shorter layout_of (byte ∷ bytes) fields rest h in
-      records-bound layout_of bound other rest (omega arith) (omega arith))
+    let less = record-shorter layout_of (byte ∷ bytes) fields rest h in
+    records-bound layout_of bound other rest (omega arith) (omega arith))
   where
     after-record : (read : Option (List RawField × List ℕ))
-      → ((fields : List RawField) (rest : List ℕ) → read ≡ Some (fields, rest) → data_records_of layout_of bound rest ≡ data_records_of layout_of other rest)
-      → (read >>= λ x. data_records_of layout_of bound x.1 >>= λ others. Some (x.0 ∷ others)) ≡ (read >>= λ x. data_records_of layout_of other x.1 >>= λ others. Some (x.0 ∷ others))
+        → ((fields : List RawField) (rest : List ℕ) → read ≡ Some (fields, rest) → data_records_of layout_of bound rest ≡ data_records_of layout_of other rest)
+        → (read >>= λ x. data_records_of layout_of bound x.1 >>= λ others. Some (x.0 ∷ others)) ≡ (read >>= λ x. data_records_of layout_of other x.1 >>= λ others. Some (x.0 ∷ others))
     after-record None same = refl
     after-record (Some x) same = rw (same x.0 x.1 refl) refl
 
@@ -130,12 +130,12 @@ come_to-bound layout_of zero other (byte ∷ bytes) enough enough_too = absurd (
 come_to-bound layout_of (suc bound) zero (byte ∷ bytes) enough enough_too = absurd (omega arith)
 come_to-bound layout_of (suc bound) (suc other) (byte ∷ bytes) enough enough_too =
     after-record (data_record_at layout_of (byte ∷ bytes)) (λ fields rest h.
-      let less = record-shorter layout_of (byte ∷ bytes) fields rest h in
-      come_to-bound layout_of bound other rest (omega arith) (omega arith))
+    let less = record-shorter layout_of (byte ∷ bytes) fields rest h in
+    come_to-bound layout_of bound other rest (omega arith) (omega arith))
   where
     after-record : (read : Option (List RawField × List ℕ))
-      → ((fields : List RawField) (rest : List ℕ) → read ≡ Some (fields, rest) → come_to layout_of bound rest ≡ come_to layout_of other rest)
-      → 1 + option_map_or (λ (x : List RawField × List ℕ). come_to layout_of bound x.1) read 0 ≡ 1 + option_map_or (λ (x : List RawField × List ℕ). come_to layout_of other x.1) read 0
+        → ((fields : List RawField) (rest : List ℕ) → read ≡ Some (fields, rest) → come_to layout_of bound rest ≡ come_to layout_of other rest)
+        → 1 + option_map_or (λ (x : List RawField × List ℕ). come_to layout_of bound x.1) read 0 ≡ 1 + option_map_or (λ (x : List RawField × List ℕ). come_to layout_of other x.1) read 0
     after-record None same = refl
     after-record (Some x) same = rw (same x.0 x.1 refl) refl
 
@@ -220,6 +220,6 @@ come_to-all layout_of (suc bound) (byte ∷ bytes) records h =
     let is : p.0.0 ∷ q.0 ≡ records = grind arith in
     let others = come_to-all layout_of bound p.0.1 q.0 q.1 in
     let count : option_map_or (λ (x : List RawField × List ℕ). come_to layout_of bound x.1) (data_record_at layout_of (byte ∷ bytes)) 0 ≡ length q.0 =
-        ap (λ (read : Option (List RawField × List ℕ)). option_map_or (λ (x : List RawField × List ℕ). come_to layout_of bound x.1) read 0) p.1 ∙ others in
+    ap (λ (read : Option (List RawField × List ℕ)). option_map_or (λ (x : List RawField × List ℕ). come_to layout_of bound x.1) read 0) p.1 ∙ others in
     let len : suc (length q.0) ≡ length records = ap length is in
     omega arith

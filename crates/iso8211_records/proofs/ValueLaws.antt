@@ -35,7 +35,7 @@ front_at-sound size bytes front rest h =
     record {
       some = some;
       len = ap length (sym cut) ∙ omega (arith, length-take size bytes);
-      parts = sym (take-append-drop size bytes) ∙ ap (λ (l : List ℕ). l ++ drop size bytes) cut ∙ ap (λ (l : List ℕ). front ++ l) left
+      parts = sym (take-append-drop size bytes) ∙ ap (λ (l : List ℕ). l ++ drop size bytes) cut ∙ ap (λ (l : List ℕ). front ++ l) left;
     }
 
 pub front_at-again : (size : ℕ) (front rest : List ℕ) → 0 < size → length front ≡ size → front_at size (front ++ rest) ≡ Some (front, rest)
@@ -86,9 +86,10 @@ open_text_at-sound bytes text rest h =
     let left : drop (end + 1) bytes ≡ rest = grind arith in
     let test : eqb (get_or bytes end 0) 31 ≡ true = grind arith in
     let ends : get_or bytes end 0 ≡ 31 = eqb-true (get_or bytes end 0) 31 test in
-    let at = position-Some is_terminator bytes end 0 p.1 in
-    (subst (λ (l : List ℕ). AllByRecursion IsTextByte l) cut (all_plain (take end bytes) (λ k lt. let inside : k < end = omega (arith, length-take end bytes) in rw (get_or-take end bytes k 0 inside) (at.2 k inside))),
-      rejoined bytes text rest end at.0 cut left ends)
+    let at = position-Some is_terminator bytes end 0 p.1 in (
+      subst (λ (l : List ℕ). AllByRecursion IsTextByte l) cut (all_plain (take end bytes) (λ k lt. let inside : k < end = omega (arith, length-take end bytes) in rw (get_or-take end bytes k 0 inside) (at.2 k inside))),
+      rejoined bytes text rest end at.0 cut left ends,
+    )
 
 get_or-append_seam : (text rest : List ℕ) → get_or (text ++ 31 ∷ rest) (length text) 0 ≡ 31
 get_or-append_seam [] rest = refl

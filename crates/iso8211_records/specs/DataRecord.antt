@@ -1,5 +1,5 @@
 -- Data records and what they hold (ISO/IEC 8211, records): a leader, a directory and a field area.
-use Rattle.std.specs.Prelude.{◌≡◌, ℕ, ◌+◌, ◌-◌, ◌≤◌, Bool, false, List, [], ◌∷◌, ◌++◌, length, take, slice_index, Option, Some, None, MatchOption}
+use Rattle.std.specs.Prelude.{◌≡◌, ◌≢◌, ◌⊎◌, ℕ, ◌+◌, ◌-◌, ◌≤◌, Bool, false, List, [], ◌∷◌, ◌++◌, length, take, slice_index, Option, Some, None, MatchOption}
 use Rattle.std.specs.List.{slice_range}
 use Rattle.iso8211_leader.specs.Leader.{HasLeader, Frame, frame_of}
 use Rattle.iso8211_leader.specs.Entry.{IsEntry, entry_of}
@@ -51,8 +51,22 @@ pub record IsDataRecord (layout_of : List ℕ → Option Layout) (bytes : List �
   pub is_record : IsRecord false bytes frame entries
   pub has_fields : AreFieldsOf layout_of bytes frame entries fields
 
+-- no data record begins the bytes
+abbrev pub HasNoRecord : (List ℕ → Option Layout) → List ℕ → Type 0
+HasNoRecord layout_of bytes = (piece rest : List ℕ) (fields : List RawField) → bytes ≡ piece ++ rest → IsDataRecord layout_of piece fields → ⊥
+
 -- the bytes are data records with these fields, one after the other
 abbrev pub AreDataRecords : (List ℕ → Option Layout) → List ℕ → List (List RawField) → Type 0
 AreDataRecords layout_of bytes [] = bytes ≡ []
 AreDataRecords layout_of bytes (fields ∷ records) =
     (piece rest : List ℕ) × (bytes ≡ piece ++ rest) × IsDataRecord layout_of piece fields × AreDataRecords layout_of rest records
+
+-- Reading the bytes comes to so many data records: to the sound ones from the front on, and to one more
+-- where bytes are left after them that no sound one begins.
+pub record ComesTo (layout_of : List ℕ → Option Layout) (bytes : List ℕ) (count : ℕ) : Type 0 where
+  pub sound : List ℕ
+  pub rest : List ℕ
+  pub records : List (List RawField)
+  pub pieces : bytes ≡ sound ++ rest
+  pub are_records : AreDataRecords layout_of sound records
+  pub last : ((rest ≡ []) × (count ≡ length records)) ⊎ ((rest ≢ []) × HasNoRecord layout_of rest × (count ≡ length records + 1))

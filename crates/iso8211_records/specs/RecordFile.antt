@@ -1,11 +1,11 @@
 -- Files of records (ISO/IEC 8211): a data descriptive record, and data records.
-use Rattle.std.specs.Prelude.{◌≡◌, ℕ, List, [], ◌∷◌, ◌++◌, length, take, drop, Option, Some, None, if◌then◌else◌}
+use Rattle.std.specs.Prelude.{◌≡◌, ◌≢◌, ◌⊎◌, ℕ, List, [], ◌∷◌, ◌++◌, length, take, drop, Option, Some, None, if◌then◌else◌}
 use Rattle.std.specs.Str.{bytes_eq}
 use Rattle.iso8211_records.specs.declared.record.RecordFile.{RecordFile}
 use Rattle.iso8211_records.specs.declared.known.TheConstants.{DATA_DESCRIPTIVE_RECORD, DSID_FORMATS}
 use Rattle.iso8211_records.specs.Tags.{DSID}
 use Rattle.iso8211_records.specs.Spelling.{Layout}
-use Rattle.iso8211_records.specs.DataRecord.{AreDataRecords}
+use Rattle.iso8211_records.specs.DataRecord.{AreDataRecords, ComesTo}
 use Rattle.iso8211_records.specs.Values.{◌>>=◌}
 use Rattle.iso8211_records.specs.Reading.{data_records_of, come_to}
 
@@ -18,6 +18,13 @@ pub record IsRecordFile (bytes : List ℕ) (file : RecordFile) : Type 0 where
   pub rest : List ℕ
   pub pieces : bytes ≡ DATA_DESCRIPTIVE_RECORD ++ rest
   pub data_records : AreDataRecords known_layouts rest file.records
+
+-- so many data records are come to in reading the bytes: none where they don't begin with the known data
+-- descriptive record
+abbrev pub IsCount : List ℕ → ℕ → Type 0
+IsCount bytes count =
+    ((rest : List ℕ) × (bytes ≡ DATA_DESCRIPTIVE_RECORD ++ rest) × ComesTo known_layouts rest count)
+    ⊎ (((rest : List ℕ) → bytes ≢ DATA_DESCRIPTIVE_RECORD ++ rest) × (count ≡ 0))
 
 -- the bytes after the data descriptive record
 abbrev pub after_first : List ℕ → List ℕ

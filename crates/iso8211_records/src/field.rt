@@ -49,11 +49,7 @@ pub(crate) fn read_data_record<'a>(
 }
 
 /// Reads the directory of the record that begins the bytes.
-fn read_directory(
-    alloc: Global,
-    bytes: &[u8],
-    leader: &Leader,
-) -> Result<Vec<Entry>, FileFault>
+fn read_directory(alloc: Global, bytes: &[u8], leader: &Leader) -> Result<Vec<Entry>, FileFault>
     requires { leader.now.length ≤ length bytes.now }
     ensures { Gives (λ entries. entries.items) result (directory_of (frame leader.now) bytes.now) }
 {

@@ -23,7 +23,6 @@ use std::sync::ledger::Ledger;
 /// # Errors
 ///
 /// `Unsupported` exactly where the bytes are no such file; `NoMemory`.
-#[tactic(auto, unfolding(crate::specs::RecordFile::record_file_of, crate::specs::RecordFile::data_records_in))]
 pub fn read_file<C: Ledger>(
     alloc: Global,
     bytes: &[u8],
@@ -39,6 +38,22 @@ pub fn read_file<C: Ledger>(
     ensures read { (file : FileOfRecords) → IsRecordFile bytes.now file → (result ≡ Ok file) ⊎ (result ≡ Err FileFault.NoMemory) }
     ensures counted { IfOk result (λ file. steps.new ≡ steps.old + length file.records) }
     ensures come_to { result ≡ Err FileFault.Unsupported → steps.new ≡ steps.old + data_records_in bytes.now }
+    ensures at_most { steps.new ≤ steps.old + data_records_in bytes.now }
+{
+    read_known(alloc, bytes, tags, steps)
+}
+
+/// Reads a file that begins with the known data descriptive record.
+#[tactic(auto, unfolding(crate::specs::RecordFile::record_file_of, crate::specs::RecordFile::data_records_in))]
+fn read_known<C: Ledger>(
+    alloc: Global,
+    bytes: &[u8],
+    tags: &[[u8; 4]],
+    steps: &mut Steps<C>,
+) -> Result<RecordFile, FileFault>
+    requires { tags.now ≡ DSID ∷ [] }
+    ensures read { Gives (λ file. file) result (record_file_of bytes.now) }
+    ensures come_to { result ≢ Err FileFault.NoMemory → steps.new ≡ steps.old + data_records_in bytes.now }
     ensures at_most { steps.new ≤ steps.old + data_records_in bytes.now }
 {
     let Some(rest) = bytes.strip_prefix(&DATA_DESCRIPTIVE_RECORD) else {

@@ -15,6 +15,6 @@ mod values;
 pub use fault::FileFault;
 pub use file::read_file;
 pub use known::{DATA_DESCRIPTIVE_RECORD, DSID_FORMATS};
-pub use laws::{one_reading, reads_each};
+pub use laws::{counts_each, one_reading, reads_each};
 pub use record::{RawField, RawList, RawRecord, RecordFile};
 pub use value::{Value, ValueList};

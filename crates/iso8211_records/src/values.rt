@@ -123,9 +123,7 @@ fn terminator_of(bytes: &[u8]) -> Option<usize>
     ensures place { result ≡ position is_terminator bytes.now }
     ensures inside { IfSome result (λ end. end < length bytes.now) }
 {
-    bytes
-        .iter()
-        .position(|byte| *byte == FIELD_TERMINATOR || *byte == UNIT_TERMINATOR)
+    bytes.iter().position(|byte| *byte == FIELD_TERMINATOR || *byte == UNIT_TERMINATOR)
 }
 
 /// So many bytes from the front, at least one, and the bytes after them.

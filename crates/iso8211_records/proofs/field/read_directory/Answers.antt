@@ -9,7 +9,7 @@ returns-then-bytes-closing-ne-FIELD_TERMINATOR c = directory-open _ _ c.if-bytes
 pub loop-place-init : goal.loop-place-init
 loop-place-init c = record {
   within = let low = c.args.leader.now.after_directory in omega arith;
-  read = let empty = c.new-entries.ensures.items in rw empty (entries-first (frame c.args.leader.now) c.args.bytes.now)
+  read = let empty = c.new-entries.ensures.items in rw empty (entries-first (frame c.args.leader.now) c.args.bytes.now);
 }
 
 pub returns-in-Err : goal.returns-in-Err
@@ -19,7 +19,7 @@ returns-in-Err c =
 pub loop-place-preserved : goal.loop-place-preserved
 loop-place-preserved c = record {
   within = let inside = c.in-Ok.ensures.entry.before_closing in omega arith;
-  read = rw c.in_ok-push-in-Ok.ensures.items (entries-more _ _ _ _ _ _ c.loop-place-test.true (let low = c.args.leader.now.within in omega arith) c.in-Ok.ensures.entry c.in-Ok.ensures.numbers c.loop-place.invariant.read)
+  read = rw c.in_ok-push-in-Ok.ensures.items (entries-more _ _ _ _ _ _ c.loop-place-test.true (let low = c.args.leader.now.within in omega arith) c.in-Ok.ensures.entry c.in-Ok.ensures.numbers c.loop-place.invariant.read);
 }
 
 pub returns : goal.returns

@@ -8,7 +8,7 @@ use Rattle.iso8211_records.proofs.field.read_directory.Given as goal
 abbrev pub invariant-loop-place : goal.invariant-loop-place
 invariant-loop-place l = record {
   within : l.place ≤ l.closing;
-  read : before_all l.entries.items (directory_entries (frame l.leader) (text_from l.bytes (frame l.leader) l.place)) ≡ directory_entries (frame l.leader) (text_from l.bytes (frame l.leader) 24)
+  read : before_all l.entries.items (directory_entries (frame l.leader) (text_from l.bytes (frame l.leader) l.place)) ≡ directory_entries (frame l.leader) (text_from l.bytes (frame l.leader) 24);
 }
 
 abbrev pub decreases-loop-place : goal.decreases-loop-place

@@ -14,7 +14,7 @@ pub returns-in_err-record-clause-come_to : goal.returns-in_err-record-clause-com
 returns-in_err-record-clause-come_to g c =
     let p = err_from_is_err_and c.from_residual.result c.from_residual.ensures.1 in
     λ other. counted-last _ _ _ _ _ _ (empty-false _ c.loop-rest-test.ensures) c.in_err-record.ensures c.tick.ensures c.loop-rest.invariant.steps
-      (λ out_of_memory. other (p.1 ∙ ap (λ (fault : FileFault). Err fault) (p.2 ∙ out_of_memory)))
+    (λ out_of_memory. other (p.1 ∙ ap (λ (fault : FileFault). Err fault) (p.2 ∙ out_of_memory)))
 
 pub returns-in_err-record-clause-at_most : goal.returns-in_err-record-clause-at_most
 returns-in_err-record-clause-at_most g c = counted-most _ _ _ _ _ (empty-false _ c.loop-rest-test.ensures) c.tick.ensures c.loop-rest.invariant.steps
@@ -28,7 +28,7 @@ loop-rest-smaller g c = record-shorter _ _ _ _ c.in_ok-record.ensures
 pub loop-rest-preserved : goal.loop-rest-preserved
 loop-rest-preserved g c = record {
   read = rw c.in_ok-push.ensures.ok (records-more _ _ _ _ _ _ (empty-false _ c.loop-rest-test.ensures) c.in_ok-record.ensures c.loop-rest.invariant.read);
-  steps = counted-more _ _ _ _ _ _ _ (empty-false _ c.loop-rest-test.ensures) c.in_ok-record.ensures c.tick.ensures c.loop-rest.invariant.steps
+  steps = counted-more _ _ _ _ _ _ _ (empty-false _ c.loop-rest-test.ensures) c.in_ok-record.ensures c.tick.ensures c.loop-rest.invariant.steps;
 }
 
 pub returns-clause-read : goal.returns-clause-read

@@ -7,7 +7,7 @@ use Rattle.iso8211_records.proofs.file.read_data_records.Given as goal
 abbrev pub invariant-loop-rest : goal.invariant-loop-rest
 invariant-loop-rest g l = record {
   read : before_all l.records (data_records_of known_layouts (length l.rest) l.rest) ≡ data_records_of known_layouts (length l.bytes) l.bytes;
-  steps : l.steps + come_to known_layouts (length l.rest) l.rest ≡ l.initial.steps + come_to known_layouts (length l.bytes) l.bytes
+  steps : l.steps + come_to known_layouts (length l.rest) l.rest ≡ l.initial.steps + come_to known_layouts (length l.bytes) l.bytes;
 }
 
 abbrev pub decreases-loop-rest : goal.decreases-loop-rest
