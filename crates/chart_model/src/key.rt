@@ -34,10 +34,11 @@ impl Model for Key {
     ghost inverse_ok = { λ key h i. record { cells = stored-taken key.cells key.len h i; len = length-taken key.cells key.len h i } };
 }
 
+/// Whether each byte is a visible ASCII character.
 fn is_visible(bytes: &[u8]) -> bool
     ensures { IsTrue result ↔ All IsVisible bytes.now }
 {
-    bytes.iter().all(|byte| *byte >= 0x21 && *byte <= 0x7E)
+    bytes.iter().all(|byte| matches!(byte, 0x21..=0x7E))
 }
 
 /// Whether the bytes are a key.

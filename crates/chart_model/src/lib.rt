@@ -3,6 +3,10 @@
 
 mod key;
 mod octets;
+mod sequence;
+#[cfg(test)]
+mod tests;
 
 pub use key::Key;
 pub use octets::Octets;
+pub use sequence::Sequence;

@@ -1,8 +1,6 @@
 //! How a subfield is spelled.
 
-ghost use Rattle.std.specs.Prelude.{◌≡◌};
-
-use std::marker::Model;
+use chart_model::Sequence;
 
 /// How a subfield is spelled (ISO/IEC 8211, format controls).
 #[derive(Clone, Copy, Debug, PartialEq, Eq)]
@@ -20,32 +18,4 @@ pub enum Format {
 }
 
 /// Formats in the order of their subfields.
-#[derive(Debug, Drop)]
-pub struct FormatList {
-    formats: Vec<Format>,
-}
-
-impl Model for FormatList {
-    ghost use Rattle.std.specs.Prelude.{List};
-    ghost use Rattle.iso8211_formats.specs.declared.format.Format.{Format};
-
-    ghost Value = { List Format };
-
-    ghost view = { λ list. list.formats.items };
-}
-
-impl FormatList {
-    /// Takes over the formats of a vector. It takes no memory.
-    pub fn from_vec(formats: Vec<Format>) -> FormatList
-        ensures { result ≡ formats.items }
-    {
-        FormatList { formats }
-    }
-
-    /// The formats. It takes no memory.
-    pub fn as_slice(&self) -> &[Format]
-        ensures { result.now ≡ self.now }
-    {
-        self.formats.as_slice()
-    }
-}
+pub type FormatList = Sequence<Format>;
