@@ -1,19 +1,16 @@
 -- The general information of a data set: what the first DSID field of its first data record says.
 use Rattle.std.specs.Prelude.{ℕ, Bool, ◌==◌, ◌&&◌, List, [], ◌∷◌, length, nat_le, Option, Some, None, slice_get, if◌then◌else◌}
-use Rattle.std.specs.List.{list_any, before_last, find}
+use Rattle.std.specs.List.{list_all, list_any, before_last, find}
 use Rattle.std.specs.Option.{option_map, option_and_then}
-use Rattle.std.specs.Str.{bytes_eq, all_ascii_digits}
+use Rattle.std.specs.Str.{bytes_eq}
 use Rattle.std.specs.Str.Parse.{digits_value}
-use Rattle.chart_model.specs.declared.key.Key.{Key}
 use Rattle.iso8211_records.specs.Tags.{DSID}
 use Rattle.iso8211_records.specs.declared.record.RawField.{RawField}
-use Rattle.iso8211_records.specs.declared.record.RawRecord.{RawRecord}
 use Rattle.iso8211_records.specs.declared.record.RecordFile.{RecordFile}
 use Rattle.iso8211_records.specs.declared.value.Value.{Value}
 use Rattle.iso8211_records.specs.declared.value.Value.TheVariants.{Number, Text, Bits}
 use Rattle.ecdis_cli.specs.declared.general.General.{General}
 use Rattle.ecdis_cli.specs.Line.{is_visible}
-use Rattle.std.specs.List.{list_all}
 
 -- the values of the first DSID field of a record
 abbrev pub dsid_of : List RawField → Option (List Value)
@@ -34,9 +31,13 @@ text_of (Bits bytes) = None
 abbrev pub text_at : List Value → ℕ → Option (List ℕ)
 text_at values place = option_and_then text_of (slice_get values place)
 
+-- a decimal digit
+abbrev pub is_digit : ℕ → Bool
+is_digit byte = nat_le 48 byte && nat_le byte 57
+
 -- the number that 1 to 9 digits and nothing else write
 abbrev pub number_of : List ℕ → Option ℕ
-number_of text = if nat_le 1 (length text) && nat_le (length text) 9 && all_ascii_digits text then Some (digits_value 10 text) else None
+number_of text = if nat_le 1 (length text) && nat_le (length text) 9 && list_all is_digit text then Some (digits_value 10 text) else None
 
 -- a file's name up to its last dot, or all of it where it has none
 abbrev pub stem_of : List ℕ → List ℕ

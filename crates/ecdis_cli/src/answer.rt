@@ -15,6 +15,7 @@ use std::alloc::{AllocError, Global};
 use std::sync::ledger::Ledger;
 
 /// The reply to a line that has one.
+#[tactic(auto, unfolding(crate::specs::Reply::answer_to))]
 fn reply_to<L: Shelf, C: Ledger>(
     alloc: Global,
     number: u64,
@@ -45,6 +46,7 @@ fn say<D: Desk>(alloc: Global, reply: &Reply, desk: &mut D) -> Result<(), Stop>
 }
 
 /// Answers the line of this number, unless nothing is replied to it.
+#[tactic(auto, unfolding(crate::specs::Reply::reply_to))]
 pub fn answer<L: Shelf, D: Desk, C: Ledger>(
     alloc: Global,
     number: u64,

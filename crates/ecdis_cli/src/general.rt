@@ -36,12 +36,8 @@ pub struct General {
 fn dsid_of(fields: &[RawField]) -> Option<&[Value]>
     ensures { option_copied result ≡ dsid_of fields.now }
 {
-    for field in fields {
-        if field.tag == DSID {
-            return Some(field.values.as_slice());
-        }
-    }
-    None
+    let field = fields.iter().find(|field| field.tag == DSID)?;
+    Some(field.values.as_slice())
 }
 
 /// The values of the first DSID field of the first data record.
@@ -126,6 +122,7 @@ fn key_at(values: &[Value], place: usize) -> Option<Key>
 }
 
 /// What the file says of itself. It takes no memory.
+#[tactic(auto, unfolding(crate::specs::General::general_of))]
 pub fn general_of(file: &RecordFile) -> Option<General>
     ensures { result ≡ general_of file.now }
 {

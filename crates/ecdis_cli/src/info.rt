@@ -15,6 +15,7 @@ use std::sync::ledger::Ledger;
 const FILE_LIMIT: u64 = 8_388_608;
 
 /// What is said of a file with these bytes.
+#[tactic(auto, unfolding(crate::specs::Reply::reading_of))]
 fn read<C: Ledger>(alloc: Global, bytes: &[u8], steps: &mut Steps<C>) -> Result<Reply, AllocError>
     ensures { IfOk result (λ reply. reply ≡ reading_of bytes.now) }
 {
@@ -43,6 +44,7 @@ fn reply_to_file<C: Ledger>(
 }
 
 /// Replies to `info NAME`.
+#[tactic(auto, unfolding(crate::specs::Reply::reply_on))]
 pub fn inform<L: Shelf, C: Ledger>(
     alloc: Global,
     name: &str,

@@ -2,8 +2,9 @@
 
 ghost use Rattle.std.specs.Prelude.{◌≡◌};
 ghost use Rattle.std.specs.Option.{option_copied};
+ghost use Rattle.std.specs.List.{list_all};
 ghost use Rattle.std.specs.Str.Lines.{strip_carriage_return};
-ghost use Rattle.ecdis_cli.specs.Line.{is_silent, is_name, name_on};
+ghost use Rattle.ecdis_cli.specs.Line.{is_silent, is_visible, is_name, name_on};
 
 use std::str;
 
@@ -28,13 +29,18 @@ pub fn is_silent(line: &[u8]) -> bool
     line.is_empty() || line[0] == b'#'
 }
 
-/// Whether the bytes are the name of a file: 1 to 255 visible ASCII characters (0x21 to 0x7E).
+/// Whether each byte is a visible ASCII character (0x21 to 0x7E).
+fn is_visible(bytes: &[u8]) -> bool
+    ensures { result ≡ list_all is_visible bytes.now }
+{
+    bytes.iter().all(|byte| *byte >= 0x21 && *byte <= 0x7E)
+}
+
+/// Whether the bytes are the name of a file: 1 to 255 visible ASCII characters.
 fn is_name(bytes: &[u8]) -> bool
     ensures { result ≡ is_name bytes.now }
 {
-    !bytes.is_empty()
-        && bytes.len() <= NAME_LIMIT
-        && bytes.iter().all(|byte| *byte >= 0x21 && *byte <= 0x7E)
+    !bytes.is_empty() && bytes.len() <= NAME_LIMIT && is_visible(bytes)
 }
 
 /// The name on a line `info NAME`.

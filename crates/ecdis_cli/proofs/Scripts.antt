@@ -1,0 +1,433 @@
+-- How lines and their replies go on over the bytes of a script.
+use Rattle.std.proofs.Common.{◌≡◌, ◌≢◌, ℕ, zero, suc, ◌+◌, ◌-◌, ◌<◌, ◌≤◌, ◌⊎◌, Bool, true, false, cond, ◌&&◌, List, [], ◌∷◌, ◌++◌, length, take, drop, get_or, eqb, leb, refl, sym, ◌∙◌, ap, subst, arith, add_assoc, zero-add, inl, inr, append_assoc, length-append, length-drop, length-take-le}
+use Rattle.std.specs.Prelude.{Option, Some, None, All, IsTrue, nat_eq, codes, count_by, min}
+use Rattle.std.specs.List.{slice_split, list_all, starts_with}
+use Rattle.std.specs.Str.Lines.{lines, lines_of_parts, strip_carriage_return}
+use Rattle.std.specs.Fmt.{decimal}
+use Rattle.std.specs.Option.{option_map_or, option_and_then}
+use Rattle.iso8211_records.specs.RecordFile.{record_file_of}
+use Rattle.std.proofs.lemmas.Bool.Decides.{nat_tests}
+use Rattle.std.proofs.lemmas.List.{append-nil, take-append-drop}
+use Rattle.std.proofs.lemmas.List.Elements.{All-nil, All-cons, All-append}
+use Rattle.std.proofs.lemmas.List.Splits.{slice_split_at, slice_split_none, length-slice_split}
+use Rattle.std.proofs.Math.Seq.{take-append-add, take-append_seam}
+use Rattle.chart_ports.specs.Count.{LAST, Rose, RoseBy}
+use Rattle.chart_ports.specs.Said.{SaysFront}
+use Rattle.ecdis_cli.specs.declared.reply.Reply.{Reply}
+use Rattle.ecdis_cli.specs.declared.reply.Reply.TheVariants.{BadLine, ShelfFault, Unread, Info}
+use Rattle.ecdis_cli.specs.declared.general.General.{General}
+use Rattle.ecdis_cli.specs.declared.status.Status.{Status}
+use Rattle.ecdis_cli.specs.declared.status.Status.TheVariants.{Done}
+use Rattle.ecdis_cli.specs.General.{general_of}
+use Rattle.ecdis_cli.specs.Line.{is_visible, is_name, is_silent, name_on}
+use Rattle.ecdis_cli.specs.Reply.{Files, printed, reading_of, reply_on, reply_to_info, answer_to, reply_to}
+use Rattle.ecdis_cli.specs.Replies.{replies_from, replies_of, joined, is_fetch_failure, fetch_failures}
+use Rattle.ecdis_cli.specs.Progress.{Answered, Interrupted, output_from, marked, Advanced, Halted}
+use Rattle.ecdis_cli.specs.Run.{Replied}
+
+-- no line feed is among the bytes
+abbrev pub Unbroken : List ℕ → Type 0
+Unbroken bytes = All (λ byte. eqb byte 10 ≡ false) bytes
+
+-- Lines
+
+parts-cons : (line : List ℕ) (parts : List (List ℕ)) → 0 < length parts → lines_of_parts (line ∷ parts) ≡ strip_carriage_return line ∷ lines_of_parts parts
+parts-cons line [] h = absurd (omega arith)
+parts-cons line (part ∷ more) h = refl
+
+-- the first line ends at the first line feed
+lines-feed : (line rest : List ℕ) → Unbroken line → lines (line ++ 10 ∷ rest) ≡ strip_carriage_return line ∷ lines rest
+lines-feed line rest h =
+    let some : 0 < length (slice_split (λ b. eqb b 10) rest) = omega (arith, length-slice_split (λ b. eqb b 10) rest) in
+    ap lines_of_parts (slice_split_at (λ b. eqb b 10) line 10 rest h refl) ∙ parts-cons line (slice_split (λ b. eqb b 10) rest) some
+
+-- bytes without a line feed are one line, or none
+lines-last : (line : List ℕ) → Unbroken line → lines line ≡ cond (eqb (length line) 0) [] (line ∷ [])
+lines-last line h = ap lines_of_parts (slice_split_none (λ b. eqb b 10) line h)
+
+pub record Fed (bytes : List ℕ) : Type 0 where
+  pub line : List ℕ
+  pub rest : List ℕ
+  pub unbroken : Unbroken line
+  pub whole : bytes ≡ line ++ 10 ∷ rest
+
+is_ten : (byte : ℕ) → eqb byte 10 ≡ true → byte ≡ 10
+is_ten byte h = grind (arith, nat_tests)
+
+-- there is no line feed, or a first one
+cut_at_feed : (bytes : List ℕ) → Unbroken bytes ⊎ Fed bytes
+cut_at_feed [] = inl (All-nil (λ byte. eqb byte 10 ≡ false))
+cut_at_feed (byte ∷ bytes) =
+    elim (eqb byte 10) as (λ v. eqb byte 10 ≡ v → Unbroken (byte ∷ bytes) ⊎ Fed (byte ∷ bytes)) [
+      true ↦ λ e. inr (record { line = []; rest = bytes; unbroken = All-nil (λ b. eqb b 10 ≡ false); whole = ap (λ (b : ℕ). b ∷ bytes) (is_ten byte e) })
+    | false ↦ λ e. elim (cut_at_feed bytes) as (λ _. Unbroken (byte ∷ bytes) ⊎ Fed (byte ∷ bytes)) [
+        inl h ↦ inl (All-cons (λ b. eqb b 10 ≡ false) byte bytes e h)
+      | inr f ↦ inr (record { line = byte ∷ f.line; rest = f.rest; unbroken = All-cons (λ b. eqb b 10 ≡ false) byte f.line e f.unbroken; whole = ap (λ (l : List ℕ). byte ∷ l) f.whole })
+      ]
+    ] refl
+
+-- Replies
+
+-- whether the first line's fetch failed, and the marks of the others
+abbrev first_mark : List Bool → Bool
+first_mark [] = false
+first_mark (mark ∷ marks) = mark
+
+abbrev other_marks : List Bool → List Bool
+other_marks [] = []
+other_marks (mark ∷ marks) = marks
+
+joined-cons : (files : Files) (number : ℕ) (line : List ℕ) (more : List (List ℕ)) (marks : List Bool)
+    → joined (replies_from files number (line ∷ more) marks) ≡ reply_to files number line (first_mark marks) ++ joined (replies_from files (number + 1) more (other_marks marks))
+joined-cons files number line more [] = refl
+joined-cons files number line more (mark ∷ marks) = refl
+
+output-feed : (files : Files) (number : ℕ) (line rest : List ℕ) (marks : List Bool) → Unbroken line
+    → output_from files number (line ++ 10 ∷ rest) marks ≡ reply_to files number (strip_carriage_return line) (first_mark marks) ++ output_from files (number + 1) rest (other_marks marks)
+unfolding output_from
+output-feed files number line rest marks h =
+    ap (λ (ls : List (List ℕ)). joined (replies_from files number ls marks)) (lines-feed line rest h)
+    ∙ joined-cons files number (strip_carriage_return line) (lines rest) marks
+
+output-one : (files : Files) (number : ℕ) (line : List ℕ) (marks : List Bool) → joined (replies_from files number (line ∷ []) marks) ≡ reply_to files number line (first_mark marks)
+output-one files number line marks = joined-cons files number line [] marks ∙ append-nil (reply_to files number line (first_mark marks))
+
+output-nil : (files : Files) (number : ℕ) (marks : List Bool) → joined (replies_from files number [] marks) ≡ reply_to files number [] (first_mark marks)
+unfolding reply_to
+output-nil files number marks = refl
+
+-- the last line has no line feed
+output-last : (files : Files) (number : ℕ) (line : List ℕ) (marks : List Bool) → Unbroken line
+    → output_from files number line marks ≡ reply_to files number line (first_mark marks)
+unfolding output_from
+output-last files number [] marks h = output-nil files number marks
+output-last files number (byte ∷ line) marks h =
+    let some : eqb (length (byte ∷ line)) 0 ≡ false = grind (arith, nat_tests) in
+    ap (λ (ls : List (List ℕ)). joined (replies_from files number ls marks))
+        (lines-last (byte ∷ line) h ∙ ap (λ (b : Bool). cond b [] ((byte ∷ line) ∷ [])) some)
+    ∙ output-one files number (byte ∷ line) marks
+
+-- Long lines
+
+and-false : (b : Bool) → (b && false) ≡ false
+and-false true = refl
+and-false false = refl
+
+is_name-long : (bytes : List ℕ) → 256 ≤ length bytes → is_name bytes ≡ false
+is_name-long bytes h = grind (arith, nat_tests)
+
+name_on-long : (line : List ℕ) → 261 ≤ length line → name_on line ≡ None
+name_on-long line h =
+    let no : is_name (drop 5 line) ≡ false = is_name-long (drop 5 line) (omega (arith, length-drop 5 line)) in
+    ap (λ (b : Bool). cond b (Some (drop 5 line)) None) (ap (λ (b : Bool). starts_with nat_eq line (codes "info ") && b) no ∙ and-false (starts_with nat_eq line (codes "info ")))
+
+-- the reply to a long line depends on its first byte alone
+reply_to-long : (files : Files) (number : ℕ) (line : List ℕ) (mark : Bool) → 261 ≤ length line
+    → reply_to files number line mark ≡ cond (is_silent line) [] (printed (BadLine number))
+unfolding reply_to answer_to
+reply_to-long files number line mark h =
+    ap (λ (o : Option (List ℕ)). cond (is_silent line) [] (printed (option_map_or (reply_to_info files mark) o (BadLine number)))) (name_on-long line h)
+
+length-strip : (line : List ℕ) → length line ≤ length (strip_carriage_return line) + 1
+length-strip line =
+    elim (eqb (get_or line (length line - 1) 0) 13) as (λ v. length line ≤ length (cond v (take (length line - 1) line) line) + 1) [
+      true ↦ omega (arith, length-take-le (length line - 1) line (omega arith))
+    | false ↦ omega arith
+    ]
+
+is_silent-take : (n : ℕ) (line : List ℕ) → 1 ≤ n → is_silent (take n line) ≡ is_silent line
+is_silent-take zero line h = absurd (omega arith)
+is_silent-take (suc n) [] h = refl
+is_silent-take (suc n) (byte ∷ line) h = refl
+
+is_silent-strip : (line : List ℕ) → 2 ≤ length line → is_silent (strip_carriage_return line) ≡ is_silent line
+is_silent-strip line h =
+    elim (eqb (get_or line (length line - 1) 0) 13) as (λ v. is_silent (cond v (take (length line - 1) line) line) ≡ is_silent line) [
+      true ↦ is_silent-take (length line - 1) line (omega arith)
+    | false ↦ refl
+    ]
+
+is_silent-append : (line more : List ℕ) → 1 ≤ length line → is_silent (line ++ more) ≡ is_silent line
+is_silent-append [] more h = absurd (omega arith)
+is_silent-append (byte ∷ line) more h = refl
+
+-- the reply to a line that has begun with so many bytes, however it goes on
+reply_to-begun : (files : Files) (number : ℕ) (line more : List ℕ) (mark : Bool) → 262 ≤ length line
+    → reply_to files number (line ++ more) mark ≡ cond (is_silent line) [] (printed (BadLine number))
+reply_to-begun files number line more mark h =
+    reply_to-long files number (line ++ more) mark (omega (arith, length-append line more))
+    ∙ ap (λ (b : Bool). cond b [] (printed (BadLine number))) (is_silent-append line more (omega arith))
+
+reply_to-begun_strip : (files : Files) (number : ℕ) (line more : List ℕ) (mark : Bool) → 262 ≤ length line
+    → reply_to files number (strip_carriage_return (line ++ more)) mark ≡ cond (is_silent line) [] (printed (BadLine number))
+reply_to-begun_strip files number line more mark h =
+    reply_to-long files number (strip_carriage_return (line ++ more)) mark (omega (arith, length-append line more, length-strip (line ++ more)))
+    ∙ ap (λ (b : Bool). cond b [] (printed (BadLine number)))
+        (is_silent-strip (line ++ more) (omega (arith, length-append line more)) ∙ is_silent-append line more (omega arith))
+
+-- the rest of a long line changes nothing
+output-long : (files : Files) (number : ℕ) (line : List ℕ) (byte : ℕ) (rest : List ℕ) (marks : List Bool)
+    → 262 ≤ length line → Unbroken line → eqb byte 10 ≡ false
+    → output_from files number (line ++ byte ∷ rest) marks ≡ output_from files number (line ++ rest) marks
+output-long files number line byte rest marks long h ne =
+    elim (cut_at_feed rest) as (λ _. output_from files number (line ++ byte ∷ rest) marks ≡ output_from files number (line ++ rest) marks) [
+      inl u ↦
+        output-last files number (line ++ byte ∷ rest) marks (All-append (λ b. eqb b 10 ≡ false) line (byte ∷ rest) h (All-cons (λ b. eqb b 10 ≡ false) byte rest ne u))
+        ∙ reply_to-begun files number line (byte ∷ rest) (first_mark marks) long
+        ∙ sym (output-last files number (line ++ rest) marks (All-append (λ b. eqb b 10 ≡ false) line rest h u)
+            ∙ reply_to-begun files number line rest (first_mark marks) long)
+    | inr f ↦
+        let tail : List ℕ = output_from files (number + 1) f.rest (other_marks marks) in
+        let begun : (more : List ℕ) → Unbroken more → output_from files number (line ++ (more ++ 10 ∷ f.rest)) marks ≡ cond (is_silent line) [] (printed (BadLine number)) ++ tail
+            = λ (more : List ℕ) (um : Unbroken more).
+              ap (λ (l : List ℕ). output_from files number l marks) (sym (append_assoc line more (10 ∷ f.rest)))
+              ∙ output-feed files number (line ++ more) f.rest marks (All-append (λ b. eqb b 10 ≡ false) line more h um)
+              ∙ ap (λ (l : List ℕ). l ++ tail) (reply_to-begun_strip files number line more (first_mark marks) long) in
+        ap (λ (l : List ℕ). output_from files number (line ++ byte ∷ l) marks) f.whole
+        ∙ begun (byte ∷ f.line) (All-cons (λ b. eqb b 10 ≡ false) byte f.line ne f.unbroken)
+        ∙ sym (ap (λ (l : List ℕ). output_from files number (line ++ l) marks) f.whole ∙ begun f.line f.unbroken)
+    ]
+
+-- Fronts
+
+front-whole : (before bytes now : List ℕ) → now ≡ before ++ bytes → SaysFront before bytes now
+front-whole before bytes now e = (length bytes, e ∙ ap (λ (l : List ℕ). before ++ l) (sym (take-append_seam bytes []) ∙ ap (λ (l : List ℕ). take (length bytes) l) (append-nil bytes)))
+
+front-append : (before bytes more now : List ℕ) → SaysFront before bytes now → SaysFront before (bytes ++ more) now
+front-append before bytes more now (n, e) =
+    let split : bytes ++ more ≡ take n bytes ++ (drop n bytes ++ more)
+        = ap (λ (l : List ℕ). l ++ more) (sym (take-append-drop n bytes)) ∙ append_assoc (take n bytes) (drop n bytes) more in
+    (length (take n bytes), e ∙ ap (λ (l : List ℕ). before ++ l)
+        (sym (ap (λ (l : List ℕ). take (length (take n bytes)) l) split ∙ take-append_seam (take n bytes) (drop n bytes ++ more))))
+
+front-after : (before said bytes middle now : List ℕ) → middle ≡ before ++ said → SaysFront middle bytes now → SaysFront before (said ++ bytes) now
+front-after before said bytes middle now e (n, f) =
+    (length said + n, f ∙ ap (λ (l : List ℕ). l ++ take n bytes) e ∙ append_assoc before said (take n bytes)
+        ∙ ap (λ (l : List ℕ). before ++ l) (sym (take-append-add said bytes n)))
+
+front-same : (before bytes others now : List ℕ) → bytes ≡ others → SaysFront before bytes now → SaysFront before others now
+front-same before bytes others now e h = subst (λ (l : List ℕ). SaysFront before l now) e h
+
+-- Counts
+
+rose-none : (before now : ℕ) → before ≤ now → RoseBy 0 before now
+rose-none before now h = inl (omega arith)
+
+rose-more : (m n a b c : ℕ) → a ≤ b → b ≤ c → RoseBy m a b → RoseBy n b c → RoseBy (m + n) a c
+rose-more m n a b c low high (inl x) (inl y) = inl (omega arith)
+rose-more m n a b c low high (inl x) (inr y) = inr y
+rose-more m n a b c low high (inr x) y = inr (omega arith)
+
+pub rose-fewer : (m n a b : ℕ) → m ≤ n → RoseBy n a b → RoseBy m a b
+rose-fewer m n a b h (inl x) = inl (omega arith)
+rose-fewer m n a b h (inr x) = inr x
+
+marked-append : (xs ys : List Bool) → marked (xs ++ ys) ≡ marked xs + marked ys
+marked-append [] ys = sym (zero-add (marked ys))
+marked-append (mark ∷ xs) ys =
+    ap (λ (k : ℕ). cond mark 1 0 + k) (marked-append xs ys) ∙ sym (add_assoc (cond mark 1 0) (marked xs) (marked ys))
+
+rose-mark : (mark : Bool) (a b : ℕ) → a ≤ b → (IsTrue mark → Rose a b) → RoseBy (marked (mark ∷ [])) a b
+rose-mark true a b h f = f refl
+rose-mark false a b h f = rose-none a b h
+
+reply-not_failed : (reply : Reply) → reply ≢ ShelfFault → is_fetch_failure (printed reply) ≡ false
+reply-not_failed (BadLine number) h = refl
+reply-not_failed ShelfFault h = absurd (h refl)
+reply-not_failed Unread h = refl
+reply-not_failed (Info general) h = refl
+
+reading_of-not_fault : (bytes : List ℕ) → reading_of bytes ≢ ShelfFault
+unfolding reading_of
+reading_of-not_fault bytes = elim (option_and_then general_of (record_file_of bytes)) as (λ o. option_map_or Info o Unread ≢ ShelfFault) [ None ↦ λ e. cc | Some g ↦ λ e. cc ]
+
+reply_on-not_fault : (file : Option (List ℕ)) → reply_on file ≢ ShelfFault
+unfolding reply_on
+reply_on-not_fault None = λ e. cc
+reply_on-not_fault (Some bytes) = elim (leb (length bytes) 8388608) as (λ v. cond v (reading_of bytes) Unread ≢ ShelfFault) [ true ↦ reading_of-not_fault bytes | false ↦ λ e. cc ]
+
+answer_to-not_fault : (files : Files) (number : ℕ) (line : List ℕ) → answer_to files number line false ≢ ShelfFault
+unfolding answer_to
+answer_to-not_fault files number line = elim (name_on line) as (λ o. option_map_or (reply_to_info files false) o (BadLine number) ≢ ShelfFault) [ None ↦ λ e. cc | Some name ↦ reply_on-not_fault (files name) ]
+
+reply_to-not_failed : (files : Files) (number : ℕ) (line : List ℕ) → is_fetch_failure (reply_to files number line false) ≡ false
+unfolding reply_to
+reply_to-not_failed files number line =
+    elim (is_silent line) as (λ v. is_fetch_failure (cond v [] (printed (answer_to files number line false))) ≡ false) [
+      true ↦ refl
+    | false ↦ reply-not_failed (answer_to files number line false) (answer_to-not_fault files number line)
+    ]
+
+failures-cons : (reply : List ℕ) (more : List (List ℕ)) (n : ℕ) → fetch_failures more ≤ n → fetch_failures (reply ∷ more) ≤ 1 + n
+failures-cons reply more n h = elim (is_fetch_failure reply) as (λ v. cond v 1 0 + fetch_failures more ≤ 1 + n) [ true ↦ omega arith | false ↦ omega arith ]
+
+failures-cons_not : (reply : List ℕ) (more : List (List ℕ)) (n : ℕ) → is_fetch_failure reply ≡ false → fetch_failures more ≤ n → fetch_failures (reply ∷ more) ≤ n
+failures-cons_not reply more n e h = subst (λ (v : Bool). cond v 1 0 + fetch_failures more ≤ n) (sym e) (let g : fetch_failures more ≤ n = h in omega arith)
+
+-- no reply says so where no fetch failed
+failures-le-marked : (files : Files) (number : ℕ) (ls : List (List ℕ)) (marks : List Bool) → fetch_failures (replies_from files number ls marks) ≤ marked marks
+failures-le-marked files number [] marks = omega arith
+failures-le-marked files number (line ∷ more) [] =
+    failures-cons_not (reply_to files number line false) _ (marked []) (reply_to-not_failed files number line) (failures-le-marked files (number + 1) more [])
+failures-le-marked files number (line ∷ more) (true ∷ marks) =
+    failures-cons (reply_to files number line true) (replies_from files (number + 1) more marks) (marked marks) (failures-le-marked files (number + 1) more marks)
+failures-le-marked files number (line ∷ more) (false ∷ marks) =
+    subst (λ (k : ℕ). fetch_failures (replies_from files number (line ∷ more) (false ∷ marks)) ≤ k) (sym (zero-add (marked marks)))
+        (failures-cons_not (reply_to files number line false) (replies_from files (number + 1) more marks) (marked marks) (reply_to-not_failed files number line) (failures-le-marked files (number + 1) more marks))
+
+-- Steps
+
+pub Advanced-start : (files : Files) (number : ℕ) (line before : List ℕ) (faults : ℕ) → Advanced files number line [] number line before before faults faults
+Advanced-start files number line before faults = record {
+  marks = [];
+  replies = [];
+  said = sym (append-nil before);
+  ahead = λ rest more. refl;
+  failed = rose-none faults faults (omega arith);
+}
+
+pub Advanced-feed : (files : Files) (number : ℕ) (line before now : List ℕ) (a b : ℕ) → a ≤ b → Unbroken line
+    → Answered files number (strip_carriage_return line) before now a b → Advanced files number line (10 ∷ []) (number + 1) [] before now a b
+Advanced-feed files number line before now a b later h x = record {
+  marks = x.mark ∷ [];
+  replies = reply_to files number (strip_carriage_return line) x.mark;
+  said = x.said;
+  ahead = λ rest more. output-feed files number line rest (x.mark ∷ more) h;
+  failed = rose-mark x.mark a b later x.cause;
+}
+
+pub Halted-feed : (files : Files) (number : ℕ) (line before now : List ℕ) (a b : ℕ) → a ≤ b → Unbroken line
+    → Interrupted files number (strip_carriage_return line) before now a b → Halted files number line (10 ∷ []) before now a b
+Halted-feed files number line before now a b later h x = record {
+  marks = x.mark ∷ [];
+  front = λ rest. front-same before _ _ now (sym (output-feed files number line rest (x.mark ∷ []) h))
+      (front-append before (reply_to files number (strip_carriage_return line) x.mark) (output_from files (number + 1) rest (other_marks (x.mark ∷ []))) now x.front);
+  failed = rose-mark x.mark a b later x.cause;
+}
+
+pub Advanced-kept : (files : Files) (number : ℕ) (line : List ℕ) (byte : ℕ) (before : List ℕ) (faults : ℕ)
+    → Advanced files number line (byte ∷ []) number (line ++ byte ∷ []) before before faults faults
+Advanced-kept files number line byte before faults = record {
+  marks = [];
+  replies = [];
+  said = sym (append-nil before);
+  ahead = λ rest more. ap (λ (l : List ℕ). output_from files number l more) (sym (append_assoc line (byte ∷ []) rest));
+  failed = rose-none faults faults (omega arith);
+}
+
+pub Advanced-dropped : (files : Files) (number : ℕ) (line : List ℕ) (byte : ℕ) (before : List ℕ) (faults : ℕ)
+    → 262 ≤ length line → Unbroken line → eqb byte 10 ≡ false
+    → Advanced files number line (byte ∷ []) number line before before faults faults
+Advanced-dropped files number line byte before faults long h ne = record {
+  marks = [];
+  replies = [];
+  said = sym (append-nil before);
+  ahead = λ rest more. output-long files number line byte rest more long h ne;
+  failed = rose-none faults faults (omega arith);
+}
+
+pub Advanced-then : (files : Files) (n0 n1 n2 : ℕ) (l0 l1 l2 bytes more s0 s1 s2 : List ℕ) (f0 f1 f2 : ℕ) → f0 ≤ f1 → f1 ≤ f2
+    → Advanced files n0 l0 bytes n1 l1 s0 s1 f0 f1 → Advanced files n1 l1 more n2 l2 s1 s2 f1 f2
+    → Advanced files n0 l0 (bytes ++ more) n2 l2 s0 s2 f0 f2
+Advanced-then files n0 n1 n2 l0 l1 l2 bytes more s0 s1 s2 f0 f1 f2 low high x y = record {
+  marks = x.marks ++ y.marks;
+  replies = x.replies ++ y.replies;
+  said = y.said ∙ ap (λ (l : List ℕ). l ++ y.replies) x.said ∙ append_assoc s0 x.replies y.replies;
+  ahead = λ rest marks.
+      ap (λ (l : List ℕ). output_from files n0 (l0 ++ l) ((x.marks ++ y.marks) ++ marks)) (append_assoc bytes more rest)
+      ∙ ap (λ (ms : List Bool). output_from files n0 (l0 ++ (bytes ++ (more ++ rest))) ms) (append_assoc x.marks y.marks marks)
+      ∙ x.ahead (more ++ rest) (y.marks ++ marks)
+      ∙ ap (λ (l : List ℕ). x.replies ++ l) (y.ahead rest marks)
+      ∙ sym (append_assoc x.replies y.replies (output_from files n2 (l2 ++ rest) marks));
+  failed = subst (λ (k : ℕ). RoseBy k f0 f2) (sym (marked-append x.marks y.marks)) (rose-more (marked x.marks) (marked y.marks) f0 f1 f2 low high x.failed y.failed);
+}
+
+pub Halted-then : (files : Files) (n0 n1 : ℕ) (l0 l1 bytes more s0 s1 s2 : List ℕ) (f0 f1 f2 : ℕ) → f0 ≤ f1 → f1 ≤ f2
+    → Advanced files n0 l0 bytes n1 l1 s0 s1 f0 f1 → Halted files n1 l1 more s1 s2 f1 f2
+    → Halted files n0 l0 (bytes ++ more) s0 s2 f0 f2
+Halted-then files n0 n1 l0 l1 bytes more s0 s1 s2 f0 f1 f2 low high x y = record {
+  marks = x.marks ++ y.marks;
+  front = λ rest. front-same s0 _ _ s2
+      (sym (ap (λ (l : List ℕ). output_from files n0 (l0 ++ l) (x.marks ++ y.marks)) (append_assoc bytes more rest) ∙ x.ahead (more ++ rest) y.marks))
+      (front-after s0 x.replies _ s1 s2 x.said (y.front rest));
+  failed = subst (λ (k : ℕ). RoseBy k f0 f2) (sym (marked-append x.marks y.marks)) (rose-more (marked x.marks) (marked y.marks) f0 f1 f2 low high x.failed y.failed);
+}
+
+pub Halted-here : (files : Files) (n0 n1 : ℕ) (l0 l1 bytes s0 s1 : List ℕ) (f0 f1 : ℕ)
+    → Advanced files n0 l0 bytes n1 l1 s0 s1 f0 f1 → Halted files n0 l0 bytes s0 s1 f0 f1
+Halted-here files n0 n1 l0 l1 bytes s0 s1 f0 f1 x = record {
+  marks = x.marks;
+  front = λ rest. front-same s0 _ _ s1
+      (sym (ap (λ (ms : List Bool). output_from files n0 (l0 ++ (bytes ++ rest)) ms) (sym (append-nil x.marks)) ∙ x.ahead rest []))
+      (front-append s0 x.replies (output_from files n1 (l1 ++ rest) []) s1 (front-whole s0 x.replies s1 x.said));
+  failed = x.failed;
+}
+
+pub Halted-more : (files : Files) (number : ℕ) (line bytes more s0 s1 : List ℕ) (f0 f1 : ℕ)
+    → Halted files number line bytes s0 s1 f0 f1 → Halted files number line (bytes ++ more) s0 s1 f0 f1
+Halted-more files number line bytes more s0 s1 f0 f1 x = record {
+  marks = x.marks;
+  front = λ rest. subst (λ (l : List ℕ). SaysFront s0 (output_from files number (line ++ l) x.marks) s1) (sym (append_assoc bytes more rest)) (x.front (more ++ rest));
+  failed = x.failed;
+}
+
+-- The whole script
+
+replies_of-joined : (files : Files) (script : List ℕ) (marks : List Bool) → joined (replies_of files script marks) ≡ output_from files 1 script marks
+unfolding output_from replies_of
+replies_of-joined files script marks = refl
+
+replies_of-failures : (files : Files) (script : List ℕ) (marks : List Bool) (a b : ℕ) → RoseBy (marked marks) a b → RoseBy (fetch_failures (replies_of files script marks)) a b
+unfolding replies_of
+replies_of-failures files script marks a b h = rose-fewer (fetch_failures (replies_from files 1 (lines script) marks)) (marked marks) a b (failures-le-marked files 1 (lines script) marks) h
+
+-- the last line was answered
+pub Replied-done : (files : Files) (number : ℕ) (line script s0 s1 s2 : List ℕ) (f0 f1 f2 : ℕ) (status : Status) → f0 ≤ f1 → f1 ≤ f2 → Unbroken line
+    → Advanced files 1 [] script number line s0 s1 f0 f1 → Answered files number line s1 s2 f1 f2 → Replied script files status s0 s2 f0 f2
+Replied-done files number line script s0 s1 s2 f0 f1 f2 status low high h x y =
+    let whole : joined (replies_of files script (x.marks ++ y.mark ∷ [])) ≡ x.replies ++ reply_to files number line y.mark
+        = replies_of-joined files script (x.marks ++ y.mark ∷ [])
+          ∙ ap (λ (l : List ℕ). output_from files 1 l (x.marks ++ y.mark ∷ [])) (sym (append-nil script))
+          ∙ x.ahead [] (y.mark ∷ [])
+          ∙ ap (λ (l : List ℕ). x.replies ++ output_from files number l (y.mark ∷ [])) (append-nil line)
+          ∙ ap (λ (l : List ℕ). x.replies ++ l) (output-last files number line (y.mark ∷ []) h) in
+    let said : s2 ≡ s0 ++ joined (replies_of files script (x.marks ++ y.mark ∷ []))
+        = y.said ∙ ap (λ (l : List ℕ). l ++ reply_to files number line y.mark) x.said ∙ append_assoc s0 x.replies (reply_to files number line y.mark)
+          ∙ ap (λ (l : List ℕ). s0 ++ l) (sym whole) in
+    record {
+  marks = x.marks ++ y.mark ∷ [];
+  all = λ _. said;
+  front = front-whole s0 _ s2 said;
+  failures = replies_of-failures files script (x.marks ++ y.mark ∷ []) f0 f2
+      (subst (λ (k : ℕ). RoseBy k f0 f2) (sym (marked-append x.marks (y.mark ∷ [])))
+          (rose-more (marked x.marks) (marked (y.mark ∷ [])) f0 f1 f2 low high x.failed (rose-mark y.mark f1 f2 high y.cause)));
+}
+
+-- the last line was not
+pub Replied-cut : (files : Files) (number : ℕ) (line script s0 s1 s2 : List ℕ) (f0 f1 f2 : ℕ) (status : Status) → status ≢ Done → f0 ≤ f1 → f1 ≤ f2 → Unbroken line
+    → Advanced files 1 [] script number line s0 s1 f0 f1 → Interrupted files number line s1 s2 f1 f2 → Replied script files status s0 s2 f0 f2
+Replied-cut files number line script s0 s1 s2 f0 f1 f2 status not_done low high h x y =
+    let whole : joined (replies_of files script (x.marks ++ y.mark ∷ [])) ≡ x.replies ++ reply_to files number line y.mark
+        = replies_of-joined files script (x.marks ++ y.mark ∷ [])
+          ∙ ap (λ (l : List ℕ). output_from files 1 l (x.marks ++ y.mark ∷ [])) (sym (append-nil script))
+          ∙ x.ahead [] (y.mark ∷ [])
+          ∙ ap (λ (l : List ℕ). x.replies ++ output_from files number l (y.mark ∷ [])) (append-nil line)
+          ∙ ap (λ (l : List ℕ). x.replies ++ l) (output-last files number line (y.mark ∷ []) h) in
+    record {
+  marks = x.marks ++ y.mark ∷ [];
+  all = λ d. absurd (not_done d);
+  front = front-same s0 _ _ s2 (sym whole) (front-after s0 x.replies (reply_to files number line y.mark) s1 s2 x.said y.front);
+  failures = replies_of-failures files script (x.marks ++ y.mark ∷ []) f0 f2
+      (subst (λ (k : ℕ). RoseBy k f0 f2) (sym (marked-append x.marks (y.mark ∷ [])))
+          (rose-more (marked x.marks) (marked (y.mark ∷ [])) f0 f1 f2 low high x.failed (rose-mark y.mark f1 f2 high y.cause)));
+}
+
+-- the run ended before the script's end
+pub Replied-halted : (files : Files) (script bytes rest s0 s1 : List ℕ) (f0 f1 : ℕ) (status : Status) → status ≢ Done → script ≡ bytes ++ rest
+    → Halted files 1 [] bytes s0 s1 f0 f1 → Replied script files status s0 s1 f0 f1
+Replied-halted files script bytes rest s0 s1 f0 f1 status not_done e x = record {
+  marks = x.marks;
+  all = λ d. absurd (not_done d);
+  front = front-same s0 _ _ s1 (sym (replies_of-joined files script x.marks ∙ ap (λ (l : List ℕ). output_from files 1 l x.marks) e)) (x.front rest);
+  failures = replies_of-failures files script x.marks f0 f1 x.failed;
+}
