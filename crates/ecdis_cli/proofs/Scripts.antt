@@ -1,18 +1,21 @@
 -- How lines and their replies go on over the bytes of a script.
-use Rattle.std.proofs.Common.{◌≡◌, ◌≢◌, ℕ, zero, suc, ◌+◌, ◌-◌, ◌<◌, ◌≤◌, ◌⊎◌, Bool, true, false, cond, ◌&&◌, List, [], ◌∷◌, ◌++◌, length, take, drop, get_or, eqb, leb, refl, sym, ◌∙◌, ap, subst, arith, add_assoc, zero-add, inl, inr, append_assoc, length-append, length-drop, length-take-le}
-use Rattle.std.specs.Prelude.{Option, Some, None, All, IsTrue, nat_eq, codes, count_by, min}
+use Rattle.std.proofs.Common.{◌≡◌, ◌≢◌, ℕ, zero, suc, ◌+◌, ◌-◌, ◌<◌, ◌≤◌, ◌⊎◌, Bool, true, false, cond, ◌&&◌, List, [], ◌∷◌, ◌++◌, length, take, drop, get_or, eqb, leb, ltb, refl, sym, ◌∙◌, ap, subst, arith, zero-add, inl, inr, append_assoc, length-append, length-drop, length-take-le}
+use Rattle.std.specs.Prelude.{Option, Some, None, Result, Ok, Err, OnOk, OnErr, IfOk, All, IsTrue, nat_eq, codes, count_by, min}
 use Rattle.std.specs.List.{slice_split, list_all, starts_with}
 use Rattle.std.specs.Str.Lines.{lines, lines_of_parts, strip_carriage_return}
 use Rattle.std.specs.Fmt.{decimal}
 use Rattle.std.specs.Option.{option_map_or, option_and_then}
 use Rattle.iso8211_records.specs.RecordFile.{record_file_of}
 use Rattle.std.proofs.lemmas.Bool.Decides.{nat_tests}
-use Rattle.std.proofs.lemmas.List.{append-nil, take-append-drop}
+use Rattle.std.proofs.lemmas.List.{append-nil, take-append-drop, take_more}
 use Rattle.std.proofs.lemmas.List.Elements.{All-nil, All-cons, All-append}
+use Rattle.std.proofs.lemmas.List.Sums.{sum_by-append, sum_by-cons}
 use Rattle.std.proofs.lemmas.List.Splits.{slice_split_at, slice_split_none, length-slice_split}
 use Rattle.std.proofs.Math.Seq.{take-append-add, take-append_seam}
 use Rattle.chart_ports.specs.Count.{LAST, Rose, RoseBy}
 use Rattle.chart_ports.specs.Said.{SaysFront}
+use Rattle.chart_ports.specs.declared.shelf.Fetched.{Fetched}
+use Rattle.chart_ports.specs.declared.shelf.Fetched.TheVariants.{Bytes, Absent, Long}
 use Rattle.ecdis_cli.specs.declared.reply.Reply.{Reply}
 use Rattle.ecdis_cli.specs.declared.reply.Reply.TheVariants.{BadLine, ShelfFault, Unread, Info}
 use Rattle.ecdis_cli.specs.declared.general.General.{General}
@@ -20,7 +23,7 @@ use Rattle.ecdis_cli.specs.declared.status.Status.{Status}
 use Rattle.ecdis_cli.specs.declared.status.Status.TheVariants.{Done}
 use Rattle.ecdis_cli.specs.General.{general_of}
 use Rattle.ecdis_cli.specs.Line.{is_visible, is_name, is_silent, name_on}
-use Rattle.ecdis_cli.specs.Reply.{Files, printed, reading_of, reply_on, reply_to_info, answer_to, reply_to}
+use Rattle.ecdis_cli.specs.Reply.{Files, printed, reading_of, reply_on, reply_to_info, answer_to, reply_to, reply_to_fetched}
 use Rattle.ecdis_cli.specs.Replies.{replies_from, replies_of, joined, is_fetch_failure, fetch_failures}
 use Rattle.ecdis_cli.specs.Progress.{Answered, Interrupted, output_from, marked, Advanced, Halted}
 use Rattle.ecdis_cli.specs.Run.{Replied}
@@ -223,9 +226,7 @@ rose-fewer m n a b h (inl x) = inl (omega arith)
 rose-fewer m n a b h (inr x) = inr x
 
 marked-append : (xs ys : List Bool) → marked (xs ++ ys) ≡ marked xs + marked ys
-marked-append [] ys = sym (zero-add (marked ys))
-marked-append (mark ∷ xs) ys =
-    ap (λ (k : ℕ). cond mark 1 0 + k) (marked-append xs ys) ∙ sym (add_assoc (cond mark 1 0) (marked xs) (marked ys))
+marked-append xs ys = sum_by-append (λ mark. cond mark 1 0) xs ys
 
 rose-mark : (mark : Bool) (a b : ℕ) → a ≤ b → (IsTrue mark → Rose a b) → RoseBy (marked (mark ∷ [])) a b
 rose-mark true a b h f = f refl
@@ -246,6 +247,17 @@ unfolding reply_on
 reply_on-not_fault None = λ e. cc
 reply_on-not_fault (Some bytes) = elim (leb (length bytes) 8388608) as (λ v. cond v (reading_of bytes) Unread ≢ ShelfFault) [ true ↦ reading_of-not_fault bytes | false ↦ λ e. cc ]
 
+reply_to_fetched-not_fault : (fetched : Fetched) → reply_to_fetched fetched ≢ ShelfFault
+reply_to_fetched-not_fault (Bytes bytes) = reading_of-not_fault bytes
+reply_to_fetched-not_fault Absent = λ e. cc
+reply_to_fetched-not_fault Long = λ e. cc
+
+-- what is said of what was fetched is not that the shelf failed
+pub fetched-no_fault : {E : Type 0} (r : Result Reply E) (fetched : Fetched) (P : Type 0)
+    → IfOk r (λ reply. reply ≡ reply_to_fetched fetched) → IfOk r (λ reply. reply ≡ ShelfFault → P)
+fetched-no_fault (Ok reply) fetched P h = λ e. absurd (reply_to_fetched-not_fault fetched (sym h ∙ e))
+fetched-no_fault (Err e) fetched P h = tt
+
 answer_to-not_fault : (files : Files) (number : ℕ) (line : List ℕ) → answer_to files number line false ≢ ShelfFault
 unfolding answer_to
 answer_to-not_fault files number line = elim (name_on line) as (λ o. option_map_or (reply_to_info files false) o (BadLine number) ≢ ShelfFault) [ None ↦ λ e. cc | Some name ↦ reply_on-not_fault (files name) ]
@@ -258,21 +270,28 @@ reply_to-not_failed files number line =
     | false ↦ reply-not_failed (answer_to files number line false) (answer_to-not_fault files number line)
     ]
 
-failures-cons : (reply : List ℕ) (more : List (List ℕ)) (n : ℕ) → fetch_failures more ≤ n → fetch_failures (reply ∷ more) ≤ 1 + n
-failures-cons reply more n h = elim (is_fetch_failure reply) as (λ v. cond v 1 0 + fetch_failures more ≤ 1 + n) [ true ↦ omega arith | false ↦ omega arith ]
+failures-cons : (reply : List ℕ) (more : List (List ℕ)) → fetch_failures (reply ∷ more) ≡ cond (is_fetch_failure reply) 1 0 + fetch_failures more
+failures-cons reply more = sum_by-cons (λ r. cond (is_fetch_failure r) 1 0) reply more
+
+failures-cons_any : (reply : List ℕ) (more : List (List ℕ)) (n : ℕ) → fetch_failures more ≤ n → fetch_failures (reply ∷ more) ≤ 1 + n
+failures-cons_any reply more n h =
+    subst (λ (k : ℕ). k ≤ 1 + n) (sym (failures-cons reply more))
+        (elim (is_fetch_failure reply) as (λ v. cond v 1 0 + fetch_failures more ≤ 1 + n) [ true ↦ omega arith | false ↦ omega arith ])
 
 failures-cons_not : (reply : List ℕ) (more : List (List ℕ)) (n : ℕ) → is_fetch_failure reply ≡ false → fetch_failures more ≤ n → fetch_failures (reply ∷ more) ≤ n
-failures-cons_not reply more n e h = subst (λ (v : Bool). cond v 1 0 + fetch_failures more ≤ n) (sym e) (let g : fetch_failures more ≤ n = h in omega arith)
+failures-cons_not reply more n e h =
+    subst (λ (k : ℕ). k ≤ n) (sym (failures-cons reply more ∙ ap (λ (v : Bool). cond v 1 0 + fetch_failures more) e ∙ zero-add (fetch_failures more))) h
 
 -- no reply says so where no fetch failed
 failures-le-marked : (files : Files) (number : ℕ) (ls : List (List ℕ)) (marks : List Bool) → fetch_failures (replies_from files number ls marks) ≤ marked marks
 failures-le-marked files number [] marks = omega arith
 failures-le-marked files number (line ∷ more) [] =
-    failures-cons_not (reply_to files number line false) _ (marked []) (reply_to-not_failed files number line) (failures-le-marked files (number + 1) more [])
+    failures-cons_not (reply_to files number line false) (replies_from files (number + 1) more []) (marked []) (reply_to-not_failed files number line) (failures-le-marked files (number + 1) more [])
 failures-le-marked files number (line ∷ more) (true ∷ marks) =
-    failures-cons (reply_to files number line true) (replies_from files (number + 1) more marks) (marked marks) (failures-le-marked files (number + 1) more marks)
+    subst (λ (k : ℕ). fetch_failures (replies_from files number (line ∷ more) (true ∷ marks)) ≤ k) (sym (sum_by-cons (λ mark. cond mark 1 0) true marks))
+        (failures-cons_any (reply_to files number line true) (replies_from files (number + 1) more marks) (marked marks) (failures-le-marked files (number + 1) more marks))
 failures-le-marked files number (line ∷ more) (false ∷ marks) =
-    subst (λ (k : ℕ). fetch_failures (replies_from files number (line ∷ more) (false ∷ marks)) ≤ k) (sym (zero-add (marked marks)))
+    subst (λ (k : ℕ). fetch_failures (replies_from files number (line ∷ more) (false ∷ marks)) ≤ k) (sym (sum_by-cons (λ mark. cond mark 1 0) false marks ∙ zero-add (marked marks)))
         (failures-cons_not (reply_to files number line false) (replies_from files (number + 1) more marks) (marked marks) (reply_to-not_failed files number line) (failures-le-marked files (number + 1) more marks))
 
 -- Steps
@@ -286,22 +305,25 @@ Advanced-start files number line before faults = record {
   failed = rose-none faults faults (omega arith);
 }
 
-pub Advanced-feed : (files : Files) (number : ℕ) (line before now : List ℕ) (a b : ℕ) → a ≤ b → Unbroken line
-    → Answered files number (strip_carriage_return line) before now a b → Advanced files number line (10 ∷ []) (number + 1) [] before now a b
-Advanced-feed files number line before now a b later h x = record {
+pub Advanced-feed : (files : Files) (number : ℕ) (line stripped before now : List ℕ) (a b : ℕ) → a ≤ b → Unbroken line → stripped ≡ strip_carriage_return line
+    → Answered files number stripped before now a b → Advanced files number line (10 ∷ []) (number + 1) [] before now a b
+Advanced-feed files number line stripped before now a b later h e x = record {
   marks = x.mark ∷ [];
-  replies = reply_to files number (strip_carriage_return line) x.mark;
+  replies = reply_to files number stripped x.mark;
   said = x.said;
-  ahead = λ rest more. output-feed files number line rest (x.mark ∷ more) h;
+  ahead = λ rest more. output-feed files number line rest (x.mark ∷ more) h
+      ∙ ap (λ (l : List ℕ). reply_to files number l x.mark ++ output_from files (number + 1) rest more) (sym e);
   failed = rose-mark x.mark a b later x.cause;
 }
 
-pub Halted-feed : (files : Files) (number : ℕ) (line before now : List ℕ) (a b : ℕ) → a ≤ b → Unbroken line
-    → Interrupted files number (strip_carriage_return line) before now a b → Halted files number line (10 ∷ []) before now a b
-Halted-feed files number line before now a b later h x = record {
+pub Halted-feed : (files : Files) (number : ℕ) (line stripped before now : List ℕ) (a b : ℕ) → a ≤ b → Unbroken line → stripped ≡ strip_carriage_return line
+    → Interrupted files number stripped before now a b → Halted files number line (10 ∷ []) before now a b
+Halted-feed files number line stripped before now a b later h e x = record {
   marks = x.mark ∷ [];
-  front = λ rest. front-same before _ _ now (sym (output-feed files number line rest (x.mark ∷ []) h))
-      (front-append before (reply_to files number (strip_carriage_return line) x.mark) (output_from files (number + 1) rest (other_marks (x.mark ∷ []))) now x.front);
+  front = λ rest. front-same before _ _ now
+      (sym (output-feed files number line rest (x.mark ∷ []) h
+          ∙ ap (λ (l : List ℕ). reply_to files number l x.mark ++ output_from files (number + 1) rest []) (sym e)))
+      (front-append before (reply_to files number stripped x.mark) (output_from files (number + 1) rest []) now x.front);
   failed = rose-mark x.mark a b later x.cause;
 }
 
@@ -370,6 +392,53 @@ Halted-more files number line bytes more s0 s1 f0 f1 x = record {
   front = λ rest. subst (λ (l : List ℕ). SaysFront s0 (output_from files number (line ++ l) x.marks) s1) (sym (append_assoc bytes more rest)) (x.front (more ++ rest));
   failed = x.failed;
 }
+
+-- nothing more was said
+pub Halted-start : (files : Files) (number : ℕ) (line bytes before : List ℕ) (faults : ℕ) → Halted files number line bytes before before faults faults
+Halted-start files number line bytes before faults =
+    Halted-more files number line [] bytes before before faults faults
+        (Halted-here files number number line line [] before before faults faults (Advanced-start files number line before faults))
+
+pub Advanced-byte : (files : Files) (number : ℕ) (line line' : List ℕ) (byte : ℕ) (before : List ℕ) (faults : ℕ)
+    → Unbroken line → eqb byte 10 ≡ false → line' ≡ cond (ltb (length line) 1026) (line ++ byte ∷ []) line
+    → Advanced files number line (byte ∷ []) number line' before before faults faults
+Advanced-byte files number line line' byte before faults h ne e =
+    let P : List ℕ → Type 0 = λ (l : List ℕ). Advanced files number line (byte ∷ []) number l before before faults faults in
+    let cases : (b : Bool) → ltb (length line) 1026 ≡ b → P (cond b (line ++ byte ∷ []) line)
+        = λ (b : Bool). elim b as (λ v. ltb (length line) 1026 ≡ v → P (cond v (line ++ byte ∷ []) line)) [
+            true ↦ λ t. Advanced-kept files number line byte before faults
+          | false ↦ λ t. Advanced-dropped files number line byte before faults (grind (arith, nat_tests)) h ne
+          ] in
+    subst P (sym e) (cases (ltb (length line) 1026) refl)
+
+-- one byte more of a slice
+pub Advanced-next : (files files' : Files) (n0 n1 n2 : ℕ) (l0 l1 l2 bytes s0 s1 s2 : List ℕ) (f0 f1 f2 i : ℕ) → files' ≡ files → f0 ≤ f1 → f1 ≤ f2 → i < length bytes
+    → Advanced files n0 l0 (take i bytes) n1 l1 s0 s1 f0 f1 → Advanced files' n1 l1 (get_or bytes i 0 ∷ []) n2 l2 s1 s2 f1 f2
+    → Advanced files n0 l0 (take (i + 1) bytes) n2 l2 s0 s2 f0 f2
+Advanced-next files files' n0 n1 n2 l0 l1 l2 bytes s0 s1 s2 f0 f1 f2 i same low high within x y =
+    subst (λ (bs : List ℕ). Advanced files n0 l0 bs n2 l2 s0 s2 f0 f2) (sym (take_more bytes i 0 within))
+        (Advanced-then files n0 n1 n2 l0 l1 l2 (take i bytes) (get_or bytes i 0 ∷ []) s0 s1 s2 f0 f1 f2 low high x
+            (subst (λ (fs : Files). Advanced fs n1 l1 (get_or bytes i 0 ∷ []) n2 l2 s1 s2 f1 f2) same y))
+
+pub Halted-next : (files files' : Files) (n0 n1 : ℕ) (l0 l1 bytes s0 s1 s2 : List ℕ) (f0 f1 f2 i : ℕ) → files' ≡ files → f0 ≤ f1 → f1 ≤ f2 → i < length bytes
+    → Advanced files n0 l0 (take i bytes) n1 l1 s0 s1 f0 f1 → Halted files' n1 l1 (get_or bytes i 0 ∷ []) s1 s2 f1 f2
+    → Halted files n0 l0 bytes s0 s2 f0 f2
+Halted-next files files' n0 n1 l0 l1 bytes s0 s1 s2 f0 f1 f2 i same low high within x y =
+    subst (λ (bs : List ℕ). Halted files n0 l0 bs s0 s2 f0 f2)
+        (ap (λ (l : List ℕ). l ++ drop (i + 1) bytes) (sym (take_more bytes i 0 within)) ∙ take-append-drop (i + 1) bytes)
+        (Halted-more files n0 l0 (take i bytes ++ get_or bytes i 0 ∷ []) (drop (i + 1) bytes) s0 s2 f0 f2
+            (Halted-then files n0 n1 l0 l1 (take i bytes) (get_or bytes i 0 ∷ []) s0 s1 s2 f0 f1 f2 low high x
+                (subst (λ (fs : Files). Halted fs n1 l1 (get_or bytes i 0 ∷ []) s1 s2 f1 f2) same y)))
+
+-- Outcomes
+
+pub OnErr-from : {T E : Type 0} (r : Result T E) (P : Type 0) → P → OnErr r P
+OnErr-from (Ok x) P h = tt
+OnErr-from (Err e) P h = h
+
+pub OnOk-map : {T E : Type 0} (r : Result T E) (P Q : Type 0) → (P → Q) → OnOk r P → OnOk r Q
+OnOk-map (Ok x) P Q f h = f h
+OnOk-map (Err e) P Q f h = tt
 
 -- The whole script
 

@@ -33,7 +33,7 @@ pub fn is_silent(line: &[u8]) -> bool
 fn is_visible(bytes: &[u8]) -> bool
     ensures { result ≡ list_all is_visible bytes.now }
 {
-    bytes.iter().all(|byte| *byte >= 0x21 && *byte <= 0x7E)
+    bytes.iter().all(|byte| matches!(byte, 0x21..=0x7E))
 }
 
 /// Whether the bytes are the name of a file: 1 to 255 visible ASCII characters.
