@@ -7,18 +7,22 @@ use Rattle.std.specs.Fmt.{decimal}
 use Rattle.std.specs.Option.{option_map_or, option_and_then}
 use Rattle.iso8211_records.specs.RecordFile.{record_file_of}
 use Rattle.std.proofs.lemmas.Bool.Decides.{nat_tests}
-use Rattle.std.proofs.lemmas.List.{append-nil, take-append-drop, take_more}
+use Rattle.std.proofs.lemmas.List.{append-nil, take-append-drop, take_more, take-take}
 use Rattle.std.proofs.lemmas.List.Elements.{All-nil, All-cons, All-append}
 use Rattle.std.proofs.lemmas.List.Sums.{sum_by-append, sum_by-cons}
 use Rattle.std.proofs.lemmas.List.Splits.{slice_split_at, slice_split_none, length-slice_split}
 use Rattle.std.proofs.Math.Seq.{take-append-add, take-append_seam}
-use Rattle.chart_ports.specs.Count.{LAST, Rose, RoseBy}
+use Rattle.chart_ports.specs.Count.{LAST, IsSteady, Rose, RoseBy}
 use Rattle.chart_ports.specs.Said.{SaysFront}
 use Rattle.chart_ports.specs.declared.shelf.Fetched.{Fetched}
 use Rattle.chart_ports.specs.declared.shelf.Fetched.TheVariants.{Bytes, Absent, Long}
 use Rattle.ecdis_cli.specs.declared.reply.Reply.{Reply}
 use Rattle.ecdis_cli.specs.declared.reply.Reply.TheVariants.{BadLine, ShelfFault, Unread, Info}
 use Rattle.ecdis_cli.specs.declared.general.General.{General}
+use Rattle.ecdis_cli.specs.declared.stop.Stop.{Stop}
+use Rattle.ecdis_cli.specs.declared.stop.Stop.TheVariants.{DeskFault, NoMemory}
+use Rattle.ecdis_cli.specs.Stop.{status_of}
+use Rattle.ecdis_cli.specs.declared.status.Status.TheVariants as stops
 use Rattle.ecdis_cli.specs.declared.status.Status.{Status}
 use Rattle.ecdis_cli.specs.declared.status.Status.TheVariants.{Done}
 use Rattle.ecdis_cli.specs.General.{general_of}
@@ -62,10 +66,10 @@ cut_at_feed : (bytes : List ℕ) → Unbroken bytes ⊎ Fed bytes
 cut_at_feed [] = inl (All-nil (λ byte. eqb byte 10 ≡ false))
 cut_at_feed (byte ∷ bytes) =
     elim (eqb byte 10) as (λ v. eqb byte 10 ≡ v → Unbroken (byte ∷ bytes) ⊎ Fed (byte ∷ bytes)) [
-      true ↦ λ e. inr (record { line = []; rest = bytes; unbroken = All-nil (λ b. eqb b 10 ≡ false); whole = ap (λ (b : ℕ). b ∷ bytes) (is_ten byte e) })
-    | false ↦ λ e. elim (cut_at_feed bytes) as (λ _. Unbroken (byte ∷ bytes) ⊎ Fed (byte ∷ bytes)) [
-        inl h ↦ inl (All-cons (λ b. eqb b 10 ≡ false) byte bytes e h)
-      | inr f ↦ inr (record { line = byte ∷ f.line; rest = f.rest; unbroken = All-cons (λ b. eqb b 10 ≡ false) byte f.line e f.unbroken; whole = ap (λ (l : List ℕ). byte ∷ l) f.whole })
+      | true ↦ λ e. inr (record { line = []; rest = bytes; unbroken = All-nil (λ b. eqb b 10 ≡ false); whole = ap (λ (b : ℕ). b ∷ bytes) (is_ten byte e) })
+      | false ↦ λ e. elim (cut_at_feed bytes) as (λ _. Unbroken (byte ∷ bytes) ⊎ Fed (byte ∷ bytes)) [
+        | inl h ↦ inl (All-cons (λ b. eqb b 10 ≡ false) byte bytes e h)
+        | inr f ↦ inr (record { line = byte ∷ f.line; rest = f.rest; unbroken = All-cons (λ b. eqb b 10 ≡ false) byte f.line e f.unbroken; whole = ap (λ (l : List ℕ). byte ∷ l) f.whole })
       ]
     ] refl
 
@@ -107,7 +111,7 @@ output-last files number [] marks h = output-nil files number marks
 output-last files number (byte ∷ line) marks h =
     let some : eqb (length (byte ∷ line)) 0 ≡ false = grind (arith, nat_tests) in
     ap (λ (ls : List (List ℕ)). joined (replies_from files number ls marks))
-        (lines-last (byte ∷ line) h ∙ ap (λ (b : Bool). cond b [] ((byte ∷ line) ∷ [])) some)
+    (lines-last (byte ∷ line) h ∙ ap (λ (b : Bool). cond b [] ((byte ∷ line) ∷ [])) some)
     ∙ output-one files number (byte ∷ line) marks
 
 -- Long lines
@@ -134,8 +138,8 @@ reply_to-long files number line mark h =
 length-strip : (line : List ℕ) → length line ≤ length (strip_carriage_return line) + 1
 length-strip line =
     elim (eqb (get_or line (length line - 1) 0) 13) as (λ v. length line ≤ length (cond v (take (length line - 1) line) line) + 1) [
-      true ↦ omega (arith, length-take-le (length line - 1) line (omega arith))
-    | false ↦ omega arith
+      | true ↦ omega (arith, length-take-le (length line - 1) line (omega arith))
+      | false ↦ omega arith
     ]
 
 is_silent-take : (n : ℕ) (line : List ℕ) → 1 ≤ n → is_silent (take n line) ≡ is_silent line
@@ -146,8 +150,8 @@ is_silent-take (suc n) (byte ∷ line) h = refl
 is_silent-strip : (line : List ℕ) → 2 ≤ length line → is_silent (strip_carriage_return line) ≡ is_silent line
 is_silent-strip line h =
     elim (eqb (get_or line (length line - 1) 0) 13) as (λ v. is_silent (cond v (take (length line - 1) line) line) ≡ is_silent line) [
-      true ↦ is_silent-take (length line - 1) line (omega arith)
-    | false ↦ refl
+      | true ↦ is_silent-take (length line - 1) line (omega arith)
+      | false ↦ refl
     ]
 
 is_silent-append : (line more : List ℕ) → 1 ≤ length line → is_silent (line ++ more) ≡ is_silent line
@@ -166,7 +170,7 @@ reply_to-begun_strip : (files : Files) (number : ℕ) (line more : List ℕ) (ma
 reply_to-begun_strip files number line more mark h =
     reply_to-long files number (strip_carriage_return (line ++ more)) mark (omega (arith, length-append line more, length-strip (line ++ more)))
     ∙ ap (λ (b : Bool). cond b [] (printed (BadLine number)))
-        (is_silent-strip (line ++ more) (omega (arith, length-append line more)) ∙ is_silent-append line more (omega arith))
+    (is_silent-strip (line ++ more) (omega (arith, length-append line more)) ∙ is_silent-append line more (omega arith))
 
 -- the rest of a long line changes nothing
 output-long : (files : Files) (number : ℕ) (line : List ℕ) (byte : ℕ) (rest : List ℕ) (marks : List Bool)
@@ -174,21 +178,21 @@ output-long : (files : Files) (number : ℕ) (line : List ℕ) (byte : ℕ) (res
     → output_from files number (line ++ byte ∷ rest) marks ≡ output_from files number (line ++ rest) marks
 output-long files number line byte rest marks long h ne =
     elim (cut_at_feed rest) as (λ _. output_from files number (line ++ byte ∷ rest) marks ≡ output_from files number (line ++ rest) marks) [
-      inl u ↦
-        output-last files number (line ++ byte ∷ rest) marks (All-append (λ b. eqb b 10 ≡ false) line (byte ∷ rest) h (All-cons (λ b. eqb b 10 ≡ false) byte rest ne u))
-        ∙ reply_to-begun files number line (byte ∷ rest) (first_mark marks) long
-        ∙ sym (output-last files number (line ++ rest) marks (All-append (λ b. eqb b 10 ≡ false) line rest h u)
-            ∙ reply_to-begun files number line rest (first_mark marks) long)
-    | inr f ↦
-        let tail : List ℕ = output_from files (number + 1) f.rest (other_marks marks) in
-        let begun : (more : List ℕ) → Unbroken more → output_from files number (line ++ (more ++ 10 ∷ f.rest)) marks ≡ cond (is_silent line) [] (printed (BadLine number)) ++ tail
-            = λ (more : List ℕ) (um : Unbroken more).
-              ap (λ (l : List ℕ). output_from files number l marks) (sym (append_assoc line more (10 ∷ f.rest)))
-              ∙ output-feed files number (line ++ more) f.rest marks (All-append (λ b. eqb b 10 ≡ false) line more h um)
-              ∙ ap (λ (l : List ℕ). l ++ tail) (reply_to-begun_strip files number line more (first_mark marks) long) in
-        ap (λ (l : List ℕ). output_from files number (line ++ byte ∷ l) marks) f.whole
-        ∙ begun (byte ∷ f.line) (All-cons (λ b. eqb b 10 ≡ false) byte f.line ne f.unbroken)
-        ∙ sym (ap (λ (l : List ℕ). output_from files number (line ++ l) marks) f.whole ∙ begun f.line f.unbroken)
+      | inl u ↦
+          output-last files number (line ++ byte ∷ rest) marks (All-append (λ b. eqb b 10 ≡ false) line (byte ∷ rest) h (All-cons (λ b. eqb b 10 ≡ false) byte rest ne u))
+          ∙ reply_to-begun files number line (byte ∷ rest) (first_mark marks) long
+          ∙ sym (output-last files number (line ++ rest) marks (All-append (λ b. eqb b 10 ≡ false) line rest h u)
+          ∙ reply_to-begun files number line rest (first_mark marks) long)
+      | inr f ↦
+          let tail : List ℕ = output_from files (number + 1) f.rest (other_marks marks) in
+          let begun : (more : List ℕ) → Unbroken more → output_from files number (line ++ (more ++ 10 ∷ f.rest)) marks ≡ cond (is_silent line) [] (printed (BadLine number)) ++ tail
+          = λ (more : List ℕ) (um : Unbroken more).
+          ap (λ (l : List ℕ). output_from files number l marks) (sym (append_assoc line more (10 ∷ f.rest)))
+          ∙ output-feed files number (line ++ more) f.rest marks (All-append (λ b. eqb b 10 ≡ false) line more h um)
+          ∙ ap (λ (l : List ℕ). l ++ tail) (reply_to-begun_strip files number line more (first_mark marks) long) in
+          ap (λ (l : List ℕ). output_from files number (line ++ byte ∷ l) marks) f.whole
+          ∙ begun (byte ∷ f.line) (All-cons (λ b. eqb b 10 ≡ false) byte f.line ne f.unbroken)
+          ∙ sym (ap (λ (l : List ℕ). output_from files number (line ++ l) marks) f.whole ∙ begun f.line f.unbroken)
     ]
 
 -- Fronts
@@ -199,19 +203,26 @@ front-whole before bytes now e = (length bytes, e ∙ ap (λ (l : List ℕ). bef
 front-append : (before bytes more now : List ℕ) → SaysFront before bytes now → SaysFront before (bytes ++ more) now
 front-append before bytes more now (n, e) =
     let split : bytes ++ more ≡ take n bytes ++ (drop n bytes ++ more)
-        = ap (λ (l : List ℕ). l ++ more) (sym (take-append-drop n bytes)) ∙ append_assoc (take n bytes) (drop n bytes) more in
-    (length (take n bytes), e ∙ ap (λ (l : List ℕ). before ++ l)
-        (sym (ap (λ (l : List ℕ). take (length (take n bytes)) l) split ∙ take-append_seam (take n bytes) (drop n bytes ++ more))))
+    = ap (λ (l : List ℕ). l ++ more) (sym (take-append-drop n bytes)) ∙ append_assoc (take n bytes) (drop n bytes) more in (
+      length (take n bytes),
+      e ∙ ap (λ (l : List ℕ). before ++ l)
+          (sym (ap (λ (l : List ℕ). take (length (take n bytes)) l) split ∙ take-append_seam (take n bytes) (drop n bytes ++ more))),
+    )
 
 front-after : (before said bytes middle now : List ℕ) → middle ≡ before ++ said → SaysFront middle bytes now → SaysFront before (said ++ bytes) now
-front-after before said bytes middle now e (n, f) =
-    (length said + n, f ∙ ap (λ (l : List ℕ). l ++ take n bytes) e ∙ append_assoc before said (take n bytes)
-        ∙ ap (λ (l : List ℕ). before ++ l) (sym (take-append-add said bytes n)))
+front-after before said bytes middle now e (n, f) = (
+  length said + n,
+  f ∙ ap (λ (l : List ℕ). l ++ take n bytes) e ∙ append_assoc before said (take n bytes)
+      ∙ ap (λ (l : List ℕ). before ++ l) (sym (take-append-add said bytes n)),
+)
 
 front-same : (before bytes others now : List ℕ) → bytes ≡ others → SaysFront before bytes now → SaysFront before others now
 front-same before bytes others now e h = subst (λ (l : List ℕ). SaysFront before l now) e h
 
 -- Counts
+
+decided : (a b : ℕ) → (a ≤ b) ⊎ (b ≤ a)
+decided a b = elim (leb a b) as (λ v. leb a b ≡ v → (a ≤ b) ⊎ (b ≤ a)) [ true ↦ λ e. inl (grind (arith, nat_tests)) | false ↦ λ e. inr (grind (arith, nat_tests)) ] refl
 
 rose-none : (before now : ℕ) → before ≤ now → RoseBy 0 before now
 rose-none before now h = inl (omega arith)
@@ -266,8 +277,8 @@ reply_to-not_failed : (files : Files) (number : ℕ) (line : List ℕ) → is_fe
 unfolding reply_to
 reply_to-not_failed files number line =
     elim (is_silent line) as (λ v. is_fetch_failure (cond v [] (printed (answer_to files number line false))) ≡ false) [
-      true ↦ refl
-    | false ↦ reply-not_failed (answer_to files number line false) (answer_to-not_fault files number line)
+      | true ↦ refl
+      | false ↦ reply-not_failed (answer_to files number line false) (answer_to-not_fault files number line)
     ]
 
 failures-cons : (reply : List ℕ) (more : List (List ℕ)) → fetch_failures (reply ∷ more) ≡ cond (is_fetch_failure reply) 1 0 + fetch_failures more
@@ -276,7 +287,7 @@ failures-cons reply more = sum_by-cons (λ r. cond (is_fetch_failure r) 1 0) rep
 failures-cons_any : (reply : List ℕ) (more : List (List ℕ)) (n : ℕ) → fetch_failures more ≤ n → fetch_failures (reply ∷ more) ≤ 1 + n
 failures-cons_any reply more n h =
     subst (λ (k : ℕ). k ≤ 1 + n) (sym (failures-cons reply more))
-        (elim (is_fetch_failure reply) as (λ v. cond v 1 0 + fetch_failures more ≤ 1 + n) [ true ↦ omega arith | false ↦ omega arith ])
+    (elim (is_fetch_failure reply) as (λ v. cond v 1 0 + fetch_failures more ≤ 1 + n) [ true ↦ omega arith | false ↦ omega arith ])
 
 failures-cons_not : (reply : List ℕ) (more : List (List ℕ)) (n : ℕ) → is_fetch_failure reply ≡ false → fetch_failures more ≤ n → fetch_failures (reply ∷ more) ≤ n
 failures-cons_not reply more n e h =
@@ -289,10 +300,10 @@ failures-le-marked files number (line ∷ more) [] =
     failures-cons_not (reply_to files number line false) (replies_from files (number + 1) more []) (marked []) (reply_to-not_failed files number line) (failures-le-marked files (number + 1) more [])
 failures-le-marked files number (line ∷ more) (true ∷ marks) =
     subst (λ (k : ℕ). fetch_failures (replies_from files number (line ∷ more) (true ∷ marks)) ≤ k) (sym (sum_by-cons (λ mark. cond mark 1 0) true marks))
-        (failures-cons_any (reply_to files number line true) (replies_from files (number + 1) more marks) (marked marks) (failures-le-marked files (number + 1) more marks))
+    (failures-cons_any (reply_to files number line true) (replies_from files (number + 1) more marks) (marked marks) (failures-le-marked files (number + 1) more marks))
 failures-le-marked files number (line ∷ more) (false ∷ marks) =
     subst (λ (k : ℕ). fetch_failures (replies_from files number (line ∷ more) (false ∷ marks)) ≤ k) (sym (sum_by-cons (λ mark. cond mark 1 0) false marks ∙ zero-add (marked marks)))
-        (failures-cons_not (reply_to files number line false) (replies_from files (number + 1) more marks) (marked marks) (reply_to-not_failed files number line) (failures-le-marked files (number + 1) more marks))
+    (failures-cons_not (reply_to files number line false) (replies_from files (number + 1) more marks) (marked marks) (reply_to-not_failed files number line) (failures-le-marked files (number + 1) more marks))
 
 -- Steps
 
@@ -322,7 +333,7 @@ Halted-feed files number line stripped before now a b later h e x = record {
   marks = x.mark ∷ [];
   front = λ rest. front-same before _ _ now
       (sym (output-feed files number line rest (x.mark ∷ []) h
-          ∙ ap (λ (l : List ℕ). reply_to files number l x.mark ++ output_from files (number + 1) rest []) (sym e)))
+      ∙ ap (λ (l : List ℕ). reply_to files number l x.mark ++ output_from files (number + 1) rest []) (sym e)))
       (front-append before (reply_to files number stripped x.mark) (output_from files (number + 1) rest []) now x.front);
   failed = rose-mark x.mark a b later x.cause;
 }
@@ -397,7 +408,7 @@ Halted-more files number line bytes more s0 s1 f0 f1 x = record {
 pub Halted-start : (files : Files) (number : ℕ) (line bytes before : List ℕ) (faults : ℕ) → Halted files number line bytes before before faults faults
 Halted-start files number line bytes before faults =
     Halted-more files number line [] bytes before before faults faults
-        (Halted-here files number number line line [] before before faults faults (Advanced-start files number line before faults))
+    (Halted-here files number number line line [] before before faults faults (Advanced-start files number line before faults))
 
 pub Advanced-byte : (files : Files) (number : ℕ) (line line' : List ℕ) (byte : ℕ) (before : List ℕ) (faults : ℕ)
     → Unbroken line → eqb byte 10 ≡ false → line' ≡ cond (ltb (length line) 1026) (line ++ byte ∷ []) line
@@ -405,10 +416,10 @@ pub Advanced-byte : (files : Files) (number : ℕ) (line line' : List ℕ) (byte
 Advanced-byte files number line line' byte before faults h ne e =
     let P : List ℕ → Type 0 = λ (l : List ℕ). Advanced files number line (byte ∷ []) number l before before faults faults in
     let cases : (b : Bool) → ltb (length line) 1026 ≡ b → P (cond b (line ++ byte ∷ []) line)
-        = λ (b : Bool). elim b as (λ v. ltb (length line) 1026 ≡ v → P (cond v (line ++ byte ∷ []) line)) [
-            true ↦ λ t. Advanced-kept files number line byte before faults
-          | false ↦ λ t. Advanced-dropped files number line byte before faults (grind (arith, nat_tests)) h ne
-          ] in
+    = λ (b : Bool). elim b as (λ v. ltb (length line) 1026 ≡ v → P (cond v (line ++ byte ∷ []) line)) [
+      | true ↦ λ t. Advanced-kept files number line byte before faults
+      | false ↦ λ t. Advanced-dropped files number line byte before faults (grind (arith, nat_tests)) h ne
+    ] in
     subst P (sym e) (cases (ltb (length line) 1026) refl)
 
 -- one byte more of a slice
@@ -417,18 +428,18 @@ pub Advanced-next : (files files' : Files) (n0 n1 n2 : ℕ) (l0 l1 l2 bytes s0 s
     → Advanced files n0 l0 (take (i + 1) bytes) n2 l2 s0 s2 f0 f2
 Advanced-next files files' n0 n1 n2 l0 l1 l2 bytes s0 s1 s2 f0 f1 f2 i same low high within x y =
     subst (λ (bs : List ℕ). Advanced files n0 l0 bs n2 l2 s0 s2 f0 f2) (sym (take_more bytes i 0 within))
-        (Advanced-then files n0 n1 n2 l0 l1 l2 (take i bytes) (get_or bytes i 0 ∷ []) s0 s1 s2 f0 f1 f2 low high x
-            (subst (λ (fs : Files). Advanced fs n1 l1 (get_or bytes i 0 ∷ []) n2 l2 s1 s2 f1 f2) same y))
+    (Advanced-then files n0 n1 n2 l0 l1 l2 (take i bytes) (get_or bytes i 0 ∷ []) s0 s1 s2 f0 f1 f2 low high x
+    (subst (λ (fs : Files). Advanced fs n1 l1 (get_or bytes i 0 ∷ []) n2 l2 s1 s2 f1 f2) same y))
 
 pub Halted-next : (files files' : Files) (n0 n1 : ℕ) (l0 l1 bytes s0 s1 s2 : List ℕ) (f0 f1 f2 i : ℕ) → files' ≡ files → f0 ≤ f1 → f1 ≤ f2 → i < length bytes
     → Advanced files n0 l0 (take i bytes) n1 l1 s0 s1 f0 f1 → Halted files' n1 l1 (get_or bytes i 0 ∷ []) s1 s2 f1 f2
     → Halted files n0 l0 bytes s0 s2 f0 f2
 Halted-next files files' n0 n1 l0 l1 bytes s0 s1 s2 f0 f1 f2 i same low high within x y =
     subst (λ (bs : List ℕ). Halted files n0 l0 bs s0 s2 f0 f2)
-        (ap (λ (l : List ℕ). l ++ drop (i + 1) bytes) (sym (take_more bytes i 0 within)) ∙ take-append-drop (i + 1) bytes)
-        (Halted-more files n0 l0 (take i bytes ++ get_or bytes i 0 ∷ []) (drop (i + 1) bytes) s0 s2 f0 f2
-            (Halted-then files n0 n1 l0 l1 (take i bytes) (get_or bytes i 0 ∷ []) s0 s1 s2 f0 f1 f2 low high x
-                (subst (λ (fs : Files). Halted fs n1 l1 (get_or bytes i 0 ∷ []) s1 s2 f1 f2) same y)))
+    (ap (λ (l : List ℕ). l ++ drop (i + 1) bytes) (sym (take_more bytes i 0 within)) ∙ take-append-drop (i + 1) bytes)
+    (Halted-more files n0 l0 (take i bytes ++ get_or bytes i 0 ∷ []) (drop (i + 1) bytes) s0 s2 f0 f2
+    (Halted-then files n0 n1 l0 l1 (take i bytes) (get_or bytes i 0 ∷ []) s0 s1 s2 f0 f1 f2 low high x
+    (subst (λ (fs : Files). Halted fs n1 l1 (get_or bytes i 0 ∷ []) s1 s2 f1 f2) same y)))
 
 -- Outcomes
 
@@ -455,41 +466,41 @@ pub Replied-done : (files : Files) (number : ℕ) (line script s0 s1 s2 : List �
     → Advanced files 1 [] script number line s0 s1 f0 f1 → Answered files number line s1 s2 f1 f2 → Replied script files status s0 s2 f0 f2
 Replied-done files number line script s0 s1 s2 f0 f1 f2 status low high h x y =
     let whole : joined (replies_of files script (x.marks ++ y.mark ∷ [])) ≡ x.replies ++ reply_to files number line y.mark
-        = replies_of-joined files script (x.marks ++ y.mark ∷ [])
-          ∙ ap (λ (l : List ℕ). output_from files 1 l (x.marks ++ y.mark ∷ [])) (sym (append-nil script))
-          ∙ x.ahead [] (y.mark ∷ [])
-          ∙ ap (λ (l : List ℕ). x.replies ++ output_from files number l (y.mark ∷ [])) (append-nil line)
-          ∙ ap (λ (l : List ℕ). x.replies ++ l) (output-last files number line (y.mark ∷ []) h) in
+    = replies_of-joined files script (x.marks ++ y.mark ∷ [])
+    ∙ ap (λ (l : List ℕ). output_from files 1 l (x.marks ++ y.mark ∷ [])) (sym (append-nil script))
+    ∙ x.ahead [] (y.mark ∷ [])
+    ∙ ap (λ (l : List ℕ). x.replies ++ output_from files number l (y.mark ∷ [])) (append-nil line)
+    ∙ ap (λ (l : List ℕ). x.replies ++ l) (output-last files number line (y.mark ∷ []) h) in
     let said : s2 ≡ s0 ++ joined (replies_of files script (x.marks ++ y.mark ∷ []))
-        = y.said ∙ ap (λ (l : List ℕ). l ++ reply_to files number line y.mark) x.said ∙ append_assoc s0 x.replies (reply_to files number line y.mark)
-          ∙ ap (λ (l : List ℕ). s0 ++ l) (sym whole) in
+    = y.said ∙ ap (λ (l : List ℕ). l ++ reply_to files number line y.mark) x.said ∙ append_assoc s0 x.replies (reply_to files number line y.mark)
+    ∙ ap (λ (l : List ℕ). s0 ++ l) (sym whole) in
     record {
-  marks = x.marks ++ y.mark ∷ [];
-  all = λ _. said;
-  front = front-whole s0 _ s2 said;
-  failures = replies_of-failures files script (x.marks ++ y.mark ∷ []) f0 f2
-      (subst (λ (k : ℕ). RoseBy k f0 f2) (sym (marked-append x.marks (y.mark ∷ [])))
+      marks = x.marks ++ y.mark ∷ [];
+      all = λ _. said;
+      front = front-whole s0 _ s2 said;
+      failures = replies_of-failures files script (x.marks ++ y.mark ∷ []) f0 f2
+          (subst (λ (k : ℕ). RoseBy k f0 f2) (sym (marked-append x.marks (y.mark ∷ [])))
           (rose-more (marked x.marks) (marked (y.mark ∷ [])) f0 f1 f2 low high x.failed (rose-mark y.mark f1 f2 high y.cause)));
-}
+    }
 
 -- the last line was not
 pub Replied-cut : (files : Files) (number : ℕ) (line script s0 s1 s2 : List ℕ) (f0 f1 f2 : ℕ) (status : Status) → status ≢ Done → f0 ≤ f1 → f1 ≤ f2 → Unbroken line
     → Advanced files 1 [] script number line s0 s1 f0 f1 → Interrupted files number line s1 s2 f1 f2 → Replied script files status s0 s2 f0 f2
 Replied-cut files number line script s0 s1 s2 f0 f1 f2 status not_done low high h x y =
     let whole : joined (replies_of files script (x.marks ++ y.mark ∷ [])) ≡ x.replies ++ reply_to files number line y.mark
-        = replies_of-joined files script (x.marks ++ y.mark ∷ [])
-          ∙ ap (λ (l : List ℕ). output_from files 1 l (x.marks ++ y.mark ∷ [])) (sym (append-nil script))
-          ∙ x.ahead [] (y.mark ∷ [])
-          ∙ ap (λ (l : List ℕ). x.replies ++ output_from files number l (y.mark ∷ [])) (append-nil line)
-          ∙ ap (λ (l : List ℕ). x.replies ++ l) (output-last files number line (y.mark ∷ []) h) in
+    = replies_of-joined files script (x.marks ++ y.mark ∷ [])
+    ∙ ap (λ (l : List ℕ). output_from files 1 l (x.marks ++ y.mark ∷ [])) (sym (append-nil script))
+    ∙ x.ahead [] (y.mark ∷ [])
+    ∙ ap (λ (l : List ℕ). x.replies ++ output_from files number l (y.mark ∷ [])) (append-nil line)
+    ∙ ap (λ (l : List ℕ). x.replies ++ l) (output-last files number line (y.mark ∷ []) h) in
     record {
-  marks = x.marks ++ y.mark ∷ [];
-  all = λ d. absurd (not_done d);
-  front = front-same s0 _ _ s2 (sym whole) (front-after s0 x.replies (reply_to files number line y.mark) s1 s2 x.said y.front);
-  failures = replies_of-failures files script (x.marks ++ y.mark ∷ []) f0 f2
-      (subst (λ (k : ℕ). RoseBy k f0 f2) (sym (marked-append x.marks (y.mark ∷ [])))
+      marks = x.marks ++ y.mark ∷ [];
+      all = λ d. absurd (not_done d);
+      front = front-same s0 _ _ s2 (sym whole) (front-after s0 x.replies (reply_to files number line y.mark) s1 s2 x.said y.front);
+      failures = replies_of-failures files script (x.marks ++ y.mark ∷ []) f0 f2
+          (subst (λ (k : ℕ). RoseBy k f0 f2) (sym (marked-append x.marks (y.mark ∷ [])))
           (rose-more (marked x.marks) (marked (y.mark ∷ [])) f0 f1 f2 low high x.failed (rose-mark y.mark f1 f2 high y.cause)));
-}
+    }
 
 -- the run ended before the script's end
 pub Replied-halted : (files : Files) (script bytes rest s0 s1 : List ℕ) (f0 f1 : ℕ) (status : Status) → status ≢ Done → script ≡ bytes ++ rest
@@ -500,3 +511,109 @@ Replied-halted files script bytes rest s0 s1 f0 f1 status not_done e x = record 
   front = front-same s0 _ _ s1 (sym (replies_of-joined files script x.marks ∙ ap (λ (l : List ℕ). output_from files 1 l x.marks) e)) (x.front rest);
   failures = replies_of-failures files script x.marks f0 f1 x.failed;
 }
+
+-- A run under way: these bytes were taken
+pub record Underway (files : Files) (script left : List ℕ) (number : ℕ) (line before now : List ℕ) (faults_before faults_now : ℕ) : Type 0 where
+  pub taken : List ℕ
+  pub split : script ≡ taken ++ left
+  pub advanced : Advanced files 1 [] taken number line before now faults_before faults_now
+
+pub Underway-start : (files : Files) (script : List ℕ) (number : ℕ) (line before : List ℕ) (faults : ℕ) → number ≡ 1 → line ≡ [] → Underway files script script number line before before faults faults
+Underway-start files script number line before faults one none = record {
+  taken = [];
+  split = refl;
+  advanced = subst (λ (n : ℕ). Advanced files 1 [] [] n line before before faults faults) (sym one)
+      (subst (λ (l : List ℕ). Advanced files 1 [] [] 1 l before before faults faults) (sym none) (Advanced-start files 1 [] before faults));
+}
+
+pub Underway-next : (files files' : Files) (script left0 left1 bytes : List ℕ) (n1 n2 : ℕ) (l1 l2 s0 s1 s2 : List ℕ) (f0 f1 f2 : ℕ)
+    → files' ≡ files → f0 ≤ f1 → f1 ≤ f2 → left0 ≡ bytes ++ left1
+    → Underway files script left0 n1 l1 s0 s1 f0 f1 → Advanced files' n1 l1 bytes n2 l2 s1 s2 f1 f2
+    → Underway files script left1 n2 l2 s0 s2 f0 f2
+Underway-next files files' script left0 left1 bytes n1 n2 l1 l2 s0 s1 s2 f0 f1 f2 same low high e x y = record {
+  taken = x.taken ++ bytes;
+  split = x.split ∙ ap (λ (l : List ℕ). x.taken ++ l) e ∙ sym (append_assoc x.taken bytes left1);
+  advanced = Advanced-then files 1 n1 n2 [] l1 l2 x.taken bytes s0 s1 s2 f0 f1 f2 low high x.advanced
+      (subst (λ (fs : Files). Advanced fs n1 l1 bytes n2 l2 s1 s2 f1 f2) same y);
+}
+
+-- the run ends at its place
+pub Underway-stopped : (files : Files) (script left : List ℕ) (number : ℕ) (line s0 s1 : List ℕ) (f0 f1 : ℕ) (status : Status) → status ≢ Done
+    → Underway files script left number line s0 s1 f0 f1 → Replied script files status s0 s1 f0 f1
+Underway-stopped files script left number line s0 s1 f0 f1 status not_done x =
+    Replied-halted files script x.taken left s0 s1 f0 f1 status not_done x.split (Halted-here files 1 number [] line x.taken s0 s1 f0 f1 x.advanced)
+
+-- the run ends within further bytes
+pub Underway-halted : (files files' : Files) (script left0 left1 bytes : List ℕ) (number : ℕ) (line s0 s1 s2 : List ℕ) (f0 f1 f2 : ℕ) (status : Status) → status ≢ Done
+    → files' ≡ files → f0 ≤ f1 → f1 ≤ f2 → left0 ≡ bytes ++ left1
+    → Underway files script left0 number line s0 s1 f0 f1 → Halted files' number line bytes s1 s2 f1 f2
+    → Replied script files status s0 s2 f0 f2
+Underway-halted files files' script left0 left1 bytes number line s0 s1 s2 f0 f1 f2 status not_done same low high e x y =
+    Replied-halted files script (x.taken ++ bytes) left1 s0 s2 f0 f2 status not_done
+    (x.split ∙ ap (λ (l : List ℕ). x.taken ++ l) e ∙ sym (append_assoc x.taken bytes left1))
+    (Halted-then files 1 number [] line x.taken bytes s0 s1 s2 f0 f1 f2 low high x.advanced
+    (subst (λ (fs : Files). Halted fs number line bytes s1 s2 f1 f2) same y))
+
+-- the script ends here
+all_taken : (script taken left : List ℕ) → script ≡ taken ++ left → left ≡ [] → taken ≡ script
+all_taken script taken left e none = sym (e ∙ ap (λ (l : List ℕ). taken ++ l) none ∙ append-nil taken)
+
+pub Underway-done : (files files' : Files) (script left : List ℕ) (number : ℕ) (line s0 s1 s2 : List ℕ) (f0 f1 f2 : ℕ) (status : Status)
+    → files' ≡ files → f0 ≤ f1 → f1 ≤ f2 → Unbroken line → left ≡ []
+    → Underway files script left number line s0 s1 f0 f1 → Answered files' number line s1 s2 f1 f2
+    → Replied script files status s0 s2 f0 f2
+Underway-done files files' script left number line s0 s1 s2 f0 f1 f2 status same low high h none x y =
+    Replied-done files number line script s0 s1 s2 f0 f1 f2 status low high h
+    (subst (λ (bs : List ℕ). Advanced files 1 [] bs number line s0 s1 f0 f1) (all_taken script x.taken left x.split none) x.advanced)
+    (subst (λ (fs : Files). Answered fs number line s1 s2 f1 f2) same y)
+
+pub Underway-cut : (files files' : Files) (script left : List ℕ) (number : ℕ) (line s0 s1 s2 : List ℕ) (f0 f1 f2 : ℕ) (status : Status) → status ≢ Done
+    → files' ≡ files → f0 ≤ f1 → f1 ≤ f2 → Unbroken line → left ≡ []
+    → Underway files script left number line s0 s1 f0 f1 → Interrupted files' number line s1 s2 f1 f2
+    → Replied script files status s0 s2 f0 f2
+Underway-cut files files' script left number line s0 s1 s2 f0 f1 f2 status not_done same low high h none x y =
+    Replied-cut files number line script s0 s1 s2 f0 f1 f2 status not_done low high h
+    (subst (λ (bs : List ℕ). Advanced files 1 [] bs number line s0 s1 f0 f1) (all_taken script x.taken left x.split none) x.advanced)
+    (subst (λ (fs : Files). Interrupted fs number line s1 s2 f1 f2) same y)
+
+-- What a source gave
+
+pub pull-part : (m n : ℕ) (buffer left0 left1 : List ℕ) → m ≤ n → left0 ≡ take n buffer ++ left1 → left0 ≡ take m buffer ++ (drop m (take n buffer) ++ left1)
+pull-part m n buffer left0 left1 h e =
+    e ∙ ap (λ (l : List ℕ). l ++ left1) (sym (take-append-drop m (take n buffer)) ∙ ap (λ (l : List ℕ). l ++ drop m (take n buffer)) (take-take m n buffer h))
+    ∙ append_assoc (take m buffer) (drop m (take n buffer)) left1
+
+pub pull-whole : (m n : ℕ) (buffer left0 left1 : List ℕ) → m ≡ n → left0 ≡ take n buffer ++ left1 → left0 ≡ take m buffer ++ left1
+pull-whole m n buffer left0 left1 h e = e ∙ ap (λ (k : ℕ). take k buffer ++ left1) (sym h)
+
+pub length-pull : (n : ℕ) (buffer left0 left1 : List ℕ) → n ≤ length buffer → left0 ≡ take n buffer ++ left1 → length left0 ≡ n + length left1
+length-pull n buffer left0 left1 h e =
+    ap length e ∙ length-append (take n buffer) left1 ∙ ap (λ (k : ℕ). k + length left1) (length-take-le n buffer h)
+
+pub status_of-not_done : (stop : Stop) (status : Status) → status ≡ status_of stop → status ≢ Done
+status_of-not_done DeskFault status e = λ d. let x : stops.DeskFault ≡ Done = sym e ∙ d in cc
+status_of-not_done NoMemory status e = λ d. let x : stops.NoMemory ≡ Done = sym e ∙ d in cc
+
+pub given-more : (m n a b c : ℕ) → RoseBy m a b → c ≡ min (b + n) LAST → RoseBy (m + n) a c
+given-more m n a b c (inl x) e = elim (decided (b + n) LAST) as (λ _. RoseBy (m + n) a c) [ inl h ↦ inl (omega arith) | inr h ↦ inr (omega arith) ]
+given-more m n a b c (inr x) e = inr (omega arith)
+
+-- nothing was read or said
+pub Replied-nothing : (files : Files) (script before : List ℕ) (faults : ℕ) (status : Status) → status ≢ Done → Replied script files status before before faults faults
+Replied-nothing files script before faults status not_done =
+    Underway-stopped files script script 1 [] before before faults faults status not_done (Underway-start files script 1 [] before faults refl refl)
+
+steady : (before now : ℕ) → IsSteady before now → Rose before now → ⊥
+steady before now h (inl x) = omega (arith, h.same)
+steady before now h (inr x) = omega (arith, h.below)
+
+-- where nothing fails the run is done, or there is no memory
+pub complete : (status : Status) (script : List ℕ) (limit s0 s1 d0 d1 : ℕ) → status ≢ stops.Words
+    → (status ≡ stops.ScriptFault → Rose s0 s1) → (status ≡ stops.ScriptLong → limit < length script) → (status ≡ stops.DeskFault → Rose d0 d1)
+    → length script ≤ limit → IsSteady s0 s1 → IsSteady d0 d1 → (status ≡ Done) ⊎ (status ≡ stops.NoMemory)
+complete Done script limit s0 s1 d0 d1 words fault long desk short source said = inl refl
+complete stops.Words script limit s0 s1 d0 d1 words fault long desk short source said = absurd (words refl)
+complete stops.ScriptFault script limit s0 s1 d0 d1 words fault long desk short source said = absurd (steady s0 s1 source (fault refl))
+complete stops.ScriptLong script limit s0 s1 d0 d1 words fault long desk short source said = absurd (let over : limit < length script = long refl in omega arith)
+complete stops.DeskFault script limit s0 s1 d0 d1 words fault long desk short source said = absurd (steady d0 d1 said (desk refl))
+complete stops.NoMemory script limit s0 s1 d0 d1 words fault long desk short source said = inr refl

@@ -30,7 +30,7 @@ visible_ascii byte h = grind (arith, nat_tests)
 pub IsUtf8-from_visible : (bytes : List ℕ) → list_all is_visible bytes ≡ true → IsUtf8 bytes
 IsUtf8-from_visible bytes h =
     IsUtf8-from_ascii bytes (IsAscii-from_all bytes
-        (All-weaker (λ b. is_visible b ≡ true) (λ b. b < 128) visible_ascii bytes (AllPass-from_list_all is_visible bytes h)))
+    (All-weaker (λ b. is_visible b ≡ true) (λ b. b < 128) visible_ascii bytes (AllPass-from_list_all is_visible bytes h)))
 
 IsKey-from_test : (bytes : List ℕ) → (leb 1 (length bytes) && leb (length bytes) 32 && list_all is_visible bytes) ≡ true → IsKey bytes
 IsKey-from_test bytes h = record {
@@ -43,7 +43,7 @@ IsKey-from_test bytes h = record {
 test-from_IsKey : (bytes : List ℕ) → IsKey bytes → (leb 1 (length bytes) && leb (length bytes) 32 && list_all is_visible bytes) ≡ true
 test-from_IsKey bytes h =
     let all : list_all is_visible bytes ≡ true
-        = list_all-from_AllPass is_visible bytes (All-weaker IsVisible (λ b. is_visible b ≡ true) visible_test bytes h.visible) in
+    = list_all-from_AllPass is_visible bytes (All-weaker IsVisible (λ b. is_visible b ≡ true) visible_test bytes h.visible) in
     let low : 1 ≤ length bytes = h.nonempty in
     let high : length bytes ≤ 32 = h.short in
     grind (arith, nat_tests)
@@ -63,7 +63,7 @@ pub stem_of-dot : (name : List ℕ) (n : ℕ) → 0 < n → n ≤ length name
 stem_of-dot name n pos within none dot =
     let some : list_any (λ byte. eqb byte 46) name ≡ true = list_any_at (λ byte. eqb byte 46) name (n - 1) 0 (omega arith) dot in
     let behind : suffix_len (λ byte. not (eqb byte 46)) name ≡ length name - n
-        = suffix_len_is (λ byte. not (eqb byte 46)) name n 0 within (λ k low high. ap not (none k low high)) (λ _. ap not dot) in
+    = suffix_len_is (λ byte. not (eqb byte 46)) name n 0 within (λ k low high. ap not (none k low high)) (λ _. ap not dot) in
     let place : length name - suffix_len (λ byte. not (eqb byte 46)) name - 1 ≡ n - 1 = omega (arith, behind) in
     sym (ap (λ (b : Bool). cond b (before_last (λ byte. eqb byte 46) name) name) some ∙ ap (λ (m : ℕ). take m name) place)
 
@@ -71,7 +71,7 @@ stem_of-dot name n pos within none dot =
 pub stem_of-none : (name : List ℕ) → ((k : ℕ) → k < length name → eqb (get_or name k 0) 46 ≡ false) → name ≡ stem_of name
 stem_of-none name none =
     let no : list_any (λ byte. eqb byte 46) name ≡ false
-        = list_any_none (λ byte. eqb byte 46) name (All-from_get_or (λ byte. eqb byte 46 ≡ false) name 0 none) in
+    = list_any_none (λ byte. eqb byte 46) name (All-from_get_or (λ byte. eqb byte 46 ≡ false) name 0 none) in
     sym (ap (λ (b : Bool). cond b (before_last (λ byte. eqb byte 46) name) name) no)
 
 -- nine digits fit
@@ -86,7 +86,7 @@ pub number-value : (text : List ℕ) (i n : ℕ) → i < length text → n ≡ d
     → 48 ≤ get_or text i 0 → get_or text i 0 ≤ 57 → n * 10 + (get_or text i 0 - 48) ≡ digits_value 10 (take (i + 1) text)
 number-value text i n within value low high =
     let more : digits_value 10 (take (i + 1) text) ≡ digits_value 10 (take i text) * 10 + digit_value (get_or text i 0)
-        = digits_value_more 10 text i within in
+    = digits_value_more 10 text i within in
     let digit : digit_value (get_or text i 0) + 48 ≡ get_or text i 0 = digit_value_digit (get_or text i 0) (low, high) in
     omega (arith, more, digit, value)
 

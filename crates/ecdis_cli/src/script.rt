@@ -44,10 +44,10 @@ pub fn run_script<S: Source, L: Shelf, D: Desk, C: Ledger>(
             Err(Failed) => return Status::ScriptFault,
         };
         if count == 0 {
-            return match reader.finish(alloc, shelf, desk, steps) {
-                Ok(()) => Status::Done,
-                Err(stop) => stop.status(),
-            };
+            if let Err(stop) = reader.finish(alloc, shelf, desk, steps) {
+                return stop.status();
+            }
+            return Status::Done;
         }
         if let Err(stop) = reader.take_all(alloc, &buffer[..count.min(room)], shelf, desk, steps) {
             return stop.status();

@@ -20,7 +20,7 @@ loop-digit-preserved c =
     let low : 48 ≤ get_or c.args.text.now c.loop-digit.digit-index 0 = grind (arith, nat_tests, c.is_ascii_digit.ensures.value, c.if-not-is_ascii_digit.false) in
     let high : get_or c.args.text.now c.loop-digit.digit-index 0 ≤ 57 = grind (arith, nat_tests, c.is_ascii_digit.ensures.value, c.if-not-is_ascii_digit.false) in
     record {
-  value = number-value c.args.text.now c.loop-digit.digit-index _ (omega arith) c.loop-digit.invariant.value low high;
-  small = number-small _ _ _ c.loop-digit.invariant.small (omega arith);
-  digits = number-digits c.args.text.now c.loop-digit.digit-index (omega arith) c.loop-digit.invariant.digits low high;
-}
+      value = number-value c.args.text.now c.loop-digit.digit-index _ (omega arith) c.loop-digit.invariant.value low high;
+      small = number-small _ _ _ c.loop-digit.invariant.small (omega arith);
+      digits = number-digits c.args.text.now c.loop-digit.digit-index (omega arith) c.loop-digit.invariant.digits low high;
+    }

@@ -9,5 +9,5 @@ use Rattle.ecdis_cli.proofs.line.name_on.Goals as goal
 pub unreachable-requires : goal.unreachable-requires
 unreachable-requires c =
     let visible : list_all is_visible (take (length c.args.line.now - 5) (drop 5 c.args.line.now)) ≡ true
-        = grind (arith, nat_tests, c.if-not-is_name.false, c.is_name.ensures) in
+    = grind (arith, nat_tests, c.if-not-is_name.false, c.is_name.ensures) in
     absurd (c.in-Err.ensures.cases.0 (IsUtf8-from_visible _ visible))

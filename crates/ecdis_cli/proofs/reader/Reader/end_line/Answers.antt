@@ -12,6 +12,6 @@ returns-in_err-answer-clause-err g c = λ l d.
 pub returns-clause-ok : goal.returns-clause-ok
 returns-clause-ok g c = λ l d.
     subst (λ (line : List ℕ). Advanced (g.L.Shelf.files c.args.shelf.now) c.args.self.now.number c.args.self.now.line.items (10 ∷ []) (c.args.self.now.number + 1) line
-            (g.D.Desk.said c.args.desk.now) (g.D.Desk.said c.answer.new.desk) (g.L.Shelf.faults c.args.shelf.now) (g.L.Shelf.faults c.answer.new.shelf))
-        (sym c.clear.ensures.items)
-        (Advanced-feed _ _ _ _ _ _ _ _ c.answer.ensures.shelf_later c.args.self.now.unbroken (c.without_carriage_return-line.ensures ∙ ap strip_carriage_return c.deref.ensures.value) (c.in_ok-answer.ensures.said l d))
+    (g.D.Desk.said c.args.desk.now) (g.D.Desk.said c.answer.new.desk) (g.L.Shelf.faults c.args.shelf.now) (g.L.Shelf.faults c.answer.new.shelf))
+    (sym c.clear.ensures.items)
+    (Advanced-feed _ _ _ _ _ _ _ _ c.answer.ensures.shelf_later c.args.self.now.unbroken (c.without_carriage_return-line.ensures ∙ ap strip_carriage_return c.deref.ensures.value) (c.in_ok-answer.ensures.said l d))
