@@ -1,1 +1,5 @@
 pub mod Key
+pub mod Record
+pub mod Change
+pub mod ChangeView
+pub mod Dataset

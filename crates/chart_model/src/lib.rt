@@ -1,12 +1,20 @@
 //! The plain values that the chart kernel speaks of.
 #![tactic(auto)]
 
+mod dataset;
 mod key;
+mod name;
 mod octets;
+mod record;
 mod sequence;
 #[cfg(test)]
 mod tests;
+mod update_record;
 
+pub use dataset::{ChangeList, Dataset, Header};
 pub use key::Key;
+pub use name::{Foid, Name};
 pub use octets::Octets;
+pub use record::{Attr, AttrList, Coord, Coords, Pointer, Pointers, Related, RelatedList};
 pub use sequence::Sequence;
+pub use update_record::{Control, UpdateRecord};

@@ -1,9 +1,13 @@
 -- Counts of faults. They never fall, and one that is kept in 64 bits stays at its last value.
-use Rattle.std.specs.Prelude.{ℕ, ◌+◌, ◌-◌, ◌^◌, ◌<◌, ◌≤◌, ◌≡◌, ◌⊎◌, Result, IsErr}
+use Rattle.std.specs.Prelude.{ℕ, min, ◌+◌, ◌-◌, ◌^◌, ◌<◌, ◌≤◌, ◌≡◌, ◌⊎◌, Result, IsErr}
 
 -- the last value of a 64-bit count
 abbrev pub LAST : ℕ
 LAST = 2 ^ 64 - 1
+
+-- the count after one more, which stays at its last value
+abbrev pub one_more : ℕ → ℕ
+one_more count = min (count + 1) LAST
 
 -- the count stays from here on, whatever happens
 abbrev pub IsLast : ℕ → Type 0

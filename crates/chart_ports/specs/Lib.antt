@@ -1,3 +1,11 @@
+pub mod Calls
 pub mod Count
 pub mod Fetched
+pub mod Folder
+pub mod FolderDesk
+pub mod FolderShelf
+pub mod MemoryDesk
+pub mod MemoryShelf
+pub mod MemorySource
 pub mod Said
+pub mod StdSource

@@ -1,7 +1,8 @@
 //! The bytes of a file that was fetched.
 
-ghost use Rattle.std.specs.Prelude.{◌≡◌};
+ghost use Rattle.std.specs.Prelude.{◌≡◌, IfOk};
 
+use std::alloc::{AllocError, Global};
 use std::marker::Model;
 
 /// The bytes of a file. Contracts see them as a list.
@@ -31,6 +32,14 @@ impl FileBytes {
         ensures { result.items ≡ self }
     {
         self.bytes
+    }
+
+    /// Another copy of the bytes.
+    pub fn copy(&self, alloc: Global) -> Result<FileBytes, AllocError>
+        ensures { IfOk result (λ copy. copy ≡ self.now) }
+    {
+        let bytes = self.bytes.as_slice().to_vec(alloc)?;
+        Ok(FileBytes { bytes })
     }
 
     /// The bytes. It takes no memory.

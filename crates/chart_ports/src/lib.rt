@@ -6,14 +6,30 @@
 //! raise that count itself.
 #![tactic(auto)]
 
+mod calls;
 mod desk;
 mod file_bytes;
+mod folder_desk;
+mod folder_shelf;
+mod memory_desk;
+mod memory_shelf;
+mod memory_source;
 mod shelf;
 mod source;
+mod std_source;
 mod steps;
+#[cfg(test)]
+mod tests;
 
+pub use calls::{Calls, FailingCalls};
 pub use desk::Desk;
 pub use file_bytes::FileBytes;
+pub use folder_desk::FolderDesk;
+pub use folder_shelf::FolderShelf;
+pub use memory_desk::MemoryDesk;
+pub use memory_shelf::MemoryShelf;
+pub use memory_source::MemorySource;
 pub use shelf::{Fetched, Shelf, ShelfError};
 pub use source::{Failed, Source};
+pub use std_source::StdSource;
 pub use steps::Steps;

@@ -2,18 +2,38 @@
 
 ghost use Rattle.std.specs.Prelude.{◌≡◌, ◌≤◌, Bool, List, ℕ, Option, IsTrue, IfOk, IsErrOf};
 ghost use Rattle.chart_ports.specs.Count.{Rose};
+ghost use Rattle.chart_ports.specs.declared.shelf.ShelfError.TheVariants.{NoMemory};
 ghost use Rattle.chart_ports.specs.Fetched.{fetched_of, IsWithin};
 
 use crate::file_bytes::FileBytes;
 use std::alloc::{AllocError, AllocFailed, Global};
+use thiserror::Error;
 
 /// Why nothing is known of a file.
-#[derive(Clone, Copy, Debug, PartialEq, Eq)]
+#[derive(Clone, Copy, Debug, PartialEq, Eq, Error)]
 pub enum ShelfError {
     /// The shelf failed, and counted it.
+    #[error("the shelf failed")]
     Failed,
     /// There was no memory for the file.
+    #[error("no memory for the file")]
     NoMemory,
+}
+
+impl From<AllocError> for ShelfError {
+    ghost from_gives = { λ _ error. error ≡ NoMemory };
+
+    fn from(_: AllocError) -> ShelfError {
+        ShelfError::NoMemory
+    }
+}
+
+impl<T: Drop> From<AllocFailed<T>> for ShelfError {
+    ghost from_gives = { λ _ error. error ≡ NoMemory };
+
+    fn from(_: AllocFailed<T>) -> ShelfError {
+        ShelfError::NoMemory
+    }
 }
 
 /// What a shelf has under a name.

@@ -3,8 +3,11 @@
 ghost use Rattle.std.specs.Prelude.{◌≡◌, ◌+◌, ◌<◌, ◌≤◌, ◌++◌, ◌↔◌, Bool, List, ℕ, [], IsTrue, IfOk, IfErr, OnErr, Ok, length, min, take};
 ghost use Rattle.chart_ports.specs.Count.{HasCause, LAST};
 
+use thiserror::Error;
+
 /// A call that failed, and was counted as a fault of what it was asked of.
-#[derive(Clone, Copy, Debug, PartialEq, Eq)]
+#[derive(Clone, Copy, Debug, PartialEq, Eq, Error)]
+#[error("a call to the outside failed")]
 pub struct Failed;
 
 /// A stream of bytes that is read once, from front to end.

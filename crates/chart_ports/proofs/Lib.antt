@@ -1,0 +1,4 @@
+pub mod Causes
+pub mod Front
+pub mod Given
+pub mod Reading

@@ -1,0 +1,4 @@
+//! What the forms in memory answer, call by call, and what the adapters do with the real thing.
+
+mod adapters;
+mod memory;

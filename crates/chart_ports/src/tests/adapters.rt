@@ -1,0 +1,159 @@
+use crate::{Desk, Failed, Fetched, FolderDesk, FolderShelf, Shelf, ShelfError, Source, StdSource};
+use std::cell::Cell;
+use std::fmt::Display;
+use std::io::{ErrorKind, Read};
+use std::test::Fail;
+use std::{fs, io};
+
+/// Two interruptions, a piece, a failure, and then nothing.
+#[derive(Drop)]
+struct Interrupted {
+    reads: u8,
+}
+
+impl Read for Interrupted {
+    fn read(&mut self, buf: &mut [u8]) -> io::Result<usize> {
+        self.reads = self.reads.saturating_add(1);
+        match self.reads {
+            1 | 2 => Err(ErrorKind::Interrupted.into()),
+            3 => {
+                if buf.is_empty() {
+                    return Ok(0);
+                }
+                buf[0] = b'x';
+                Ok(1)
+            }
+            4 => Err(ErrorKind::Other.into()),
+            _ => Ok(0),
+        }
+    }
+}
+
+/// Takes at most three bytes a write. The second write is interrupted, and the sixth takes nothing.
+#[derive(Drop)]
+struct SlowOutput {
+    writes: Cell<u8>,
+}
+
+impl Print for SlowOutput {
+    fn print<D: Display + Drop>(&self, _value: D) -> io::Result<()> {
+        Ok(())
+    }
+
+    fn println<D: Display + Drop>(&self, _value: D) -> io::Result<()> {
+        Ok(())
+    }
+
+    fn write_all(&self, _bytes: &[u8]) -> io::Result<()> {
+        Ok(())
+    }
+
+    fn write_some(&self, bytes: &[u8]) -> io::Result<usize> {
+        let write = self.writes.get().saturating_add(1);
+        self.writes.set(write);
+        match write {
+            2 => Err(ErrorKind::Interrupted.into()),
+            6 => Ok(0),
+            _ => Ok(bytes.len().min(3)),
+        }
+    }
+}
+
+#[test]
+fn standard_input_ends(rt: HostRuntime) -> Result<(), Fail> {
+    let mut source = StdSource::new(&rt);
+    assert_eq!(rt; source.pull(&mut [0; 4]), Ok(0));
+    assert_eq!(rt; source.is_at_end(), true);
+    assert_eq!(rt; source.given(), 0);
+    Ok(())
+}
+
+#[test]
+fn a_failing_reader_is_counted(rt: HostRuntime) -> Result<(), Fail> {
+    let mut source = StdSource::over(Interrupted { reads: 0 });
+    let pulls: [(Result<usize, Failed>, u64, bool, u64); 3] = [
+        (Ok(1), 1, false, 0),
+        (Err(Failed), 1, false, 1),
+        (Ok(0), 1, true, 1),
+    ];
+    for (answer, given, is_at_end, faults) in pulls {
+        assert_eq!(rt; source.pull(&mut [0; 4]), answer);
+        assert_eq!(rt; source.given(), given);
+        assert_eq!(rt; source.is_at_end(), is_at_end);
+        assert_eq!(rt; source.faults(), faults);
+    }
+    Ok(())
+}
+
+#[test]
+fn a_folder_gives_its_files(rt: HostRuntime) -> Result<(), Fail> {
+    let alloc = rt.alloc();
+    let name = "a_file_of_this_test";
+    fs::write(&rt, name, "abcd")?;
+    let mut shelf = FolderShelf::new(&rt);
+    let calls: [(&str, u64, &str); 13] = [
+        (name, 9, "abcd"),
+        (name, 4, "abcd"),
+        (name, 3, "Long"),
+        (name, 0, "Long"),
+        ("./a_file_of_this_test", u64::MAX, "abcd"),
+        ("no_file_of_this_test", 9, "Absent"),
+        ("no_folder_of_this_test/a", 9, "Absent"),
+        ("/etc/passwd", 9, "Absent"),
+        ("x/../a_file_of_this_test", 9, "Absent"),
+        ("..", 9, "Absent"),
+        // What is no readable file is a fault: a folder, a file taken for one, a name with a NUL.
+        (".", 9, "Failed"),
+        ("a_file_of_this_test/a", 9, "Failed"),
+        ("a_file\0of_this_test", 9, "Failed"),
+    ];
+    for (name, limit, answer) in calls {
+        let fetched = shelf.fetch(alloc, name, limit);
+        match &fetched {
+            Ok(Fetched::Bytes(bytes)) => assert_eq!(rt; bytes.as_slice(), answer.as_bytes()),
+            Ok(Fetched::Absent) => assert_eq!(rt; answer, "Absent"),
+            Ok(Fetched::Long) => assert_eq!(rt; answer, "Long"),
+            Err(ShelfError::Failed) => assert_eq!(rt; answer, "Failed"),
+            Err(ShelfError::NoMemory) => assert_eq!(rt; answer, "NoMemory"),
+        }
+    }
+    assert_eq!(rt; shelf.faults(), 3);
+    fs::remove_file(&rt, name)?;
+    Ok(())
+}
+
+#[test]
+fn a_name_may_have_255_bytes(rt: HostRuntime) -> Result<(), Fail> {
+    let alloc = rt.alloc();
+    let mut shelf = FolderShelf::new(&rt);
+    let mut name = String::new(alloc);
+    for _ in 0..255 {
+        name.push('n')?;
+    }
+    assert!(rt; matches!(shelf.fetch(alloc, name.as_str(), 9), Ok(Fetched::Absent)));
+    name.push('n')?;
+    assert!(rt;
+        matches!(
+            shelf.fetch(alloc, name.as_str(), 9),
+            Err(ShelfError::Failed)
+        )
+    );
+    assert_eq!(rt; shelf.faults(), 1);
+    Ok(())
+}
+
+#[test]
+fn a_desk_says_in_pieces(rt: HostRuntime) -> Result<(), Fail> {
+    let mut desk = FolderDesk::new(SlowOutput {
+        writes: Cell::new(0),
+    });
+    // The pieces of the first have 3, 3 and 2 bytes; the second ends at a write that takes nothing.
+    assert_eq!(rt; desk.say(b"12345678"), Ok(()));
+    assert_eq!(rt; desk.faults(), 0);
+    assert_eq!(rt; desk.say(b"123456"), Err(Failed));
+    assert_eq!(rt; desk.faults(), 1);
+    let mut real = FolderDesk::new(&rt);
+    assert_eq!(rt; real.say(b"said\n"), Ok(()));
+    assert_eq!(rt; real.faults(), 0);
+    Ok(())
+}
