@@ -1,0 +1,3 @@
+pub mod Subfields
+pub mod Rows
+pub mod Dataset

@@ -1,0 +1,38 @@
+//! Why a file is no data set.
+
+ghost use Rattle.std.specs.Prelude.{◌≡◌};
+ghost use Rattle.s57_records.specs.declared.fault.DatasetFault.TheVariants.{NoMemory};
+
+use std::alloc::{AllocError, AllocFailed};
+
+/// Why a file is no data set: the first fault by record, then by field, then by subfield. Records are
+/// counted from 1.
+#[derive(Clone, Copy, Debug, PartialEq, Eq)]
+pub enum DatasetFault {
+    /// There is no data record, or the first has no general information (field DSID).
+    NoGeneral,
+    /// A subfield that is needed isn't in its field's descriptor, or a feature has no field FOID.
+    MissingField { number: u32, tag: [u8; 4] },
+    /// A value has the wrong kind, or is out of its width, its range or its list of values.
+    Value { number: u32, label: [u8; 4] },
+    /// A rule of the profile is broken.
+    Profile { number: u32, label: [u8; 4] },
+    /// There was no memory for the changes.
+    NoMemory,
+}
+
+impl From<AllocError> for DatasetFault {
+    ghost from_gives = { λ _ e. e ≡ NoMemory };
+
+    fn from(_: AllocError) -> DatasetFault {
+        DatasetFault::NoMemory
+    }
+}
+
+impl<T: Drop> From<AllocFailed<T>> for DatasetFault {
+    ghost from_gives = { λ _ e. e ≡ NoMemory };
+
+    fn from(_: AllocFailed<T>) -> DatasetFault {
+        DatasetFault::NoMemory
+    }
+}
