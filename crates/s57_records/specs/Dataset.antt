@@ -47,7 +47,7 @@ said_by base n s feature = do
   Ok (change_is change)
 said_by base n s parameters =
     if base then (do
-      scale ← scale_of n s
+      scale ← scale_of s
       Ok (scale_is scale))
     else Ok nothing
 said_by base n s general = Ok nothing
@@ -78,10 +78,10 @@ scale_in (change_is change) = None
 scale_in (scale_is scale) = Some scale
 scale_in nothing = None
 
--- the scale of a base file, which needs one, and 0 for an update; last is the number of the last record
-abbrev pub scale_among : Bool → ℕ → List Said → Result ℕ DatasetFault
-scale_among false last said = Ok 0
-scale_among true last said = first_or (filter_map scale_in said) (Profile last (codes "DSPM"))
+-- the scale of a base file, which needs one, and 0 for an update
+abbrev pub scale_among : Bool → List Said → Result ℕ DatasetFault
+scale_among false said = Ok 0
+scale_among true said = first_or (filter_map scale_in said) (Profile (codes "DSPM"))
 
 abbrev pub header_with : General → ℕ → Header
 header_with g scale = record { key = g.key; edition = g.edition; update = g.update; issued = g.issued; agency = g.agency; scale = scale }
@@ -94,9 +94,9 @@ cancels g = not g.base && (g.edition == 0)
 unfoldable pub dataset_after : General → Subfields → List Subfields → Result DatasetValue DatasetFault
 dataset_after g first rest =
     if cancels g then Ok (record { header = header_with g 0; base = false; cancels = true; changes = [] }) else (do
-      _ ← checked_structure 1 first
+      _ ← checked_structure first
       said ← all_of (map (λ r. said_by g.base r.0 r.1 (kind_of r.1)) (looked_at false 2 rest))
-      scale ← scale_among g.base (1 + length rest) said
+      scale ← scale_among g.base said
       Ok (record { header = header_with g scale; base = g.base; cancels = false; changes = filter_map change_in said }))
 
 -- the data set of records whose subfields read so
@@ -104,6 +104,6 @@ unfoldable pub dataset_of : List Subfields → Result DatasetValue DatasetFault
 dataset_of [] = Err NoGeneral
 dataset_of (first ∷ rest) =
     if first.has (codes "DSID") then (do
-      g ← general_of 1 first
+      g ← general_of first
       dataset_after g first rest)
     else Err NoGeneral

@@ -44,39 +44,39 @@ pub record General : Type 0 where
   pub agency : ℕ
 
 -- DSID: PROF is 1 for a base file, whose edition isn't 0, and 2 for an update
-unfoldable pub general_of : ℕ → Subfields → Result General DatasetFault
-general_of n s = do
+unfoldable pub general_of : Subfields → Result General DatasetFault
+general_of s = do
   key ← s.key (codes "DSID") (codes "DSNM")
   edition ← s.digits (codes "DSID") (codes "EDTN")
-  _ ← ensure (not (edition == 0 && reads_as (s.number (codes "DSID") (codes "PROF") one_byte) 1)) (Profile n (codes "EDTN"))
+  _ ← ensure (not (edition == 0 && reads_as (s.number (codes "DSID") (codes "PROF") one_byte) 1)) (Profile (codes "EDTN"))
   update ← s.digits (codes "DSID") (codes "UPDN")
   issued ← s.date (codes "DSID") (codes "ISDT")
   prof ← s.number (codes "DSID") (codes "PROF") one_byte
-  _ ← ensure (prof == 1 || prof == 2) (Profile n (codes "PROF"))
+  _ ← ensure (prof == 1 || prof == 2) (Profile (codes "PROF"))
   agency ← s.number (codes "DSID") (codes "AGEN") two_bytes
   Ok (record { key = key; edition = edition; update = update; issued = issued; base = prof == 1; agency = agency })
 
 -- DSSI, where it is there: AALL is 0 or 1
-unfoldable pub checked_structure : ℕ → Subfields → Result (Unit {0}) DatasetFault
-checked_structure n s =
+unfoldable pub checked_structure : Subfields → Result (Unit {0}) DatasetFault
+checked_structure s =
     if s.has (codes "DSSI") then (do
       aall ← s.number (codes "DSSI") (codes "AALL") one_byte
-      ensure (nat_le aall 1) (Profile n (codes "AALL")))
+      ensure (nat_le aall 1) (Profile (codes "AALL")))
     else Ok tt
 
 -- DSPM of a base file: the denominator of the scale. Depths are in metres, coordinates in degrees times 10,000,000,
 -- soundings in decimetres
-unfoldable pub scale_of : ℕ → Subfields → Result ℕ DatasetFault
-scale_of n s = do
+unfoldable pub scale_of : Subfields → Result ℕ DatasetFault
+scale_of s = do
   scale ← s.number (codes "DSPM") (codes "CSCL") four_bytes
   duni ← s.number (codes "DSPM") (codes "DUNI") one_byte
-  _ ← ensure (duni == 1) (Profile n (codes "DUNI"))
+  _ ← ensure (duni == 1) (Profile (codes "DUNI"))
   coun ← s.number (codes "DSPM") (codes "COUN") one_byte
-  _ ← ensure (coun == 1) (Profile n (codes "COUN"))
+  _ ← ensure (coun == 1) (Profile (codes "COUN"))
   comf ← s.number (codes "DSPM") (codes "COMF") four_bytes
-  _ ← ensure (comf == 10000000) (Profile n (codes "COMF"))
+  _ ← ensure (comf == 10000000) (Profile (codes "COMF"))
   somf ← s.number (codes "DSPM") (codes "SOMF") four_bytes
-  _ ← ensure (somf == 10) (Profile n (codes "SOMF"))
+  _ ← ensure (somf == 10) (Profile (codes "SOMF"))
   Ok scale
 
 -- ---- changes
@@ -115,7 +115,7 @@ is_vector_kind rcnm = rcnm == 110 || (rcnm == 120 || rcnm == 130)
 unfoldable pub vector_of : Bool → ℕ → Subfields → Result Change DatasetFault
 vector_of base n s = do
   rcnm ← s.number (codes "VRID") (codes "RCNM") one_byte
-  _ ← ensure (is_vector_kind rcnm) (Profile n (codes "RCNM"))
+  _ ← ensure (is_vector_kind rcnm) (Profile (codes "RCNM"))
   rcid ← s.number (codes "VRID") (codes "RCID") four_bytes
   version ← s.number (codes "VRID") (codes "RVER") two_bytes
   ruin ← ruin_of base n s (codes "VRID")
@@ -124,9 +124,9 @@ vector_of base n s = do
   pointers ← unless_deleted ruin (s.pointers (codes "VRPT"))
   coord_edit ← edit_of base ruin n s (codes "SGCC") (codes "CCUI") (codes "CCIX") (codes "CCNC")
   flat ← unless_deleted ruin (s.coords (codes "SG2D"))
-  _ ← ensure (not (s.has (codes "SG2D") && s.has (codes "SG3D"))) (Profile n (codes "SG3D"))
+  _ ← ensure (not (s.has (codes "SG2D") && s.has (codes "SG3D"))) (Profile (codes "SG3D"))
   deep ← unless_deleted ruin (s.coords (codes "SG3D"))
-  _ ← ensure (not (s.has (codes "ARCC"))) (Profile n (codes "ARCC"))
+  _ ← ensure (not (s.has (codes "ARCC"))) (Profile (codes "ARCC"))
   Ok (record {
     target = record { rcnm = rcnm; rcid = rcid };
     ruin = ruin;
@@ -164,7 +164,7 @@ foid_of ruin n s =
 unfoldable pub feature_of : Bool → ℕ → Subfields → Result Change DatasetFault
 feature_of base n s = do
   rcnm ← s.number (codes "FRID") (codes "RCNM") one_byte
-  _ ← ensure (rcnm == 100) (Profile n (codes "RCNM"))
+  _ ← ensure (rcnm == 100) (Profile (codes "RCNM"))
   rcid ← s.number (codes "FRID") (codes "RCID") four_bytes
   prim ← s.number (codes "FRID") (codes "PRIM") one_byte
   _ ← ensure (not (inserts base s) || is_prim prim) (Value n (codes "PRIM"))

@@ -12,11 +12,11 @@ pub enum DatasetFault {
     /// There is no data record, or the first has no general information (field DSID).
     NoGeneral,
     /// A subfield that is needed isn't in its field's descriptor, or a feature has no field FOID.
-    MissingField { number: u32, tag: [u8; 4] },
+    MissingField { record: usize, tag: [u8; 4] },
     /// A value has the wrong kind, or is out of its width, its range or its list of values.
-    Value { number: u32, label: [u8; 4] },
-    /// A rule of the profile is broken.
-    Profile { number: u32, label: [u8; 4] },
+    Value { record: usize, label: [u8; 4] },
+    /// A rule of the profile is broken: the label tells which.
+    Profile([u8; 4]),
     /// There was no memory for the changes.
     NoMemory,
 }
