@@ -1,0 +1,2 @@
+mod DigitsLemmas
+mod Tag

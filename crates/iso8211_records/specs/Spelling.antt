@@ -1,0 +1,62 @@
+-- The values of a field and how they are spelled (ISO/IEC 8211, user data).
+use Rattle.std.specs.Prelude.{◌≡◌, ◌≢◌, ℕ, zero, suc, ◌+◌, ◌*◌, ◌/◌, ◌^◌, ◌<◌, List, [], ◌∷◌, ◌++◌, length, All, ℤ, pos, ◌-ℤ◌, nat_lt, if◌then◌else◌, ◌⊎◌}
+use Rattle.std.specs.List.{AllByRecursion}
+use Rattle.iso8211_formats.specs.declared.format.Format.{Format}
+use Rattle.iso8211_formats.specs.declared.format.Format.TheVariants.{TextOpen, Text as TextOf, Unsigned, Signed, Bits as BitsOf}
+use Rattle.iso8211_records.specs.declared.value.Value.{Value}
+use Rattle.iso8211_records.specs.declared.value.Value.TheVariants.{Number, Text, Bits}
+use Rattle.iso8211_records.specs.declared.known.TheConstants.{FIELD_TERMINATOR, UNIT_TERMINATOR}
+
+-- the number that bytes are, the least significant first
+unfoldable pub unsigned : List ℕ → ℕ
+unsigned [] = 0
+unsigned (byte ∷ bytes) = byte + 256 * unsigned bytes
+
+-- the same in two's complement: the upper half of so many bytes' numbers stands for the negative ones
+unfoldable pub signed : List ℕ → ℤ
+signed bytes =
+    let whole = 256 ^ length bytes in
+    if nat_lt (2 * unsigned bytes) whole then pos (unsigned bytes) else pos (unsigned bytes) -ℤ pos whole
+
+-- a binary number has 1, 2 or 4 bytes
+abbrev pub IsNumberSize : ℕ → Type 0
+IsNumberSize size = (size ≡ 1) ⊎ ((size ≡ 2) ⊎ (size ≡ 4))
+
+-- a byte of a text that ends at a unit terminator
+abbrev pub IsTextByte : ℕ → Type 0
+IsTextByte byte = (byte ≢ FIELD_TERMINATOR) × (byte ≢ UNIT_TERMINATOR)
+
+-- the bytes are the value's spelling by the format
+abbrev pub Spells : Format → Value → List ℕ → Type 0
+Spells TextOpen (Text text) bytes = AllByRecursion IsTextByte text × (bytes ≡ text ++ UNIT_TERMINATOR ∷ [])
+Spells (TextOf width) (Text text) bytes = (0 < width) × (length text ≡ width) × (bytes ≡ text)
+Spells (Unsigned size) (Number number) bytes = IsNumberSize size × (length bytes ≡ size) × (number ≡ pos (unsigned bytes))
+Spells (Signed size) (Number number) bytes = IsNumberSize size × (length bytes ≡ size) × (number ≡ signed bytes)
+Spells (BitsOf count) (Bits bits) bytes = (0 < count / 8) × (length bits ≡ count / 8) × (bytes ≡ bits)
+Spells _ _ bytes = ⊥
+
+-- the bytes are spellings one after the other, one of each value, by the format in its place
+abbrev pub AreSpelled : List Format → List Value → List ℕ → Type 0
+AreSpelled [] [] bytes = bytes ≡ []
+AreSpelled (format ∷ formats) (value ∷ values) bytes =
+    (front rest : List ℕ) × (bytes ≡ front ++ rest) × Spells format value front × AreSpelled formats values rest
+AreSpelled _ _ bytes = ⊥
+
+-- how a field is laid out: the formats of the subfields that stand once, and then those of a group
+-- that is repeated
+pub record Layout : Type 0 where
+  pub once : List Format
+  pub group : List Format
+
+-- the formats of so many groups
+abbrev pub groups : ℕ → List Format → List Format
+groups zero group = []
+groups (suc count) group = group ++ groups count group
+
+-- the text is that of a field: each subfield once up to the group, and then any number of whole groups
+abbrev pub IsFieldText : Layout → List Value → List ℕ → Type 0
+IsFieldText layout values text = (count : ℕ) × AreSpelled (layout.once ++ groups count layout.group) values text
+
+-- the bytes are a field of this layout: its text and a field terminator
+abbrev pub IsField : Layout → List Value → List ℕ → Type 0
+IsField layout values bytes = (text : List ℕ) × (bytes ≡ text ++ FIELD_TERMINATOR ∷ []) × IsFieldText layout values text

@@ -1,0 +1,92 @@
+-- Reading the values of a field from left to right.
+use Rattle.std.specs.Prelude.{◌≡◌, ℕ, zero, suc, ◌+◌, ◌-◌, ◌/◌, Bool, true, false, not, ◌&&◌, ◌||◌, ◌==◌, nat_lt, nat_le, List, [], ◌∷◌, ◌++◌, length, take, drop, slice_index, position, Option, Some, None, if◌then◌else◌, pos, Result, Ok, Err}
+use Rattle.iso8211_formats.specs.declared.format.Format.{Format}
+use Rattle.iso8211_formats.specs.declared.format.Format.TheVariants.{TextOpen, Text as TextOf, Unsigned, Signed, Bits as BitsOf}
+use Rattle.iso8211_records.specs.declared.value.Value.{Value}
+use Rattle.iso8211_records.specs.declared.value.Value.TheVariants.{Number, Text, Bits}
+use Rattle.iso8211_records.specs.declared.fault.FileFault.{FileFault}
+use Rattle.iso8211_records.specs.declared.fault.FileFault.TheVariants.{Unsupported, NoMemory}
+use Rattle.iso8211_records.specs.declared.known.TheConstants.{FIELD_TERMINATOR, UNIT_TERMINATOR}
+use Rattle.iso8211_records.specs.Spelling.{unsigned, signed, Layout}
+
+infixl 10 ◌>>=◌
+abbrev pub ◌>>=◌ : {A B : Type 0} → Option A → (A → Option B) → Option B
+None >>= f = None
+(Some x) >>= f = f x
+
+-- A function failed so: reading gives nothing, unless memory ran out.
+abbrev pub Fails : {Y : Type 0} → FileFault → Option Y → Type 0
+Fails Unsupported read = read ≡ None
+Fails NoMemory read = Unit {0}
+
+-- What a function returned, seen by view, is what reading gives, unless memory ran out.
+abbrev pub Gives : {X Y : Type 0} → (X → Y) → Result X FileFault → Option Y → Type 0
+Gives view (Ok x) read = read ≡ Some (view x)
+Gives view (Err fault) read = Fails fault read
+
+-- what was read, behind what was read before it
+abbrev pub before_all : {A : Type 0} → List A → Option (List A) → Option (List A)
+before_all front read = read >>= λ more. Some (front ++ more)
+
+abbrev pub before : List Value → Option (List Value × List ℕ) → Option (List Value × List ℕ)
+before values read = read >>= λ more. Some (values ++ more.0, more.1)
+
+-- so many bytes from the front, at least one, and the bytes after them
+unfoldable pub front_at : ℕ → List ℕ → Option (List ℕ × List ℕ)
+front_at size bytes = if nat_lt 0 size && nat_le size (length bytes) then Some (take size bytes, drop size bytes) else None
+
+-- the bytes of a binary number of this size, and none of another
+abbrev pub number_size : ℕ → ℕ
+number_size size = if (size == 1) || ((size == 2) || (size == 4)) then size else 0
+
+-- whether a text that ends at a unit terminator can't go on with the byte
+abbrev pub is_terminator : ℕ → Bool
+is_terminator byte = (byte == FIELD_TERMINATOR) || (byte == UNIT_TERMINATOR)
+
+-- the text up to a unit terminator, and the bytes after that
+unfoldable pub open_text_at : List ℕ → Option (List ℕ × List ℕ)
+open_text_at bytes = do
+  end ← position is_terminator bytes
+  if slice_index bytes end == UNIT_TERMINATOR then Some (take end bytes, drop (end + 1) bytes) else None
+
+-- the value at the front, and the bytes after it
+unfoldable pub value_at : Format → List ℕ → Option (Value × List ℕ)
+value_at TextOpen bytes = do
+  text ← open_text_at bytes
+  Some (Text text.0, text.1)
+value_at (TextOf width) bytes = do
+  text ← front_at width bytes
+  Some (Text text.0, text.1)
+value_at (Unsigned size) bytes = do
+  number ← front_at (number_size size) bytes
+  Some (Number (pos (unsigned number.0)), number.1)
+value_at (Signed size) bytes = do
+  number ← front_at (number_size size) bytes
+  Some (Number (signed number.0), number.1)
+value_at (BitsOf count) bytes = do
+  bits ← front_at (count / 8) bytes
+  Some (Bits bits.0, bits.1)
+
+-- a value by each format, and the bytes after them
+unfoldable pub values_at : List Format → List ℕ → Option (List Value × List ℕ)
+values_at [] bytes = Some ([], bytes)
+values_at (format ∷ formats) bytes = do
+  value ← value_at format bytes
+  values ← values_at formats value.1
+  Some (value.0 ∷ values.0, values.1)
+
+-- whole groups up to the end of the bytes, at most so many
+unfoldable pub groups_at : ℕ → List Format → List ℕ → Option (List Value)
+groups_at bound group [] = Some []
+groups_at zero group (byte ∷ bytes) = None
+groups_at (suc bound) group (byte ∷ bytes) = do
+  values ← values_at group (byte ∷ bytes)
+  more ← groups_at bound group values.1
+  Some (values.0 ++ more)
+
+-- the values of a field's text
+unfoldable pub values_of : Layout → List ℕ → Option (List Value)
+values_of layout text = do
+  values ← values_at layout.once text
+  more ← groups_at (length values.1) layout.group values.1
+  Some (values.0 ++ more)
