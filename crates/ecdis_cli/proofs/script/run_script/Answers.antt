@@ -1,0 +1,73 @@
+-- The run goes on by the bytes that were pulled.
+use Rattle.std.proofs.Common.{◌≡◌, ◌≤◌, ◌+◌, length, ◌-◌, min, length-take-le, arith, refl, ap, ◌∙◌, inl}
+use Rattle.std.specs.Prelude.{Ok}
+use Rattle.ecdis_cli.proofs.Scripts.{Underway-start, Underway-next, Underway-stopped, Underway-halted, Underway-done, Underway-cut, pull-part, pull-whole, length-pull, given-more, rose-fewer, Halted-here, status_of-not_done}
+use Rattle.ecdis_cli.proofs.script.run_script.Goals as goal
+
+pub loop-round-init : goal.loop-round-init
+loop-round-init g c = record {
+  underway = λ s l d. Underway-start _ _ _ _ _ _ c.new-reader.ensures.number c.new-reader.ensures.line;
+  counted = λ s. omega arith;
+  number = omega arith;
+  rounds = omega arith;
+  given = inl (omega arith);
+  same = λ l. refl;
+  script_later = omega arith;
+  shelf_later = omega arith;
+  desk_later = omega arith;
+}
+
+pub returns-in-Err-clause-output : goal.returns-in-Err-clause-output
+returns-in-Err-clause-output g c = λ s l d. Underway-stopped _ _ _ _ _ _ _ _ _ _ (λ e. cc) (c.loop-round.invariant.underway s l d)
+
+pub returns-in-Err-finish-clause-output : goal.returns-in-Err-finish-clause-output
+returns-in-Err-finish-clause-output g c = λ s l d.
+    Underway-cut _ _ _ _ _ _ _ _ _ _ _ _ _ (status_of-not_done _ _ c.status.ensures) (c.loop-round.invariant.same l)
+    c.loop-round.invariant.shelf_later c.finish.ensures.shelf_later c.loop-round.reader.unbroken (c.in-Ok.ensures.end s (omega arith) (let none : c.in-Ok.count ≡ 0 = omega arith in ap Ok none))
+    (c.loop-round.invariant.underway s l d) (c.in-Err-finish.ensures.err l d)
+
+pub returns-then-count-eq0-clause-output : goal.returns-then-count-eq0-clause-output
+returns-then-count-eq0-clause-output g c = λ s l d.
+    Underway-done _ _ _ _ _ _ _ _ _ _ _ _ _ (c.loop-round.invariant.same l)
+    c.loop-round.invariant.shelf_later c.finish.ensures.shelf_later c.loop-round.reader.unbroken (c.in-Ok.ensures.end s (omega arith) (let none : c.in-Ok.count ≡ 0 = omega arith in ap Ok none))
+    (c.loop-round.invariant.underway s l d) (c.in_default.ensures.ok l d)
+
+pub returns-in-Err-take_all-clause-output : goal.returns-in-Err-take_all-clause-output
+returns-in-Err-take_all-clause-output g c = λ s l d.
+    Underway-halted _ _ _ _ _ _ _ _ _ _ _ _ _ _ _ (status_of-not_done _ _ c.status-in-Err-take_all.ensures) (c.loop-round.invariant.same l)
+    c.loop-round.invariant.shelf_later c.take_all.ensures.shelf_later
+    (let part : c.min.result ≤ c.in-Ok.count = omega (arith, c.min.ensures) in pull-part c.min.result c.in-Ok.count c.pull.new.buf _ _ part (c.in-Ok.ensures.bytes s))
+    (c.loop-round.invariant.underway s l d) (c.in-Err-take_all.ensures.err l d)
+
+pub returns-then-count-room-clause-output : goal.returns-then-count-room-clause-output
+returns-then-count-room-clause-output g c = λ s l d.
+    Underway-halted _ _ _ _ _ _ _ _ _ _ _ _ _ _ _ (λ e. cc) (c.loop-round.invariant.same l)
+    c.loop-round.invariant.shelf_later c.take_all.ensures.shelf_later
+    (let part : c.min.result ≤ c.in-Ok.count = omega (arith, c.min.ensures) in pull-part c.min.result c.in-Ok.count c.pull.new.buf _ _ part (c.in-Ok.ensures.bytes s))
+    (c.loop-round.invariant.underway s l d) (Halted-here _ _ _ _ _ _ _ _ _ _ (c.in_default-take_all.ensures.ok l d))
+
+pub returns-then-count-room-clause-script_over : goal.returns-then-count-room-clause-script_over
+returns-then-count-room-clause-script_over g c = λ s e.
+    omega (arith, length-pull c.in-Ok.count c.pull.new.buf _ _ (omega (arith, c.in-Ok.ensures.within)) (c.in-Ok.ensures.bytes s), c.loop-round.invariant.counted s)
+
+pub loop-round-preserved : goal.loop-round-preserved
+loop-round-preserved g c = record {
+  underway = λ s l d.
+      Underway-next _ _ _ _ _ _ _ _ _ _ _ _ _ _ _ _ (c.loop-round.invariant.same l)
+      c.loop-round.invariant.shelf_later c.take_all.ensures.shelf_later
+      (let whole : c.min.result ≡ c.in-Ok.count = omega (arith, c.min.ensures) in pull-whole c.min.result c.in-Ok.count c.pull.new.buf _ _ whole (c.in-Ok.ensures.bytes s))
+      (c.loop-round.invariant.underway s l d) (c.in_default-take_all.ensures.ok l d);
+  counted = λ s. omega (arith, length-pull c.in-Ok.count c.pull.new.buf _ _ (omega (arith, c.in-Ok.ensures.within)) (c.in-Ok.ensures.bytes s), c.loop-round.invariant.counted s);
+  number = omega (
+    arith,
+    c.min.ensures,
+    c.take_all.ensures.number,
+    length-take-le c.min.result c.pull.new.buf (omega (arith, c.in-Ok.ensures.within, c.min.ensures)),
+  );
+  rounds = omega arith;
+  given = rose-fewer _ _ _ _ (omega arith) (given-more _ c.in-Ok.count _ _ _ c.loop-round.invariant.given c.in-Ok.ensures.given);
+  same = λ l. c.take_all.ensures.same l ∙ c.loop-round.invariant.same l;
+  script_later = omega (arith, c.in-Ok.ensures.cause.later);
+  shelf_later = omega arith;
+  desk_later = omega arith;
+}

@@ -1,0 +1,28 @@
+-- The replies to a script.
+use Rattle.std.specs.Prelude.{ℕ, ◌+◌, Bool, false, List, [], ◌∷◌, codes, nat_eq, count_by}
+use Rattle.std.specs.List.{flat_map, starts_with}
+use Rattle.std.specs.Str.Lines.{lines}
+use Rattle.ecdis_cli.specs.Reply.{Files, reply_to}
+
+-- the replies to lines, the first of which has this number; a mark for each line tells whether its
+-- fetch failed, and it didn't where the marks have ended
+abbrev pub replies_from : Files → ℕ → List (List ℕ) → List Bool → List (List ℕ)
+replies_from files number [] marks = []
+replies_from files number (line ∷ more) [] = reply_to files number line false ∷ replies_from files (number + 1) more []
+replies_from files number (line ∷ more) (mark ∷ marks) = reply_to files number line mark ∷ replies_from files (number + 1) more marks
+
+-- one for each line of the script, where lines count from 1
+unfoldable pub replies_of : Files → List ℕ → List Bool → List (List ℕ)
+replies_of files script marks = replies_from files 1 (lines script) marks
+
+-- the bytes of the replies, one after the other
+abbrev pub joined : List (List ℕ) → List ℕ
+joined = flat_map (λ reply. reply)
+
+-- the reply says that the shelf failed
+abbrev pub is_fetch_failure : List ℕ → Bool
+is_fetch_failure reply = starts_with nat_eq reply (codes "no 72")
+
+-- how many of the replies say so
+abbrev pub fetch_failures : List (List ℕ) → ℕ
+fetch_failures replies = count_by is_fetch_failure replies

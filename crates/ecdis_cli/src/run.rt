@@ -1,0 +1,58 @@
+//! All that the program does.
+
+ghost use Rattle.std.specs.Prelude.{◌≡◌, ◌≢◌, ◌<◌, ◌≤◌, ◌⊎◌, ◌↔◌, [], IsTrue, length};
+ghost use Rattle.chart_ports.specs.Count.{IsSteady, Rose, RoseBy};
+ghost use Rattle.ecdis_cli.specs.Run.{Replied, SCRIPT_LIMIT};
+
+use crate::script::run_script;
+use crate::status::Status;
+use chart_ports::{Desk, Shelf, Source, Steps};
+use std::alloc::Global;
+use std::sync::ledger::Ledger;
+
+/// How many bytes of the script are asked for at once.
+const BUFFER: usize = 16_384;
+
+/// Answers a script, line by line: each reply is said before the next line is run.
+///
+/// The words are the program's name alone. The files are those of the shelf, the replies are said at
+/// the desk, and `steps` counts the data records that are decoded.
+pub fn run_ecdis<S: Source, L: Shelf, D: Desk, C: Ledger>(
+    alloc: Global,
+    words: &[String],
+    script: &mut S,
+    shelf: &mut L,
+    desk: &mut D,
+    steps: &mut Steps<C>,
+) -> Status
+    // Other words end the run before anything is read or said.
+    ensures words { result ≡ Status.Words ↔ (length words.now ≢ 1) }
+    ensures unread { result ≡ Status.Words → script.new ≡ script.old }
+    ensures unsaid { result ≡ Status.Words → desk.new ≡ desk.old }
+
+    // What is said is the replies to the lines, or a front of them.
+    ensures output { IsTrue S.tells → IsTrue L.tells → IsTrue D.tells → Replied (S.left script.old) (L.files shelf.old) result (D.said desk.old) (D.said desk.new) (L.faults shelf.old) (L.faults shelf.new) }
+    ensures done { result ≡ Status.Done → IsTrue (S.is_at_end script.new) }
+    ensures read { IsTrue S.tells → result ≡ Status.Done → S.left script.new ≡ [] }
+    ensures same { IsTrue L.tells → L.files shelf.new ≡ L.files shelf.old }
+
+    // Each end has its cause. Want of memory alone needs none.
+    ensures script_failed { result ≡ Status.ScriptFault → Rose (S.faults script.old) (S.faults script.new) }
+    ensures script_long { result ≡ Status.ScriptLong → RoseBy 16777217 (S.given script.old) (S.given script.new) }
+    ensures script_over { IsTrue S.tells → result ≡ Status.ScriptLong → SCRIPT_LIMIT < length (S.left script.old) }
+    ensures desk_failed { result ≡ Status.DeskFault → Rose (D.faults desk.old) (D.faults desk.new) }
+    ensures script_later { S.faults script.old ≤ S.faults script.new }
+    ensures shelf_later { L.faults shelf.old ≤ L.faults shelf.new }
+    ensures desk_later { D.faults desk.old ≤ D.faults desk.new }
+    ensures complete { length words.now ≡ 1 → IsTrue S.tells → length (S.left script.old) ≤ SCRIPT_LIMIT
+        → IsSteady (S.faults script.old) (S.faults script.new) → IsSteady (D.faults desk.old) (D.faults desk.new)
+        → (result ≡ Status.Done) ⊎ (result ≡ Status.NoMemory) }
+{
+    if words.len() != 1 {
+        return Status::Words;
+    }
+    let Ok(mut buffer) = vec![in alloc; 0; BUFFER] else {
+        return Status::NoMemory;
+    };
+    run_script(alloc, &mut buffer, script, shelf, desk, steps)
+}

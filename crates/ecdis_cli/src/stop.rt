@@ -1,0 +1,54 @@
+//! Why a line was not answered.
+
+ghost use Rattle.std.specs.Prelude.{◌≡◌};
+ghost use Rattle.ecdis_cli.specs.Stop.{status_of};
+ghost use Rattle.ecdis_cli.specs.declared.stop.Stop.TheVariants.{DeskFault, NoMemory};
+
+use crate::status::Status;
+use chart_ports::Failed;
+use std::alloc::{AllocError, AllocFailed};
+
+/// Why a line was not answered. The run ends there.
+#[derive(Clone, Copy, Debug, PartialEq, Eq)]
+pub enum Stop {
+    /// The reply could not be said.
+    DeskFault,
+    /// There was no memory.
+    NoMemory,
+}
+
+impl Stop {
+    /// How the run ends.
+    pub fn status(self) -> Status
+        ensures { result ≡ status_of self }
+    {
+        match self {
+            Stop::DeskFault => Status::DeskFault,
+            Stop::NoMemory => Status::NoMemory,
+        }
+    }
+}
+
+impl From<Failed> for Stop {
+    ghost from_gives = { λ _ e. e ≡ DeskFault };
+
+    fn from(_: Failed) -> Stop {
+        Stop::DeskFault
+    }
+}
+
+impl From<AllocError> for Stop {
+    ghost from_gives = { λ _ e. e ≡ NoMemory };
+
+    fn from(_: AllocError) -> Stop {
+        Stop::NoMemory
+    }
+}
+
+impl<T: Drop> From<AllocFailed<T>> for Stop {
+    ghost from_gives = { λ _ e. e ≡ NoMemory };
+
+    fn from(_: AllocFailed<T>) -> Stop {
+        Stop::NoMemory
+    }
+}
