@@ -18,3 +18,6 @@ pub use known::{DATA_DESCRIPTIVE_RECORD, DSID_FORMATS};
 pub use laws::{counts_each, one_reading, reads_each};
 pub use record::{RawField, RawList, RawRecord, RecordFile};
 pub use value::{Value, ValueList};
+
+#[cfg(test)]
+mod tests;
