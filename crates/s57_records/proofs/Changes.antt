@@ -66,7 +66,7 @@ vector_name name h =
 
 -- ---- lists
 
-All-nil : {X : Type 0} (P : X → Type 0) → All P []
+pub All-nil : {X : Type 0} (P : X → Type 0) → All P []
 All-nil P = λ k d lt. absurd (omega arith)
 
 kept : {A : Type 0} (P : List A → Type 0) (ruin : ℕ) (items : Result (List A) DatasetFault) (xs : List A) → P [] → ((ys : List A) → items ≡ Ok ys → P ys) → unless_deleted ruin items ≡ Ok xs → P xs

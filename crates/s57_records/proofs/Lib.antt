@@ -2,3 +2,4 @@ pub mod Steps
 pub mod Changes
 pub mod Datasets
 mod Examples
+pub mod Sound

@@ -1,3 +1,4 @@
 pub mod Subfields
 pub mod Rows
 pub mod Dataset
+pub mod Readings
