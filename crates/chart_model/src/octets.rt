@@ -3,8 +3,9 @@
 //! Contracts see an `Octets` as a list of bytes, so that two of them are equal where their bytes are,
 //! whatever room each has left.
 
-ghost use Rattle.std.specs.Prelude.{◌≡◌};
+ghost use Rattle.std.specs.Prelude.{◌≡◌, ◌++◌, OnOk, OnErr};
 
+use std::alloc::AllocError;
 use std::marker::Model;
 
 /// A list of bytes.
@@ -27,6 +28,14 @@ impl Octets {
         ensures { result ≡ bytes.items }
     {
         Octets { bytes }
+    }
+
+    /// Adds bytes at the end. Where there is no memory nothing changes.
+    pub fn extend_from_slice(&mut self, bytes: &[u8]) -> Result<(), AllocError>
+        ensures ok { OnOk result (self.new ≡ self.old ++ bytes.now) }
+        ensures err { OnErr result (self.new ≡ self.old) }
+    {
+        self.bytes.extend_from_slice(bytes)
     }
 
     /// Gives the bytes back as a vector. It takes no memory.

@@ -1,0 +1,111 @@
+-- A text cut where a search in it stopped, and a number after some of its digits.
+use Rattle.std.proofs.Common.{◌≡◌, ℕ, zero, suc, ◌+◌, ◌-◌, ◌*◌, ◌<◌, ◌≤◌, Bool, true, false, not, eqb, ltb, List, [], ◌∷◌, length, get_or, take, drop, position, Some, None, refl, sym, ◌∙◌, inl, inr, arith, add-one}
+use Rattle.std.specs.List.{position_or_len}
+use Rattle.std.specs.Char.{is_ascii_digit, digit_value}
+use Rattle.std.specs.Str.{all_ascii_digits}
+use Rattle.std.specs.Str.Parse.{digits_value}
+use Rattle.std.proofs.lemmas.Bool.{ltb-false, leb-true, le-ltb, lt-ltb, and_parts, and_from, not-true, not-false, false_from_ne_true, true≢false}
+use Rattle.std.proofs.lemmas.List.Quantifiers.{position-Some}
+use Rattle.std.proofs.lemmas.List.Sums.{fails_before_first}
+use Rattle.std.proofs.lemmas.Str.Parse.{digits_value-take-le}
+use Rattle.std.proofs.lemmas.Int.Digits.{digits_value_more}
+use Rattle.iso8211_formats.specs.Reading.{cut_at, digits_and_rest, number_of}
+use Rattle.iso8211_formats.proofs.Options.{chosen, none_unless}
+use Rattle.iso8211_formats.proofs.Numbers.{number_of_found, number_of_again, AllDigits-from_test}
+
+cut_at-index : (byte : ℕ) (text : List ℕ) (at : ℕ) → at < length text → eqb (get_or text at 0) byte ≡ true → ((k : ℕ) → k < at → eqb (get_or text k 0) byte ≡ false) → cut_at byte text ≡ Some (take at text, drop (suc at) text)
+unfolding cut_at
+cut_at-index byte [] at lt here before = absurd (omega arith)
+cut_at-index byte (x ∷ xs) zero lt here before = rw here refl
+cut_at-index byte (x ∷ xs) (suc at) lt here before =
+    let first : eqb x byte ≡ false = before 0 (omega arith) in
+    rw (first, cut_at-index byte xs at (omega arith) here (λ k h. before (suc k) (omega arith))) refl
+
+cut_at-nowhere : (byte : ℕ) (text : List ℕ) → ((k : ℕ) → k < length text → eqb (get_or text k 0) byte ≡ false) → cut_at byte text ≡ None
+unfolding cut_at
+cut_at-nowhere byte [] nowhere = refl
+cut_at-nowhere byte (x ∷ xs) nowhere =
+    let first : eqb x byte ≡ false = nowhere 0 (omega arith) in
+    rw (first, cut_at-nowhere byte xs (λ k h. nowhere (suc k) (omega arith))) refl
+
+-- no element passes where the search found none
+fails_everywhere : (p : ℕ → Bool) (xs : List ℕ) → position p xs ≡ None → (k : ℕ) → k < length xs → p (get_or xs k 0) ≡ false
+fails_everywhere p xs e k lt =
+    elim (chosen (ltb (position_or_len p xs) (length xs)) (Some (position_or_len p xs)) None None e) [
+      | inl h ↦ absurd (let found = h.1 in cc)
+      | inr h ↦ let past : length xs ≤ position_or_len p xs = ltb-false _ _ h.0 in fails_before_first p xs k 0 (omega arith)
+    ]
+
+pub cut_at-found : (byte : ℕ) (text : List ℕ) (at : ℕ) → position (λ b. eqb b byte) text ≡ Some at → cut_at byte text ≡ Some (take at text, drop (at + 1) text)
+cut_at-found byte text at e =
+    let found = position-Some (λ b. eqb b byte) text at 0 e in
+    rw add-one (cut_at-index byte text at found.0 found.1 found.2)
+
+pub cut_at-missed : (byte : ℕ) (text : List ℕ) → position (λ b. eqb b byte) text ≡ None → cut_at byte text ≡ None
+cut_at-missed byte text e = cut_at-nowhere byte text (fails_everywhere (λ b. eqb b byte) text e)
+
+digits_and_rest-index : (text : List ℕ) (at : ℕ) → at ≤ length text → ((k : ℕ) → k < at → is_ascii_digit (get_or text k 0) ≡ true) → (at < length text → is_ascii_digit (get_or text at 0) ≡ false) → digits_and_rest text ≡ (take at text, drop at text)
+unfolding digits_and_rest
+digits_and_rest-index [] zero le before here = refl
+digits_and_rest-index [] (suc at) le before here = absurd (omega arith)
+digits_and_rest-index (x ∷ xs) zero le before here = let first : is_ascii_digit x ≡ false = here (omega arith) in rw first refl
+digits_and_rest-index (x ∷ xs) (suc at) le before here =
+    let first : is_ascii_digit x ≡ true = before 0 (omega arith) in
+    rw (first, digits_and_rest-index xs at (omega arith) (λ k h. before (suc k) (omega arith)) (λ h. here (omega arith))) refl
+
+pub digits_and_rest-found : (text : List ℕ) (at : ℕ) → position (λ b. not (is_ascii_digit b)) text ≡ Some at → digits_and_rest text ≡ (take at text, drop at text)
+digits_and_rest-found text at e =
+    let found = position-Some (λ b. not (is_ascii_digit b)) text at 0 e in
+    digits_and_rest-index text at (omega (arith, found.0)) (λ k h. not-false _ (found.2 k h)) (λ _. not-true _ found.1)
+
+pub digits_and_rest-missed : (text : List ℕ) → position (λ b. not (is_ascii_digit b)) text ≡ None → digits_and_rest text ≡ (take (length text) text, drop (length text) text)
+digits_and_rest-missed text e =
+    digits_and_rest-index text (length text) (omega arith) (λ k h. not-false _ (fails_everywhere (λ b. not (is_ascii_digit b)) text e k h)) (λ h. absurd (omega arith))
+
+-- ---- digits of a number
+
+all_ascii_digits-index : (text : List ℕ) (i : ℕ) → i < length text → all_ascii_digits text ≡ true → is_ascii_digit (get_or text i 0) ≡ true
+all_ascii_digits-index [] i lt all = absurd (omega arith)
+all_ascii_digits-index (x ∷ xs) zero lt all = (and_parts _ _ all).0
+all_ascii_digits-index (x ∷ xs) (suc i) lt all = all_ascii_digits-index xs i (omega arith) (and_parts _ _ all).1
+
+pub number_of-other : (text : List ℕ) (i : ℕ) → i < length text → is_ascii_digit (get_or text i 0) ≡ false → number_of text ≡ None
+unfolding number_of
+number_of-other text i lt other =
+    let not_all : all_ascii_digits text ≡ false = false_from_ne_true _ (λ all. true≢false (sym (all_ascii_digits-index text i lt all) ∙ other)) in
+    rw not_all refl
+
+pub number_of-over : (text : List ℕ) (i : ℕ) → 99999 < digits_value 10 (take i text) → number_of text ≡ None
+number_of-over text i over =
+    none_unless (number_of text) (λ n e. let f = number_of_found text n e in omega (arith, over, digits_value-take-le 10 text i (omega arith), f.1, f.3))
+
+pub number_of-zero : (text : List ℕ) → digits_value 10 text ≡ 0 → number_of text ≡ None
+number_of-zero text zero_value =
+    none_unless (number_of text) (λ n e. let f = number_of_found text n e in omega (arith, zero_value, f.1, f.2))
+
+pub number_of-is : (text : List ℕ) (n : ℕ) → all_ascii_digits text ≡ true → n ≡ digits_value 10 text → 1 ≤ n → n ≤ 99999 → number_of text ≡ Some n
+number_of-is text n all value low high = number_of_again text n (AllDigits-from_test text all) (sym value) low high
+
+all_ascii_digits-suc : (text : List ℕ) (i : ℕ) → i < length text → all_ascii_digits (take i text) ≡ true → is_ascii_digit (get_or text i 0) ≡ true → all_ascii_digits (take (suc i) text) ≡ true
+all_ascii_digits-suc [] i lt all digit = absurd (omega arith)
+all_ascii_digits-suc (x ∷ xs) zero lt all digit = and_from _ _ digit refl
+all_ascii_digits-suc (x ∷ xs) (suc i) lt all digit =
+    let parts = and_parts (is_ascii_digit x) (all_ascii_digits (take i xs)) all in
+    and_from _ _ parts.0 (all_ascii_digits-suc xs i (omega arith) parts.1 digit)
+
+pub all_ascii_digits-more : (text : List ℕ) (i : ℕ) → i < length text → all_ascii_digits (take i text) ≡ true → is_ascii_digit (get_or text i 0) ≡ true → all_ascii_digits (take (i + 1) text) ≡ true
+all_ascii_digits-more text i lt all digit = rw add-one (all_ascii_digits-suc text i lt all digit)
+
+pub digit_value-digit : (x : ℕ) → is_ascii_digit x ≡ true → (digit_value x ≡ x - 48) × (48 ≤ x) × (x ≤ 57)
+digit_value-digit x digit =
+    let parts = and_parts _ _ digit in
+    let low : 48 ≤ x = leb-true 48 x parts.0 in
+    let high : x ≤ 57 = leb-true x 57 parts.1 in
+    let not_below : ltb x 48 ≡ false = le-ltb x 48 low in
+    let below : ltb x 58 ≡ true = lt-ltb x 58 (omega arith) in
+    (rw (not_below, below) refl, low, high)
+
+-- the number after one more digit
+pub digits_value-more : (text : List ℕ) (i value digit : ℕ) → i < length text → value ≡ digits_value 10 (take i text) → is_ascii_digit (get_or text i 0) ≡ true → digit ≡ get_or text i 0 - 48 → value * 10 + digit ≡ digits_value 10 (take (i + 1) text)
+digits_value-more text i value digit lt before is_digit same =
+    omega (arith, digits_value_more 10 text i lt, before, same, (digit_value-digit (get_or text i 0) is_digit).0)

@@ -1,0 +1,11 @@
+//! Numbers in text, read and written.
+#![tactic(auto)]
+
+mod depth;
+mod digits;
+mod number;
+mod written;
+
+pub use depth::{depths_are_spelled, read_depth};
+pub use number::{numbers_are_spelled, read_number, read_signed};
+pub use written::{decimals_are_spelled, write_number};
