@@ -1,11 +1,1 @@
-mod Loops
-mod Options
-mod ValueLaws
-mod FieldLaws
-mod FrameTests
-mod Directory
-mod Records
-mod Fields
-mod RecordLaws
-mod FileLaws
-mod Counts
+mod Tagged

@@ -5,12 +5,27 @@ ghost use Rattle.iso8211_records.specs.declared.fault.FileFault.TheVariants.{NoM
 
 use std::alloc::{AllocError, AllocFailed};
 
-/// Why a file was not read.
+/// Why a file was not read (ISO/IEC 8211): the first fault by record, and in a record the first in the
+/// order of the variants.
+///
+/// An offset is a place in the file, counted from 0. Data records are counted from 1.
 #[derive(Clone, Copy, Debug, PartialEq, Eq)]
 pub enum FileFault {
-    /// It isn't a file of the one form that is read so far.
-    Unsupported,
-    /// There was no memory for its records.
+    /// No leader of the kind that is read begins at this offset.
+    Leader(usize),
+    /// No entry of the directory, or no closing byte of it, stands at this offset.
+    Directory(usize),
+    /// The record at this offset passes the file's end; or the field of the entry at this offset
+    /// passes its record's end.
+    Span(usize),
+    /// The field of the entry at this offset is empty or doesn't end with a field terminator.
+    Terminator(usize),
+    /// The field with this tag of the data descriptive record describes no field; or a data record has
+    /// a field with this tag, and the data descriptive record has none.
+    Descriptor([u8; 4]),
+    /// A field with this tag of this data record has no reading by its descriptor.
+    Subfield(usize, [u8; 4]),
+    /// There was no memory for the records.
     NoMemory,
 }
 
