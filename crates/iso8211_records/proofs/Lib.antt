@@ -1,1 +1,6 @@
 mod Tagged
+mod Options
+mod ValueLaws
+mod FieldLaws
+mod Loops
+mod FrameTests

@@ -4,6 +4,8 @@ use Rattle.iso8211_formats.specs.declared.format.Format.{Format}
 use Rattle.iso8211_formats.specs.declared.format.Format.TheVariants.{TextOpen, Text as TextOf, Unsigned, Signed, Bits as BitsOf}
 use Rattle.iso8211_records.specs.declared.value.Value.{Value}
 use Rattle.iso8211_records.specs.declared.value.Value.TheVariants.{Number, Text, Bits}
+use Rattle.iso8211_records.specs.declared.fault.FieldFault.{FieldFault}
+use Rattle.iso8211_records.specs.declared.fault.FieldFault.TheVariants.{Unspelled, NoMemory}
 use Rattle.iso8211_records.specs.declared.terminator.TheConstants.{FIELD_TERMINATOR, UNIT_TERMINATOR}
 use Rattle.iso8211_records.specs.Spelling.{unsigned, signed, FieldFormats}
 
@@ -11,6 +13,16 @@ infixl 10 ◌>>=◌
 abbrev pub ◌>>=◌ : {A B : Type 0} → Option A → (A → Option B) → Option B
 None >>= f = None
 (Some x) >>= f = f x
+
+-- A reader of a field failed so: there is nothing to be read, unless memory ran out.
+abbrev pub Lacks : {Y : Type 0} → FieldFault → Option Y → Type 0
+Lacks Unspelled read = read ≡ None
+Lacks NoMemory read = Unit {0}
+
+-- What a reader of a field returned, seen by view, is what there is to be read, unless memory ran out.
+abbrev pub Finds : {X Y : Type 0} → (X → Y) → Result X FieldFault → Option Y → Type 0
+Finds view (Ok x) read = read ≡ Some (view x)
+Finds view (Err fault) read = Lacks fault read
 
 -- what was read, behind what was read before it
 abbrev pub before_all : {A : Type 0} → List A → Option (List A) → Option (List A)

@@ -2,6 +2,7 @@
 
 ghost use Rattle.std.specs.Prelude.{◌≡◌};
 ghost use Rattle.iso8211_records.specs.declared.fault.FileFault.TheVariants.{NoMemory};
+ghost use Rattle.iso8211_records.specs.declared.fault.FieldFault.TheVariants.{NoMemory as NoMemoryForField};
 
 use std::alloc::{AllocError, AllocFailed};
 
@@ -42,5 +43,30 @@ impl<T: Drop> From<AllocFailed<T>> for FileFault {
 
     fn from(_: AllocFailed<T>) -> FileFault {
         FileFault::NoMemory
+    }
+}
+
+/// Why a field was not read.
+#[derive(Clone, Copy, Debug, PartialEq, Eq)]
+pub(crate) enum FieldFault {
+    /// Its bytes are no spelling of values by its formats.
+    Unspelled,
+    /// There was no memory for its values.
+    NoMemory,
+}
+
+impl From<AllocError> for FieldFault {
+    ghost from_gives = { λ _ e. e ≡ NoMemoryForField };
+
+    fn from(_: AllocError) -> FieldFault {
+        FieldFault::NoMemory
+    }
+}
+
+impl<T: Drop> From<AllocFailed<T>> for FieldFault {
+    ghost from_gives = { λ _ e. e ≡ NoMemoryForField };
+
+    fn from(_: AllocFailed<T>) -> FieldFault {
+        FieldFault::NoMemory
     }
 }

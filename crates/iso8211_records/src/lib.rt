@@ -9,6 +9,7 @@ mod file;
 mod record;
 mod terminator;
 mod value;
+mod values;
 
 pub use descriptors::DescriptorMap;
 pub use fault::FileFault;
