@@ -6,10 +6,11 @@ use Rattle.std.proofs.lemmas.List.Elements.{All-from_recursion}
 use Rattle.std.proofs.lemmas.Bool.{and_parts, and_from, eqb-true, eq-eqb, true≢false, cases_Bool}
 use Rattle.chart_model.specs.Change.{Change}
 use Rattle.chart_model.specs.Dataset.{DatasetValue, IsDataset, IsPlainInsert}
+use Rattle.s57_records.specs.declared.general.General.{General}
 use Rattle.s57_records.specs.declared.fault.DatasetFault.{DatasetFault}
 use Rattle.s57_records.specs.declared.fault.DatasetFault.TheVariants.{NoGeneral, Profile}
 use Rattle.s57_records.specs.Subfields.{Subfields}
-use Rattle.s57_records.specs.Rows.{◌>>=◌, ensure, one_byte, two_bytes, reads_as, General, general_of, checked_structure, scale_of, vector_of, feature_of}
+use Rattle.s57_records.specs.Rows.{◌>>=◌, ensure, one_byte, two_bytes, reads_as, checked_edition, general_of, checked_structure, scale_of, vector_of, feature_of}
 use Rattle.s57_records.specs.Dataset.{Kind, general, parameters, vector, feature, other, kind_of, Said, change_is, scale_is, nothing, said_by, looked_at, all_of, change_in, scale_among, header_with, cancels, dataset_after, dataset_of}
 use Rattle.s57_records.proofs.Steps.{bind_then, ensure_ok, chosen, ok_is}
 use Rattle.s57_records.proofs.Changes.{AreSound, vector_is_plain, feature_is_plain}
@@ -32,7 +33,7 @@ unfolding general_of
 general_is s g sound e =
     bind_then (s.key (codes "DSID") (codes "DSNM")) _ g e (λ key key_e after_key.
     bind_then (s.digits (codes "DSID") (codes "EDTN")) _ g after_key (λ edition edition_e after_edition.
-    bind_then (ensure (not (eqb edition 0 && reads_as (s.number (codes "DSID") (codes "PROF") one_byte) 1)) (Profile (codes "EDTN"))) _ g after_edition (λ _ test_e after_test.
+    bind_then (checked_edition s edition) _ g after_edition (λ _ test_e after_test.
     bind_then (s.digits (codes "DSID") (codes "UPDN")) _ g after_test (λ update update_e after_update.
     bind_then (s.date (codes "DSID") (codes "ISDT")) _ g after_update (λ issued issued_e after_issued.
     bind_then (s.number (codes "DSID") (codes "PROF") one_byte) _ g after_issued (λ prof prof_e after_prof.

@@ -2,3 +2,5 @@ pub mod Subfields
 pub mod Rows
 pub mod Dataset
 pub mod Readings
+pub mod Answers
+pub mod Reading

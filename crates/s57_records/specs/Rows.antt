@@ -6,6 +6,7 @@ use Rattle.chart_model.specs.declared.name.Name.{Name}
 use Rattle.chart_model.specs.declared.name.Foid.{Foid}
 use Rattle.chart_model.specs.declared.update_record.Control.{Control}
 use Rattle.chart_model.specs.Change.{Change}
+use Rattle.s57_records.specs.declared.general.General.{General}
 use Rattle.s57_records.specs.declared.fault.DatasetFault.{DatasetFault}
 use Rattle.s57_records.specs.declared.fault.DatasetFault.TheVariants.{MissingField, Value, Profile}
 use Rattle.s57_records.specs.Subfields.{Subfields}
@@ -35,20 +36,16 @@ reads_as (Err fault) m = false
 
 -- ---- general information
 
-pub record General : Type 0 where
-  pub key : List ℕ
-  pub edition : ℕ
-  pub update : ℕ
-  pub issued : List ℕ
-  pub base : Bool
-  pub agency : ℕ
+-- an edition of 0 is refused in a base file
+abbrev pub checked_edition : Subfields → ℕ → Result (Unit {0}) DatasetFault
+checked_edition s edition = ensure (not (edition == 0 && reads_as (s.number (codes "DSID") (codes "PROF") one_byte) 1)) (Profile (codes "EDTN"))
 
 -- DSID: PROF is 1 for a base file, whose edition isn't 0, and 2 for an update
 unfoldable pub general_of : Subfields → Result General DatasetFault
 general_of s = do
   key ← s.key (codes "DSID") (codes "DSNM")
   edition ← s.digits (codes "DSID") (codes "EDTN")
-  _ ← ensure (not (edition == 0 && reads_as (s.number (codes "DSID") (codes "PROF") one_byte) 1)) (Profile (codes "EDTN"))
+  _ ← checked_edition s edition
   update ← s.digits (codes "DSID") (codes "UPDN")
   issued ← s.date (codes "DSID") (codes "ISDT")
   prof ← s.number (codes "DSID") (codes "PROF") one_byte

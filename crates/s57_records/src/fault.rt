@@ -3,6 +3,7 @@
 ghost use Rattle.std.specs.Prelude.{◌≡◌};
 ghost use Rattle.s57_records.specs.declared.fault.DatasetFault.TheVariants.{NoMemory};
 
+use s57_fields::FieldFault;
 use std::alloc::{AllocError, AllocFailed};
 
 /// Why a file is no data set: the first fault by record, then by field, then by subfield. Records are
@@ -34,5 +35,20 @@ impl<T: Drop> From<AllocFailed<T>> for DatasetFault {
 
     fn from(_: AllocFailed<T>) -> DatasetFault {
         DatasetFault::NoMemory
+    }
+}
+
+impl From<FieldFault> for DatasetFault {
+    ghost use Rattle.std.specs.Prelude.{◌≡◌};
+    ghost use Rattle.s57_records.specs.Readings.{fault_of};
+
+    ghost from_gives = { λ fault e. e ≡ fault_of fault };
+
+    fn from(fault: FieldFault) -> DatasetFault {
+        match fault {
+            FieldFault::MissingField { record, tag } => DatasetFault::MissingField { record, tag },
+            FieldFault::Value { record, label } => DatasetFault::Value { record, label },
+            FieldFault::NoMemory => DatasetFault::NoMemory,
+        }
     }
 }

@@ -2,5 +2,7 @@
 #![tactic(auto)]
 
 mod fault;
+mod general;
+mod reader;
 
 pub use fault::DatasetFault;
