@@ -1,5 +1,5 @@
 -- What stands under a label in the fields of a record.
-use Rattle.std.specs.Prelude.{ℕ, zero, suc, Bool, true, false, if◌then◌else◌, List, [], ◌∷◌, length, slice_get, Option, Some, None, option_and_then, Result, Ok, Err}
+use Rattle.std.specs.Prelude.{ℕ, zero, suc, Bool, true, false, if◌then◌else◌, List, [], ◌∷◌, ◌++◌, length, slice_get, Option, Some, None, option_and_then, Result, Ok, Err}
 use Rattle.std.specs.List.{flat_map}
 use Rattle.iso8211_records.specs.declared.value.Value.{Value}
 use Rattle.s57_fields.specs.declared.fault.FieldFault.{FieldFault}
@@ -39,6 +39,10 @@ every between n [] = []
 every between zero (x ∷ xs) = x ∷ every between between xs
 every between (suc n) (x ∷ xs) = every between n xs
 
+-- the values under a place of the repeated group, of all fields
+abbrev pub column : ℕ → ℕ → List (List Value) → List Value
+column at between fields = flat_map (λ values. every between at values) fields
+
 -- each of the values as it is read, or the fault where one isn't what it has to be
 unfoldable pub read_each : {A : Type 0} → (Value → Option A) → FieldFault → List Value → Result (List A) FieldFault
 read_each read fault [] = Ok []
@@ -51,9 +55,13 @@ read_each read fault (value ∷ values) = do
 unfoldable pub column_in : {A : Type 0} → (Value → Option A) → RowValues → Subfield → Result (List A) FieldFault
 column_in read row subfield = do
   place ← or_fault (missing row) (repeated_at subfield.place)
-  read_each read (bad row subfield.label) (flat_map (λ values. every place.1 place.0 values) row.fields)
+  read_each read (bad row subfield.label) (column place.0 place.1 row.fields)
 
 -- the empty list where the record has no field of the tag
 abbrev pub listed : {A : Type 0} → List (List Value) → Result (List A) FieldFault → Result (List A) FieldFault
 listed [] answer = Ok []
 listed (values ∷ more) answer = answer
+
+-- values in front of those that are answered
+abbrev pub before : {A : Type 0} → List A → Result (List A) FieldFault → Result (List A) FieldFault
+before front answer = answer >>= λ xs. Ok (front ++ xs)

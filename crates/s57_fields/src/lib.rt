@@ -5,16 +5,20 @@
 //! from each record.
 #![tactic(auto)]
 
+mod column;
 mod fault;
 mod general;
 mod identifiers;
 mod kind;
 pub mod labels;
 mod lists;
+mod name;
 mod number;
 mod row_fields;
+mod signed;
 mod subfield;
 pub mod tags;
+mod text;
 
 pub use fault::FieldFault;
 pub use general::{Dsid, DsidRow, Dspm, DspmRow, Dssi, DssiRow};
@@ -24,6 +28,9 @@ pub use lists::{
     AttributeRow, ControlRow, CoordinateRow, FeaturePointerRow, RelatedRow, SoundingRow,
     VectorPointerRow,
 };
+pub use name::{ObjectName, RecordName};
 pub use number::{FourBytes, OneByte, TwoBytes};
 pub use row_fields::RowFields;
+pub use signed::Within;
 pub use subfield::{Place, Subfield};
+pub use text::{DataSetName, EightBytes, NineDigits, PlainText, key_in};

@@ -66,6 +66,27 @@ impl<'a> RowFields<'a> {
         }
     }
 
+    /// The number of the data record, from 1.
+    pub fn number(&self) -> usize
+        ensures { result ≡ self.now.number }
+    {
+        self.number
+    }
+
+    /// The tag of the fields.
+    pub fn tag(&self) -> [u8; 4]
+        ensures { result ≡ self.now.tag }
+    {
+        self.tag
+    }
+
+    /// All fields of the record.
+    pub fn record(&self) -> &'a [RawField]
+        ensures { self.now ≡ fields_in self.now.number self.now.tag result.now }
+    {
+        self.fields
+    }
+
     /// The fault of a subfield that isn't in the descriptor.
     pub fn missing(&self) -> FieldFault
         ensures { result ≡ missing self.now }

@@ -1,16 +1,17 @@
 //! Where a subfield stands in the descriptor of a file's field.
 
-ghost use Rattle.std.specs.Prelude.{◌≡◌, ◌<◌, ◌≤◌, ◌-◌, None, Some, length, position, IfSome};
+ghost use Rattle.std.specs.Prelude.{◌≡◌, ◌<◌, ◌≤◌, Some, length, position, All, IfSome, IfOk};
 ghost use Rattle.std.specs.Option.{option_copied};
 ghost use Rattle.std.specs.Str.{bytes_eq};
-ghost use Rattle.iso8211_formats.specs.Layout.{IsLayout};
+ghost use Rattle.s57_fields.specs.Answers.{Gives, GivesBy};
+ghost use Rattle.s57_fields.specs.Columns.{once_in, column_in};
 ghost use Rattle.s57_fields.specs.Places.{group_start, place_of};
 
+use crate::column::{Column, read_value};
 use crate::fault::FieldFault;
 use crate::kind::Kind;
 use crate::row_fields::RowFields;
 use iso8211_formats::Descriptor;
-use iso8211_records::Value;
 use std::alloc::Global;
 
 /// Where a label stands in a field's descriptor. Places are counted from 0.
@@ -81,5 +82,62 @@ impl Subfield {
             Some(descriptor) => place_in(descriptor, label),
         };
         Subfield { label, place }
+    }
+
+    /// What the subfield is read as, where it stands once: in the record's first field of the tag.
+    ///
+    /// # Errors
+    ///
+    /// `MissingField` where the descriptor or the record doesn't have it; `Value`; `NoMemory`.
+    #[tactic(auto, unfolding(crate::specs::Columns::once_in))]
+    pub fn once<K: Kind>(
+        &self,
+        alloc: Global,
+        values: &RowFields<'_>,
+        kind: &K,
+    ) -> Result<K::Output, FieldFault>
+        ensures found { Gives result (once_in (K.reads kind.now) values.now self.now) }
+        ensures holds { IfOk result (K.holds kind.now) }
+    {
+        let Place::Once(at) = self.place else {
+            return Err(values.missing());
+        };
+        let Some(first) = values.first() else {
+            return Err(values.missing());
+        };
+        match first.get(at as usize) {
+            Some(value) => read_value(alloc, kind, value, values.number(), self.label),
+            None => Err(values.bad(self.label)),
+        }
+    }
+
+    /// What the subfield is read as in each group of each of the record's fields of the tag, in order.
+    ///
+    /// # Errors
+    ///
+    /// `MissingField` where the descriptor doesn't have it in its repeated group; `Value`; `NoMemory`.
+    #[tactic(auto, unfolding(crate::specs::Columns::column_in))]
+    pub fn column<K: Kind>(
+        &self,
+        alloc: Global,
+        values: &RowFields<'_>,
+        kind: &K,
+    ) -> Result<Vec<K::Output>, FieldFault>
+        ensures found { GivesBy (λ read. read.items) result (column_in (K.reads kind.now) values.now self.now) }
+        ensures holds { IfOk result (λ read. All (K.holds kind.now) read.items) }
+    {
+        match self.place {
+            Place::Repeated { at, between } => {
+                let column = Column {
+                    tag: values.tag(),
+                    number: values.number(),
+                    label: self.label,
+                    at,
+                    between,
+                };
+                column.read(alloc, values.record(), kind)
+            }
+            _ => Err(values.missing()),
+        }
     }
 }
