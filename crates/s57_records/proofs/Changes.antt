@@ -16,7 +16,9 @@ use Rattle.chart_model.specs.Record.{IsVectorName, IsFeatureName, AreCoords, IsC
 use Rattle.s57_records.specs.declared.fault.DatasetFault.{DatasetFault}
 use Rattle.s57_records.specs.declared.fault.DatasetFault.TheVariants.{MissingField, Value, Profile}
 use Rattle.s57_records.specs.Subfields.{Subfields}
-use Rattle.s57_records.specs.Rows.{◌>>=◌, ensure, one_byte, two_bytes, four_bytes, reads_as, is_instruction, ruin_of, unless_deleted, edit_of, is_vector_kind, vector_of, is_prim, inserts, foid_of, feature_of}
+use Rattle.s57_records.specs.declared.change.VectorHead.{VectorHead}
+use Rattle.s57_records.specs.declared.change.FeatureHead.{FeatureHead}
+use Rattle.s57_records.specs.Rows.{◌>>=◌, ensure, one_byte, two_bytes, four_bytes, reads_as, is_instruction, ruin_of, unless_deleted, edit_of, is_vector_kind, vector_head, coords_of, vector_of, is_prim, inserts, checked_prim, foid_of, feature_head, feature_of}
 use Rattle.s57_records.proofs.Steps.{bind_ok, bind_then, ensure_ok, chosen, ok_is}
 
 -- what the lists of a record keep
@@ -100,14 +102,37 @@ coords_are s sound ruin flat deep f d one =
           subst (λ (cs : List Coord). AreCoords (flat ++ cs)) (sym none) (subst AreCoords (sym (append-nil flat)) (record { each = is_flat.0; alike = inr is_flat.1 }))
     ]
 
+are_coords : (s : Subfields) → AreSound s → (ruin : ℕ) (coords : List Coord) → coords_of ruin s ≡ Ok coords → AreCoords coords
+unfolding coords_of
+are_coords s sound ruin coords e =
+    bind_then (unless_deleted ruin (s.coords (codes "SG2D"))) _ coords e (λ flat flat_e after_flat.
+    bind_then (ensure (not (s.has (codes "SG2D") && s.has (codes "SG3D"))) (Profile (codes "SG3D"))) _ coords after_flat (λ _ one_e after_one.
+    bind_then (unless_deleted ruin (s.coords (codes "SG3D"))) _ coords after_one (λ deep deep_e made.
+    subst AreCoords (ok_is (flat ++ deep) coords made) (coords_are s sound ruin flat deep flat_e deep_e (ensure_ok _ _ _ one_e)))))
+
+-- what a vector record's head keeps
+record IsVectorHead (base : Bool) (n : ℕ) (s : Subfields) (head : VectorHead) : Type 0 where
+  kind : is_vector_kind head.target.rcnm ≡ true
+  ruin : ruin_of base n s (codes "VRID") ≡ Ok head.ruin
+
+vector_head_is : (base : Bool) (n : ℕ) (s : Subfields) (head : VectorHead) → vector_head base n s ≡ Ok head → IsVectorHead base n s head
+unfolding vector_head
+vector_head_is base n s head e =
+    bind_then (s.number (codes "VRID") (codes "RCNM") one_byte) _ head e (λ rcnm rcnm_e after_rcnm.
+    bind_then (ensure (is_vector_kind rcnm) (Profile (codes "RCNM"))) _ head after_rcnm (λ _ kind_e after_kind.
+    bind_then (s.number (codes "VRID") (codes "RCID") four_bytes) _ head after_kind (λ rcid rcid_e after_rcid.
+    bind_then (s.number (codes "VRID") (codes "RVER") two_bytes) _ head after_rcid (λ version version_e after_version.
+    bind_then (ruin_of base n s (codes "VRID")) _ head after_version (λ ruin ruin_e made.
+    subst (IsVectorHead base n s) (ok_is _ head made) (record { kind = ensure_ok _ _ _ kind_e; ruin = ruin_e }))))))
+
 not_both : (rcnm : ℕ) → is_vector_kind rcnm ≡ true → rcnm ≡ 100 → ⊥
 not_both rcnm vector feature = true≢false (sym vector ∙ ap is_vector_kind feature)
 
 -- a vector record's change, from its parts
-vector_made : (base : Bool) (n : ℕ) (s : Subfields) (sound : AreSound s) (rcnm rcid version ruin : ℕ) (attrs : List Attr) (pointer_edit : Option Control) (pointers : List Pointer) (coord_edit : Option Control) (flat deep : List Coord) → is_vector_kind rcnm ≡ true → ruin_of base n s (codes "VRID") ≡ Ok ruin → unless_deleted ruin (s.attrs (codes "ATTV")) ≡ Ok attrs → IsEdit pointer_edit → IsEdit coord_edit → AreCoords (flat ++ deep) → IsChange (record {
-  target = record { rcnm = rcnm; rcid = rcid };
-  ruin = ruin;
-  version = version;
+vector_made : (base : Bool) (n : ℕ) (s : Subfields) (sound : AreSound s) (head : VectorHead) (attrs : List Attr) (pointer_edit : Option Control) (pointers : List Pointer) (coord_edit : Option Control) (coords : List Coord) → IsVectorHead base n s head → unless_deleted head.ruin (s.attrs (codes "ATTV")) ≡ Ok attrs → IsEdit pointer_edit → IsEdit coord_edit → AreCoords coords → IsChange (record {
+  target = head.target;
+  ruin = head.ruin;
+  version = head.version;
   prim = 0;
   grup = 0;
   class = 0;
@@ -116,40 +141,34 @@ vector_made : (base : Bool) (n : ℕ) (s : Subfields) (sound : AreSound s) (rcnm
   pointer_edit = pointer_edit;
   pointers = pointers;
   coord_edit = coord_edit;
-  coords = flat ++ deep;
+  coords = coords;
   related_edit = None;
   related = [];
 })
-vector_made base n s sound rcnm rcid version ruin attrs pointer_edit pointers coord_edit flat deep kind ruin_e attrs_e pointer_e coord_e coords_e = record {
-  target = inl (vector_name (record { rcnm = rcnm; rcid = rcid }) kind);
-  ruin = ruin_is base n s (codes "VRID") ruin ruin_e;
+vector_made base n s sound head attrs pointer_edit pointers coord_edit coords is attrs_e pointer_e coord_e coords_e = record {
+  target = inl (vector_name head.target is.kind);
+  ruin = ruin_is base n s (codes "VRID") head.ruin is.ruin;
   pointer_edit = pointer_e;
   coord_edit = coord_e;
   related_edit = tt;
-  attrs = kept (λ xs. All (λ attr. IsPlainText attr.value) xs) ruin (s.attrs (codes "ATTV")) attrs (All-nil _) (sound.attrs (codes "ATTV")) attrs_e;
+  attrs = kept (λ xs. All (λ attr. IsPlainText attr.value) xs) head.ruin (s.attrs (codes "ATTV")) attrs (All-nil _) (sound.attrs (codes "ATTV")) attrs_e;
   coords = coords_e;
   vector = λ _. record { prim = refl; grup = refl; class = refl; foid = refl; related_edit = refl; related = refl };
-  feature = λ other. absurd (not_both rcnm kind other);
-  insert = λ other _. absurd (not_both rcnm kind other);
+  feature = λ other. absurd (not_both head.target.rcnm is.kind other);
+  insert = λ other _. absurd (not_both head.target.rcnm is.kind other);
 }
 
 pub vector_is_change : (base : Bool) (n : ℕ) (s : Subfields) (change : Change) → AreSound s → vector_of base n s ≡ Ok change → IsChange change
 unfolding vector_of
 vector_is_change base n s change sound e =
-    bind_then (s.number (codes "VRID") (codes "RCNM") one_byte) _ change e (λ rcnm rcnm_e after_rcnm.
-    bind_then (ensure (is_vector_kind rcnm) (Profile (codes "RCNM"))) _ change after_rcnm (λ _ kind_e after_kind.
-    bind_then (s.number (codes "VRID") (codes "RCID") four_bytes) _ change after_kind (λ rcid rcid_e after_rcid.
-    bind_then (s.number (codes "VRID") (codes "RVER") two_bytes) _ change after_rcid (λ version version_e after_version.
-    bind_then (ruin_of base n s (codes "VRID")) _ change after_version (λ ruin ruin_e after_ruin.
-    bind_then (unless_deleted ruin (s.attrs (codes "ATTV"))) _ change after_ruin (λ attrs attrs_e after_attrs.
-    bind_then (edit_of base ruin n s (codes "VRPC") (codes "VPUI") (codes "VPIX") (codes "NVPT")) _ change after_attrs (λ pointer_edit pointer_edit_e after_pointer_edit.
-    bind_then (unless_deleted ruin (s.pointers (codes "VRPT"))) _ change after_pointer_edit (λ pointers pointers_e after_pointers.
-    bind_then (edit_of base ruin n s (codes "SGCC") (codes "CCUI") (codes "CCIX") (codes "CCNC")) _ change after_pointers (λ coord_edit coord_edit_e after_coord_edit.
-    bind_then (unless_deleted ruin (s.coords (codes "SG2D"))) _ change after_coord_edit (λ flat flat_e after_flat.
-    bind_then (ensure (not (s.has (codes "SG2D") && s.has (codes "SG3D"))) (Profile (codes "SG3D"))) _ change after_flat (λ _ one_e after_one.
-    bind_then (unless_deleted ruin (s.coords (codes "SG3D"))) _ change after_one (λ deep deep_e after_deep.
-    bind_then (ensure (not (s.has (codes "ARCC"))) (Profile (codes "ARCC"))) _ change after_deep (λ _ arcs_e made.
-    subst IsChange (ok_is _ change made) (vector_made base n s sound rcnm rcid version ruin attrs pointer_edit pointers coord_edit flat deep (ensure_ok _ _ _ kind_e) ruin_e attrs_e (edit_is base ruin n s _ _ _ _ pointer_edit pointer_edit_e) (edit_is base ruin n s _ _ _ _ coord_edit coord_edit_e) (coords_are s sound ruin flat deep flat_e deep_e (ensure_ok _ _ _ one_e))))))))))))))))
+    bind_then (vector_head base n s) _ change e (λ head head_e after_head.
+    bind_then (unless_deleted head.ruin (s.attrs (codes "ATTV"))) _ change after_head (λ attrs attrs_e after_attrs.
+    bind_then (edit_of base head.ruin n s (codes "VRPC") (codes "VPUI") (codes "VPIX") (codes "NVPT")) _ change after_attrs (λ pointer_edit pointer_edit_e after_pointer_edit.
+    bind_then (unless_deleted head.ruin (s.pointers (codes "VRPT"))) _ change after_pointer_edit (λ pointers pointers_e after_pointers.
+    bind_then (edit_of base head.ruin n s (codes "SGCC") (codes "CCUI") (codes "CCIX") (codes "CCNC")) _ change after_pointers (λ coord_edit coord_edit_e after_coord_edit.
+    bind_then (coords_of head.ruin s) _ change after_coord_edit (λ coords coords_e after_coords.
+    bind_then (ensure (not (s.has (codes "ARCC"))) (Profile (codes "ARCC"))) _ change after_coords (λ _ arcs_e made.
+    subst IsChange (ok_is _ change made) (vector_made base n s sound head attrs pointer_edit pointers coord_edit coords (vector_head_is base n s head head_e) attrs_e (edit_is base head.ruin n s _ _ _ _ pointer_edit pointer_edit_e) (edit_is base head.ruin n s _ _ _ _ coord_edit coord_edit_e) (are_coords s sound head.ruin coords coords_e)))))))))
 
 -- ---- features
 
@@ -187,14 +206,34 @@ vector_differs rcnm feature (inl h) = omega (arith, feature, h)
 vector_differs rcnm feature (inr (inl h)) = omega (arith, feature, h)
 vector_differs rcnm feature (inr (inr h)) = omega (arith, feature, h)
 
+-- what a feature's head keeps
+record IsFeatureHead (base : Bool) (n : ℕ) (s : Subfields) (head : FeatureHead) : Type 0 where
+  kind : head.target.rcnm ≡ 100
+  prim : (not (inserts base s) || is_prim head.prim) ≡ true
+  ruin : ruin_of base n s (codes "FRID") ≡ Ok head.ruin
+
+feature_head_is : (base : Bool) (n : ℕ) (s : Subfields) (head : FeatureHead) → feature_head base n s ≡ Ok head → IsFeatureHead base n s head
+unfolding feature_head
+feature_head_is base n s head e =
+    bind_then (s.number (codes "FRID") (codes "RCNM") one_byte) _ head e (λ rcnm rcnm_e after_rcnm.
+    bind_then (ensure (eqb rcnm 100) (Profile (codes "RCNM"))) _ head after_rcnm (λ _ kind_e after_kind.
+    bind_then (s.number (codes "FRID") (codes "RCID") four_bytes) _ head after_kind (λ rcid rcid_e after_rcid.
+    bind_then (s.number (codes "FRID") (codes "PRIM") one_byte) _ head after_rcid (λ prim prim_e after_prim.
+    bind_then (checked_prim base n s prim) _ head after_prim (λ _ listed_e after_listed.
+    bind_then (s.number (codes "FRID") (codes "GRUP") one_byte) _ head after_listed (λ grup grup_e after_grup.
+    bind_then (s.number (codes "FRID") (codes "OBJL") two_bytes) _ head after_grup (λ class class_e after_class.
+    bind_then (s.number (codes "FRID") (codes "RVER") two_bytes) _ head after_class (λ version version_e after_version.
+    bind_then (ruin_of base n s (codes "FRID")) _ head after_version (λ ruin ruin_e made.
+    subst (IsFeatureHead base n s) (ok_is _ head made) (record { kind = eqb-true rcnm 100 (ensure_ok _ _ _ kind_e); prim = ensure_ok _ _ _ listed_e; ruin = ruin_e }))))))))))
+
 -- a feature's change, from its parts
-feature_made : (base : Bool) (n : ℕ) (s : Subfields) (sound : AreSound s) (rcnm rcid prim grup class version ruin : ℕ) (foid : Option Foid) (attrs : List Attr) (related_edit : Option Control) (related : List Related) (pointer_edit : Option Control) (pointers : List Pointer) → rcnm ≡ 100 → (not (inserts base s) || is_prim prim) ≡ true → ruin_of base n s (codes "FRID") ≡ Ok ruin → foid_of ruin n s ≡ Ok foid → unless_deleted ruin (s.attrs (codes "ATTF")) ≡ Ok attrs → IsEdit related_edit → IsEdit pointer_edit → unless_deleted ruin (s.pointers (codes "FSPT")) ≡ Ok pointers → IsChange (record {
-  target = record { rcnm = rcnm; rcid = rcid };
-  ruin = ruin;
-  version = version;
-  prim = prim;
-  grup = grup;
-  class = class;
+feature_made : (base : Bool) (n : ℕ) (s : Subfields) (sound : AreSound s) (head : FeatureHead) (foid : Option Foid) (attrs : List Attr) (related_edit : Option Control) (related : List Related) (pointer_edit : Option Control) (pointers : List Pointer) → IsFeatureHead base n s head → foid_of head.ruin n s ≡ Ok foid → unless_deleted head.ruin (s.attrs (codes "ATTF")) ≡ Ok attrs → IsEdit related_edit → IsEdit pointer_edit → unless_deleted head.ruin (s.pointers (codes "FSPT")) ≡ Ok pointers → IsChange (record {
+  target = head.target;
+  ruin = head.ruin;
+  version = head.version;
+  prim = head.prim;
+  grup = head.grup;
+  class = head.class;
   foid = foid;
   attrs = attrs;
   pointer_edit = pointer_edit;
@@ -204,42 +243,34 @@ feature_made : (base : Bool) (n : ℕ) (s : Subfields) (sound : AreSound s) (rcn
   related_edit = related_edit;
   related = related;
 })
-feature_made base n s sound rcnm rcid prim grup class version ruin foid attrs related_edit related pointer_edit pointers kind prim_e ruin_e foid_e attrs_e related_edit_e pointer_edit_e pointers_e = record {
-  target = inr kind;
-  ruin = ruin_is base n s (codes "FRID") ruin ruin_e;
+feature_made base n s sound head foid attrs related_edit related pointer_edit pointers is foid_e attrs_e related_edit_e pointer_edit_e pointers_e = record {
+  target = inr is.kind;
+  ruin = ruin_is base n s (codes "FRID") head.ruin is.ruin;
   pointer_edit = pointer_edit_e;
   coord_edit = tt;
   related_edit = related_edit_e;
-  attrs = kept (λ xs. All (λ attr. IsPlainText attr.value) xs) ruin (s.attrs (codes "ATTF")) attrs (All-nil _) (sound.attrs (codes "ATTF")) attrs_e;
+  attrs = kept (λ xs. All (λ attr. IsPlainText attr.value) xs) head.ruin (s.attrs (codes "ATTF")) attrs (All-nil _) (sound.attrs (codes "ATTF")) attrs_e;
   coords = record { each = All-nil _; alike = inl (All-nil _) };
-  vector = λ other. absurd (vector_differs rcnm kind other);
+  vector = λ other. absurd (vector_differs head.target.rcnm is.kind other);
   feature = λ _. record {
     coord_edit = refl;
     coords = refl;
-    topi = kept (λ xs. All (λ pointer. pointer.topi ≡ 255) xs) ruin (s.pointers (codes "FSPT")) pointers (All-nil _) sound.topi pointers_e;
+    topi = kept (λ xs. All (λ pointer. pointer.topi ≡ 255) xs) head.ruin (s.pointers (codes "FSPT")) pointers (All-nil _) sound.topi pointers_e;
   };
-  insert = λ _ one. record { prim = prim_is base n s prim ruin prim_e ruin_e one; foid = foid_some ruin n s foid foid_e one };
+  insert = λ _ one. record { prim = prim_is base n s head.prim head.ruin is.prim is.ruin one; foid = foid_some head.ruin n s foid foid_e one };
 }
 
 pub feature_is_change : (base : Bool) (n : ℕ) (s : Subfields) (change : Change) → AreSound s → feature_of base n s ≡ Ok change → IsChange change
 unfolding feature_of
 feature_is_change base n s change sound e =
-    bind_then (s.number (codes "FRID") (codes "RCNM") one_byte) _ change e (λ rcnm rcnm_e after_rcnm.
-    bind_then (ensure (eqb rcnm 100) (Profile (codes "RCNM"))) _ change after_rcnm (λ _ kind_e after_kind.
-    bind_then (s.number (codes "FRID") (codes "RCID") four_bytes) _ change after_kind (λ rcid rcid_e after_rcid.
-    bind_then (s.number (codes "FRID") (codes "PRIM") one_byte) _ change after_rcid (λ prim prim_e after_prim.
-    bind_then (ensure (not (inserts base s) || is_prim prim) (Value n (codes "PRIM"))) _ change after_prim (λ _ listed_e after_listed.
-    bind_then (s.number (codes "FRID") (codes "GRUP") one_byte) _ change after_listed (λ grup grup_e after_grup.
-    bind_then (s.number (codes "FRID") (codes "OBJL") two_bytes) _ change after_grup (λ class class_e after_class.
-    bind_then (s.number (codes "FRID") (codes "RVER") two_bytes) _ change after_class (λ version version_e after_version.
-    bind_then (ruin_of base n s (codes "FRID")) _ change after_version (λ ruin ruin_e after_ruin.
-    bind_then (foid_of ruin n s) _ change after_ruin (λ foid foid_e after_foid.
-    bind_then (unless_deleted ruin (s.attrs (codes "ATTF"))) _ change after_foid (λ attrs attrs_e after_attrs.
-    bind_then (edit_of base ruin n s (codes "FFPC") (codes "FFUI") (codes "FFIX") (codes "NFPT")) _ change after_attrs (λ related_edit related_edit_e after_related_edit.
-    bind_then (unless_deleted ruin (s.related (codes "FFPT"))) _ change after_related_edit (λ related related_e after_related.
-    bind_then (edit_of base ruin n s (codes "FSPC") (codes "FSUI") (codes "FSIX") (codes "NSPT")) _ change after_related (λ pointer_edit pointer_edit_e after_pointer_edit.
-    bind_then (unless_deleted ruin (s.pointers (codes "FSPT"))) _ change after_pointer_edit (λ pointers pointers_e made.
-    subst IsChange (ok_is _ change made) (feature_made base n s sound rcnm rcid prim grup class version ruin foid attrs related_edit related pointer_edit pointers (eqb-true rcnm 100 (ensure_ok _ _ _ kind_e)) (ensure_ok _ _ _ listed_e) ruin_e foid_e attrs_e (edit_is base ruin n s _ _ _ _ related_edit related_edit_e) (edit_is base ruin n s _ _ _ _ pointer_edit pointer_edit_e) pointers_e))))))))))))))))
+    bind_then (feature_head base n s) _ change e (λ head head_e after_head.
+    bind_then (foid_of head.ruin n s) _ change after_head (λ foid foid_e after_foid.
+    bind_then (unless_deleted head.ruin (s.attrs (codes "ATTF"))) _ change after_foid (λ attrs attrs_e after_attrs.
+    bind_then (edit_of base head.ruin n s (codes "FFPC") (codes "FFUI") (codes "FFIX") (codes "NFPT")) _ change after_attrs (λ related_edit related_edit_e after_related_edit.
+    bind_then (unless_deleted head.ruin (s.related (codes "FFPT"))) _ change after_related_edit (λ related related_e after_related.
+    bind_then (edit_of base head.ruin n s (codes "FSPC") (codes "FSUI") (codes "FSIX") (codes "NSPT")) _ change after_related (λ pointer_edit pointer_edit_e after_pointer_edit.
+    bind_then (unless_deleted head.ruin (s.pointers (codes "FSPT"))) _ change after_pointer_edit (λ pointers pointers_e made.
+    subst IsChange (ok_is _ change made) (feature_made base n s sound head foid attrs related_edit related pointer_edit pointers (feature_head_is base n s head head_e) foid_e attrs_e (edit_is base head.ruin n s _ _ _ _ related_edit related_edit_e) (edit_is base head.ruin n s _ _ _ _ pointer_edit pointer_edit_e) pointers_e))))))))
 
 -- ---- a base file's records
 
@@ -254,37 +285,23 @@ no_edit ruin n s tag a b c edit e = sym (ok_is None edit e)
 pub vector_is_plain : (n : ℕ) (s : Subfields) (change : Change) → vector_of true n s ≡ Ok change → IsPlainInsert change
 unfolding vector_of
 vector_is_plain n s change e =
-    bind_then (s.number (codes "VRID") (codes "RCNM") one_byte) _ change e (λ rcnm rcnm_e after_rcnm.
-    bind_then (ensure (is_vector_kind rcnm) (Profile (codes "RCNM"))) _ change after_rcnm (λ _ kind_e after_kind.
-    bind_then (s.number (codes "VRID") (codes "RCID") four_bytes) _ change after_kind (λ rcid rcid_e after_rcid.
-    bind_then (s.number (codes "VRID") (codes "RVER") two_bytes) _ change after_rcid (λ version version_e after_version.
-    bind_then (ruin_of true n s (codes "VRID")) _ change after_version (λ ruin ruin_e after_ruin.
-    bind_then (unless_deleted ruin (s.attrs (codes "ATTV"))) _ change after_ruin (λ attrs attrs_e after_attrs.
-    bind_then (edit_of true ruin n s (codes "VRPC") (codes "VPUI") (codes "VPIX") (codes "NVPT")) _ change after_attrs (λ pointer_edit pointer_edit_e after_pointer_edit.
-    bind_then (unless_deleted ruin (s.pointers (codes "VRPT"))) _ change after_pointer_edit (λ pointers pointers_e after_pointers.
-    bind_then (edit_of true ruin n s (codes "SGCC") (codes "CCUI") (codes "CCIX") (codes "CCNC")) _ change after_pointers (λ coord_edit coord_edit_e after_coord_edit.
-    bind_then (unless_deleted ruin (s.coords (codes "SG2D"))) _ change after_coord_edit (λ flat flat_e after_flat.
-    bind_then (ensure (not (s.has (codes "SG2D") && s.has (codes "SG3D"))) (Profile (codes "SG3D"))) _ change after_flat (λ _ one_e after_one.
-    bind_then (unless_deleted ruin (s.coords (codes "SG3D"))) _ change after_one (λ deep deep_e after_deep.
-    bind_then (ensure (not (s.has (codes "ARCC"))) (Profile (codes "ARCC"))) _ change after_deep (λ _ arcs_e made.
-    subst IsPlainInsert (ok_is _ change made) (record { ruin = inserted n s _ ruin ruin_e; pointer_edit = no_edit ruin n s _ _ _ _ pointer_edit pointer_edit_e; coord_edit = no_edit ruin n s _ _ _ _ coord_edit coord_edit_e; related_edit = refl }))))))))))))))
+    bind_then (vector_head true n s) _ change e (λ head head_e after_head.
+    bind_then (unless_deleted head.ruin (s.attrs (codes "ATTV"))) _ change after_head (λ attrs attrs_e after_attrs.
+    bind_then (edit_of true head.ruin n s (codes "VRPC") (codes "VPUI") (codes "VPIX") (codes "NVPT")) _ change after_attrs (λ pointer_edit pointer_edit_e after_pointer_edit.
+    bind_then (unless_deleted head.ruin (s.pointers (codes "VRPT"))) _ change after_pointer_edit (λ pointers pointers_e after_pointers.
+    bind_then (edit_of true head.ruin n s (codes "SGCC") (codes "CCUI") (codes "CCIX") (codes "CCNC")) _ change after_pointers (λ coord_edit coord_edit_e after_coord_edit.
+    bind_then (coords_of head.ruin s) _ change after_coord_edit (λ coords coords_e after_coords.
+    bind_then (ensure (not (s.has (codes "ARCC"))) (Profile (codes "ARCC"))) _ change after_coords (λ _ arcs_e made.
+    subst IsPlainInsert (ok_is _ change made) (record { ruin = inserted n s _ head.ruin (vector_head_is true n s head head_e).ruin; pointer_edit = no_edit head.ruin n s _ _ _ _ pointer_edit pointer_edit_e; coord_edit = no_edit head.ruin n s _ _ _ _ coord_edit coord_edit_e; related_edit = refl }))))))))
 
 pub feature_is_plain : (n : ℕ) (s : Subfields) (change : Change) → feature_of true n s ≡ Ok change → IsPlainInsert change
 unfolding feature_of
 feature_is_plain n s change e =
-    bind_then (s.number (codes "FRID") (codes "RCNM") one_byte) _ change e (λ rcnm rcnm_e after_rcnm.
-    bind_then (ensure (eqb rcnm 100) (Profile (codes "RCNM"))) _ change after_rcnm (λ _ kind_e after_kind.
-    bind_then (s.number (codes "FRID") (codes "RCID") four_bytes) _ change after_kind (λ rcid rcid_e after_rcid.
-    bind_then (s.number (codes "FRID") (codes "PRIM") one_byte) _ change after_rcid (λ prim prim_e after_prim.
-    bind_then (ensure (not (inserts true s) || is_prim prim) (Value n (codes "PRIM"))) _ change after_prim (λ _ listed_e after_listed.
-    bind_then (s.number (codes "FRID") (codes "GRUP") one_byte) _ change after_listed (λ grup grup_e after_grup.
-    bind_then (s.number (codes "FRID") (codes "OBJL") two_bytes) _ change after_grup (λ class class_e after_class.
-    bind_then (s.number (codes "FRID") (codes "RVER") two_bytes) _ change after_class (λ version version_e after_version.
-    bind_then (ruin_of true n s (codes "FRID")) _ change after_version (λ ruin ruin_e after_ruin.
-    bind_then (foid_of ruin n s) _ change after_ruin (λ foid foid_e after_foid.
-    bind_then (unless_deleted ruin (s.attrs (codes "ATTF"))) _ change after_foid (λ attrs attrs_e after_attrs.
-    bind_then (edit_of true ruin n s (codes "FFPC") (codes "FFUI") (codes "FFIX") (codes "NFPT")) _ change after_attrs (λ related_edit related_edit_e after_related_edit.
-    bind_then (unless_deleted ruin (s.related (codes "FFPT"))) _ change after_related_edit (λ related related_e after_related.
-    bind_then (edit_of true ruin n s (codes "FSPC") (codes "FSUI") (codes "FSIX") (codes "NSPT")) _ change after_related (λ pointer_edit pointer_edit_e after_pointer_edit.
-    bind_then (unless_deleted ruin (s.pointers (codes "FSPT"))) _ change after_pointer_edit (λ pointers pointers_e made.
-    subst IsPlainInsert (ok_is _ change made) (record { ruin = inserted n s _ ruin ruin_e; pointer_edit = no_edit ruin n s _ _ _ _ pointer_edit pointer_edit_e; coord_edit = refl; related_edit = no_edit ruin n s _ _ _ _ related_edit related_edit_e }))))))))))))))))
+    bind_then (feature_head true n s) _ change e (λ head head_e after_head.
+    bind_then (foid_of head.ruin n s) _ change after_head (λ foid foid_e after_foid.
+    bind_then (unless_deleted head.ruin (s.attrs (codes "ATTF"))) _ change after_foid (λ attrs attrs_e after_attrs.
+    bind_then (edit_of true head.ruin n s (codes "FFPC") (codes "FFUI") (codes "FFIX") (codes "NFPT")) _ change after_attrs (λ related_edit related_edit_e after_related_edit.
+    bind_then (unless_deleted head.ruin (s.related (codes "FFPT"))) _ change after_related_edit (λ related related_e after_related.
+    bind_then (edit_of true head.ruin n s (codes "FSPC") (codes "FSUI") (codes "FSIX") (codes "NSPT")) _ change after_related (λ pointer_edit pointer_edit_e after_pointer_edit.
+    bind_then (unless_deleted head.ruin (s.pointers (codes "FSPT"))) _ change after_pointer_edit (λ pointers pointers_e made.
+    subst IsPlainInsert (ok_is _ change made) (record { ruin = inserted n s _ head.ruin (feature_head_is true n s head head_e).ruin; pointer_edit = no_edit head.ruin n s _ _ _ _ pointer_edit pointer_edit_e; coord_edit = refl; related_edit = no_edit head.ruin n s _ _ _ _ related_edit related_edit_e }))))))))

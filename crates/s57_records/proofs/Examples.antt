@@ -6,7 +6,7 @@ use Rattle.chart_model.specs.Dataset.{DatasetValue}
 use Rattle.s57_records.specs.declared.fault.DatasetFault.{DatasetFault}
 use Rattle.s57_records.specs.declared.fault.DatasetFault.TheVariants.{NoGeneral, MissingField, Value, Profile}
 use Rattle.s57_records.specs.Subfields.{Subfields}
-use Rattle.s57_records.specs.Rows.{general_of, checked_structure, scale_of, ruin_of, edit_of, vector_of, foid_of, feature_of}
+use Rattle.s57_records.specs.Rows.{general_of, checked_structure, scale_of, ruin_of, edit_of, vector_head, coords_of, vector_of, foid_of, feature_head, feature_of}
 use Rattle.s57_records.specs.Dataset.{said_by, dataset_after, dataset_of}
 
 -- the number under a label: the first of this name
@@ -45,30 +45,30 @@ cancelling = refl
 
 -- a base file without parameters
 no_parameters : dataset_of (sample 1 (codes "DSID" ∷ []) ((codes "EDTN", 1) ∷ (codes "UPDN", 0) ∷ (codes "PROF", 1) ∷ (codes "AGEN", 550) ∷ []) ∷ sample 2 (codes "VRID" ∷ []) ((codes "RCNM", 110) ∷ (codes "RCID", 7) ∷ (codes "RVER", 1) ∷ []) ∷ []) ≡ Err (Profile (codes "DSPM"))
-unfolding dataset_of general_of dataset_after checked_structure said_by vector_of ruin_of edit_of
+unfolding dataset_of general_of dataset_after checked_structure said_by vector_head coords_of vector_of ruin_of edit_of
 no_parameters = refl
 
 -- an isolated node with arcs, and a wrong kind of record before its missing number
 with_arcs : vector_of true 2 (sample 2 (codes "VRID" ∷ codes "ARCC" ∷ []) ((codes "RCNM", 110) ∷ (codes "RCID", 7) ∷ (codes "RVER", 1) ∷ [])) ≡ Err (Profile (codes "ARCC"))
-unfolding vector_of ruin_of edit_of
+unfolding vector_head coords_of vector_of ruin_of edit_of
 with_arcs = refl
 
 wrong_kind : vector_of true 2 (sample 2 (codes "VRID" ∷ []) ((codes "RCNM", 100) ∷ [])) ≡ Err (Profile (codes "RCNM"))
-unfolding vector_of
+unfolding vector_head vector_of
 wrong_kind = refl
 
 -- a primitive that is none, where the record inserts and where it doesn't
 wrong_primitive : feature_of false 3 (sample 3 (codes "FRID" ∷ []) ((codes "RCNM", 100) ∷ (codes "RCID", 7) ∷ (codes "PRIM", 4) ∷ (codes "RUIN", 1) ∷ [])) ≡ Err (Value 3 (codes "PRIM"))
-unfolding feature_of
+unfolding feature_head feature_of
 wrong_primitive = refl
 
 deleted_primitive : feature_of false 3 (sample 3 (codes "FRID" ∷ []) ((codes "RCNM", 100) ∷ (codes "RCID", 7) ∷ (codes "PRIM", 4) ∷ (codes "GRUP", 2) ∷ (codes "RUIN", 2) ∷ [])) ≡ Err (MissingField 3 (codes "OBJL"))
-unfolding feature_of
+unfolding feature_head feature_of
 deleted_primitive = refl
 
 -- an inserted feature needs its identifier
 no_identifier : feature_of true 3 (sample 3 (codes "FRID" ∷ []) ((codes "RCNM", 100) ∷ (codes "RCID", 7) ∷ (codes "PRIM", 255) ∷ (codes "GRUP", 2) ∷ (codes "OBJL", 42) ∷ (codes "RVER", 1) ∷ [])) ≡ Err (MissingField 3 (codes "FOID"))
-unfolding feature_of ruin_of foid_of
+unfolding feature_head feature_of ruin_of foid_of
 no_identifier = refl
 
 -- no general information in the first record

@@ -6,7 +6,10 @@ use Rattle.chart_model.specs.declared.name.Name.{Name}
 use Rattle.chart_model.specs.declared.name.Foid.{Foid}
 use Rattle.chart_model.specs.declared.update_record.Control.{Control}
 use Rattle.chart_model.specs.Change.{Change}
+use Rattle.chart_model.specs.declared.record.Coord.{Coord}
 use Rattle.s57_records.specs.declared.general.General.{General}
+use Rattle.s57_records.specs.declared.change.VectorHead.{VectorHead}
+use Rattle.s57_records.specs.declared.change.FeatureHead.{FeatureHead}
 use Rattle.s57_records.specs.declared.fault.DatasetFault.{DatasetFault}
 use Rattle.s57_records.specs.declared.fault.DatasetFault.TheVariants.{MissingField, Value, Profile}
 use Rattle.s57_records.specs.Subfields.{Subfields}
@@ -108,26 +111,38 @@ edit_of base ruin n s tag instruction_label index_label count_label =
 abbrev pub is_vector_kind : ℕ → Bool
 is_vector_kind rcnm = rcnm == 110 || (rcnm == 120 || rcnm == 130)
 
--- VRID, ATTV, VRPC, VRPT, SGCC, SG2D and SG3D. A record has no SG3D beside SG2D, and no ARCC.
-unfoldable pub vector_of : Bool → ℕ → Subfields → Result Change DatasetFault
-vector_of base n s = do
+-- VRID
+unfoldable pub vector_head : Bool → ℕ → Subfields → Result VectorHead DatasetFault
+vector_head base n s = do
   rcnm ← s.number (codes "VRID") (codes "RCNM") one_byte
   _ ← ensure (is_vector_kind rcnm) (Profile (codes "RCNM"))
   rcid ← s.number (codes "VRID") (codes "RCID") four_bytes
   version ← s.number (codes "VRID") (codes "RVER") two_bytes
   ruin ← ruin_of base n s (codes "VRID")
-  attrs ← unless_deleted ruin (s.attrs (codes "ATTV"))
-  pointer_edit ← edit_of base ruin n s (codes "VRPC") (codes "VPUI") (codes "VPIX") (codes "NVPT")
-  pointers ← unless_deleted ruin (s.pointers (codes "VRPT"))
-  coord_edit ← edit_of base ruin n s (codes "SGCC") (codes "CCUI") (codes "CCIX") (codes "CCNC")
+  Ok (record { target = record { rcnm = rcnm; rcid = rcid }; version = version; ruin = ruin })
+
+-- SG2D and SG3D, of which a record has one at most
+unfoldable pub coords_of : ℕ → Subfields → Result (List Coord) DatasetFault
+coords_of ruin s = do
   flat ← unless_deleted ruin (s.coords (codes "SG2D"))
   _ ← ensure (not (s.has (codes "SG2D") && s.has (codes "SG3D"))) (Profile (codes "SG3D"))
   deep ← unless_deleted ruin (s.coords (codes "SG3D"))
+  Ok (flat ++ deep)
+
+-- VRID, ATTV, VRPC, VRPT, SGCC, SG2D and SG3D. A record has no ARCC.
+unfoldable pub vector_of : Bool → ℕ → Subfields → Result Change DatasetFault
+vector_of base n s = do
+  head ← vector_head base n s
+  attrs ← unless_deleted head.ruin (s.attrs (codes "ATTV"))
+  pointer_edit ← edit_of base head.ruin n s (codes "VRPC") (codes "VPUI") (codes "VPIX") (codes "NVPT")
+  pointers ← unless_deleted head.ruin (s.pointers (codes "VRPT"))
+  coord_edit ← edit_of base head.ruin n s (codes "SGCC") (codes "CCUI") (codes "CCIX") (codes "CCNC")
+  coords ← coords_of head.ruin s
   _ ← ensure (not (s.has (codes "ARCC"))) (Profile (codes "ARCC"))
   Ok (record {
-    target = record { rcnm = rcnm; rcid = rcid };
-    ruin = ruin;
-    version = version;
+    target = head.target;
+    ruin = head.ruin;
+    version = head.version;
     prim = 0;
     grup = 0;
     class = 0;
@@ -136,7 +151,7 @@ vector_of base n s = do
     pointer_edit = pointer_edit;
     pointers = pointers;
     coord_edit = coord_edit;
-    coords = flat ++ deep;
+    coords = coords;
     related_edit = None;
     related = [];
   })
@@ -149,6 +164,10 @@ is_prim prim = is_in_range 1 3 prim || prim == 255
 abbrev pub inserts : Bool → Subfields → Bool
 inserts base s = base || reads_as (s.number (codes "FRID") (codes "RUIN") one_byte) 1
 
+-- the primitive of an insertion is one of the list
+abbrev pub checked_prim : Bool → ℕ → Subfields → ℕ → Result (Unit {0}) DatasetFault
+checked_prim base n s prim = ensure (not (inserts base s) || is_prim prim) (Value n (codes "PRIM"))
+
 -- FOID, which an insertion needs
 unfoldable pub foid_of : ℕ → ℕ → Subfields → Result (Option Foid) DatasetFault
 foid_of ruin n s =
@@ -157,31 +176,37 @@ foid_of ruin n s =
       Ok (Some foid))
     else (if ruin == 1 then Err (MissingField n (codes "FOID")) else Ok None)
 
--- FRID, FOID, ATTF, FFPC, FFPT, FSPC and FSPT
-unfoldable pub feature_of : Bool → ℕ → Subfields → Result Change DatasetFault
-feature_of base n s = do
+-- FRID
+unfoldable pub feature_head : Bool → ℕ → Subfields → Result FeatureHead DatasetFault
+feature_head base n s = do
   rcnm ← s.number (codes "FRID") (codes "RCNM") one_byte
   _ ← ensure (rcnm == 100) (Profile (codes "RCNM"))
   rcid ← s.number (codes "FRID") (codes "RCID") four_bytes
   prim ← s.number (codes "FRID") (codes "PRIM") one_byte
-  _ ← ensure (not (inserts base s) || is_prim prim) (Value n (codes "PRIM"))
+  _ ← checked_prim base n s prim
   grup ← s.number (codes "FRID") (codes "GRUP") one_byte
   class ← s.number (codes "FRID") (codes "OBJL") two_bytes
   version ← s.number (codes "FRID") (codes "RVER") two_bytes
   ruin ← ruin_of base n s (codes "FRID")
-  foid ← foid_of ruin n s
-  attrs ← unless_deleted ruin (s.attrs (codes "ATTF"))
-  related_edit ← edit_of base ruin n s (codes "FFPC") (codes "FFUI") (codes "FFIX") (codes "NFPT")
-  related ← unless_deleted ruin (s.related (codes "FFPT"))
-  pointer_edit ← edit_of base ruin n s (codes "FSPC") (codes "FSUI") (codes "FSIX") (codes "NSPT")
-  pointers ← unless_deleted ruin (s.pointers (codes "FSPT"))
+  Ok (record { target = record { rcnm = rcnm; rcid = rcid }; prim = prim; grup = grup; class = class; version = version; ruin = ruin })
+
+-- FRID, FOID, ATTF, FFPC, FFPT, FSPC and FSPT
+unfoldable pub feature_of : Bool → ℕ → Subfields → Result Change DatasetFault
+feature_of base n s = do
+  head ← feature_head base n s
+  foid ← foid_of head.ruin n s
+  attrs ← unless_deleted head.ruin (s.attrs (codes "ATTF"))
+  related_edit ← edit_of base head.ruin n s (codes "FFPC") (codes "FFUI") (codes "FFIX") (codes "NFPT")
+  related ← unless_deleted head.ruin (s.related (codes "FFPT"))
+  pointer_edit ← edit_of base head.ruin n s (codes "FSPC") (codes "FSUI") (codes "FSIX") (codes "NSPT")
+  pointers ← unless_deleted head.ruin (s.pointers (codes "FSPT"))
   Ok (record {
-    target = record { rcnm = rcnm; rcid = rcid };
-    ruin = ruin;
-    version = version;
-    prim = prim;
-    grup = grup;
-    class = class;
+    target = head.target;
+    ruin = head.ruin;
+    version = head.version;
+    prim = head.prim;
+    grup = head.grup;
+    class = head.class;
     foid = foid;
     attrs = attrs;
     pointer_edit = pointer_edit;
