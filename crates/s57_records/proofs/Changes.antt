@@ -46,7 +46,7 @@ ruin_is base n s tag ruin e =
           subst IsInstruction (ok_is r.0 ruin t.2) (is_instruction_range r.0 (ensure_ok _ _ _ t.1))
     ]
 
-edit_is : (base : Bool) (ruin n : ℕ) (s : Subfields) (tag a b c : List ℕ) (edit : Option Control) → edit_of base ruin n s tag a b c ≡ Ok edit → IsEdit edit
+pub edit_is : (base : Bool) (ruin n : ℕ) (s : Subfields) (tag a b c : List ℕ) (edit : Option Control) → edit_of base ruin n s tag a b c ≡ Ok edit → IsEdit edit
 unfolding edit_of
 edit_is base ruin n s tag a b c edit e =
     elim (chosen (not base && (eqb ruin 3 && s.has tag)) _ (Ok None) (Ok edit) e) [
@@ -102,7 +102,7 @@ coords_are s sound ruin flat deep f d one =
           subst (λ (cs : List Coord). AreCoords (flat ++ cs)) (sym none) (subst AreCoords (sym (append-nil flat)) (record { each = is_flat.0; alike = inr is_flat.1 }))
     ]
 
-are_coords : (s : Subfields) → AreSound s → (ruin : ℕ) (coords : List Coord) → coords_of ruin s ≡ Ok coords → AreCoords coords
+pub are_coords : (s : Subfields) → AreSound s → (ruin : ℕ) (coords : List Coord) → coords_of ruin s ≡ Ok coords → AreCoords coords
 unfolding coords_of
 are_coords s sound ruin coords e =
     bind_then (unless_deleted ruin (s.coords (codes "SG2D"))) _ coords e (λ flat flat_e after_flat.
@@ -111,11 +111,11 @@ are_coords s sound ruin coords e =
     subst AreCoords (ok_is (flat ++ deep) coords made) (coords_are s sound ruin flat deep flat_e deep_e (ensure_ok _ _ _ one_e)))))
 
 -- what a vector record's head keeps
-record IsVectorHead (base : Bool) (n : ℕ) (s : Subfields) (head : VectorHead) : Type 0 where
+pub record IsVectorHead (base : Bool) (n : ℕ) (s : Subfields) (head : VectorHead) : Type 0 where
   kind : is_vector_kind head.target.rcnm ≡ true
   ruin : ruin_of base n s (codes "VRID") ≡ Ok head.ruin
 
-vector_head_is : (base : Bool) (n : ℕ) (s : Subfields) (head : VectorHead) → vector_head base n s ≡ Ok head → IsVectorHead base n s head
+pub vector_head_is : (base : Bool) (n : ℕ) (s : Subfields) (head : VectorHead) → vector_head base n s ≡ Ok head → IsVectorHead base n s head
 unfolding vector_head
 vector_head_is base n s head e =
     bind_then (s.number (codes "VRID") (codes "RCNM") one_byte) _ head e (λ rcnm rcnm_e after_rcnm.
@@ -129,7 +129,7 @@ not_both : (rcnm : ℕ) → is_vector_kind rcnm ≡ true → rcnm ≡ 100 → �
 not_both rcnm vector feature = true≢false (sym vector ∙ ap is_vector_kind feature)
 
 -- a vector record's change, from its parts
-vector_made : (base : Bool) (n : ℕ) (s : Subfields) (sound : AreSound s) (head : VectorHead) (attrs : List Attr) (pointer_edit : Option Control) (pointers : List Pointer) (coord_edit : Option Control) (coords : List Coord) → IsVectorHead base n s head → unless_deleted head.ruin (s.attrs (codes "ATTV")) ≡ Ok attrs → IsEdit pointer_edit → IsEdit coord_edit → AreCoords coords → IsChange (record {
+pub vector_made : (base : Bool) (n : ℕ) (s : Subfields) (sound : AreSound s) (head : VectorHead) (attrs : List Attr) (pointer_edit : Option Control) (pointers : List Pointer) (coord_edit : Option Control) (coords : List Coord) → IsVectorHead base n s head → unless_deleted head.ruin (s.attrs (codes "ATTV")) ≡ Ok attrs → IsEdit pointer_edit → IsEdit coord_edit → AreCoords coords → IsChange (record {
   target = head.target;
   ruin = head.ruin;
   version = head.version;
@@ -207,12 +207,12 @@ vector_differs rcnm feature (inr (inl h)) = omega (arith, feature, h)
 vector_differs rcnm feature (inr (inr h)) = omega (arith, feature, h)
 
 -- what a feature's head keeps
-record IsFeatureHead (base : Bool) (n : ℕ) (s : Subfields) (head : FeatureHead) : Type 0 where
+pub record IsFeatureHead (base : Bool) (n : ℕ) (s : Subfields) (head : FeatureHead) : Type 0 where
   kind : head.target.rcnm ≡ 100
   prim : (not (inserts base s) || is_prim head.prim) ≡ true
   ruin : ruin_of base n s (codes "FRID") ≡ Ok head.ruin
 
-feature_head_is : (base : Bool) (n : ℕ) (s : Subfields) (head : FeatureHead) → feature_head base n s ≡ Ok head → IsFeatureHead base n s head
+pub feature_head_is : (base : Bool) (n : ℕ) (s : Subfields) (head : FeatureHead) → feature_head base n s ≡ Ok head → IsFeatureHead base n s head
 unfolding feature_head
 feature_head_is base n s head e =
     bind_then (s.number (codes "FRID") (codes "RCNM") one_byte) _ head e (λ rcnm rcnm_e after_rcnm.
@@ -227,7 +227,7 @@ feature_head_is base n s head e =
     subst (IsFeatureHead base n s) (ok_is _ head made) (record { kind = eqb-true rcnm 100 (ensure_ok _ _ _ kind_e); prim = ensure_ok _ _ _ listed_e; ruin = ruin_e }))))))))))
 
 -- a feature's change, from its parts
-feature_made : (base : Bool) (n : ℕ) (s : Subfields) (sound : AreSound s) (head : FeatureHead) (foid : Option Foid) (attrs : List Attr) (related_edit : Option Control) (related : List Related) (pointer_edit : Option Control) (pointers : List Pointer) → IsFeatureHead base n s head → foid_of head.ruin n s ≡ Ok foid → unless_deleted head.ruin (s.attrs (codes "ATTF")) ≡ Ok attrs → IsEdit related_edit → IsEdit pointer_edit → unless_deleted head.ruin (s.pointers (codes "FSPT")) ≡ Ok pointers → IsChange (record {
+pub feature_made : (base : Bool) (n : ℕ) (s : Subfields) (sound : AreSound s) (head : FeatureHead) (foid : Option Foid) (attrs : List Attr) (related_edit : Option Control) (related : List Related) (pointer_edit : Option Control) (pointers : List Pointer) → IsFeatureHead base n s head → foid_of head.ruin n s ≡ Ok foid → unless_deleted head.ruin (s.attrs (codes "ATTF")) ≡ Ok attrs → IsEdit related_edit → IsEdit pointer_edit → unless_deleted head.ruin (s.pointers (codes "FSPT")) ≡ Ok pointers → IsChange (record {
   target = head.target;
   ruin = head.ruin;
   version = head.version;

@@ -3,3 +3,4 @@ pub mod Changes
 pub mod Datasets
 mod Examples
 pub mod Sound
+pub mod Made

@@ -3,7 +3,9 @@
 
 mod change;
 mod fault;
+mod feature;
 mod general;
 mod reader;
+mod vector;
 
 pub use fault::DatasetFault;

@@ -1,6 +1,6 @@
 //! The subfields of one data record.
 
-ghost use Rattle.std.specs.Prelude.{◌≡◌, IfOk, MatchResult};
+ghost use Rattle.std.specs.Prelude.{◌≡◌, codes, IfOk, MatchResult};
 ghost use Rattle.s57_records.specs.Rows.{reads_as};
 ghost use Rattle.s57_fields.specs.RowValues.{fields_in};
 ghost use Rattle.s57_fields.specs.Columns.{once_in};
@@ -8,10 +8,16 @@ ghost use Rattle.s57_fields.specs.Places.{subfield_of};
 ghost use Rattle.iso8211_records.specs.Kinds.{layout_at};
 ghost use Rattle.s57_records.specs.Answers.{Gives};
 ghost use Rattle.s57_records.specs.Readings.{widened, has_field};
+ghost use Rattle.s57_records.specs.Rows.{unless_deleted};
 
 use crate::fault::DatasetFault;
+use chart_model::{AttrList, Coords, Foid, Pointers, RelatedList};
 use iso8211_records::{DescriptorMap, RawField};
-use s57_fields::{FourBytes, Kind, OneByte, RowFields, Subfield, TwoBytes};
+use s57_fields::tags::{FFPT, FOID, FSPT, SG2D, SG3D, VRPT};
+use s57_fields::{
+    AttributeRow, CoordinateRow, FeaturePointerRow, FoidRow, FourBytes, Kind, OneByte, RelatedRow, RowFields,
+    SoundingRow, Subfield, TwoBytes, VectorPointerRow,
+};
 use std::alloc::Global;
 
 /// One data record of a file.
@@ -93,5 +99,86 @@ impl<'a> DataRecord<'a> {
             Err(DatasetFault::NoMemory) => Err(DatasetFault::NoMemory),
             Err(_) => Ok(false),
         }
+    }
+
+    /// The attributes in ATTV or ATTF. None where the record deletes.
+    pub fn attrs(&self, alloc: Global, ruin: u8, tag: [u8; 4]) -> Result<AttrList, DatasetFault>
+        ensures { Gives result (unless_deleted ruin ((reading self.now).attrs tag)) }
+    {
+        if ruin == 2 {
+            return Ok(AttrList::new(alloc));
+        }
+        let row = AttributeRow::find(self.descriptors.get(&tag));
+        let read = row.read(alloc, &RowFields::new(self.number, tag, self.fields))?;
+        Ok(read)
+    }
+
+    /// The pointers in VRPT. None where the record deletes.
+    pub fn vector_pointers(&self, alloc: Global, ruin: u8) -> Result<Pointers, DatasetFault>
+        ensures { Gives result (unless_deleted ruin ((reading self.now).pointers (codes "VRPT"))) }
+    {
+        if ruin == 2 {
+            return Ok(Pointers::new(alloc));
+        }
+        let row = VectorPointerRow::find(self.descriptors.get(&VRPT));
+        let read = row.read(alloc, &RowFields::new(self.number, VRPT, self.fields))?;
+        Ok(read)
+    }
+
+    /// The pointers in FSPT. None where the record deletes.
+    pub fn feature_pointers(&self, alloc: Global, ruin: u8) -> Result<Pointers, DatasetFault>
+        ensures { Gives result (unless_deleted ruin ((reading self.now).pointers (codes "FSPT"))) }
+    {
+        if ruin == 2 {
+            return Ok(Pointers::new(alloc));
+        }
+        let row = FeaturePointerRow::find(self.descriptors.get(&FSPT));
+        let read = row.read(alloc, &RowFields::new(self.number, FSPT, self.fields))?;
+        Ok(read)
+    }
+
+    /// The coordinates in SG2D. None where the record deletes.
+    pub fn flat(&self, alloc: Global, ruin: u8) -> Result<Coords, DatasetFault>
+        ensures { Gives result (unless_deleted ruin ((reading self.now).coords (codes "SG2D"))) }
+    {
+        if ruin == 2 {
+            return Ok(Coords::new(alloc));
+        }
+        let row = CoordinateRow::find(self.descriptors.get(&SG2D));
+        let read = row.read(alloc, &RowFields::new(self.number, SG2D, self.fields))?;
+        Ok(read)
+    }
+
+    /// The soundings in SG3D. None where the record deletes.
+    pub fn deep(&self, alloc: Global, ruin: u8) -> Result<Coords, DatasetFault>
+        ensures { Gives result (unless_deleted ruin ((reading self.now).coords (codes "SG3D"))) }
+    {
+        if ruin == 2 {
+            return Ok(Coords::new(alloc));
+        }
+        let row = SoundingRow::find(self.descriptors.get(&SG3D));
+        let read = row.read(alloc, &RowFields::new(self.number, SG3D, self.fields))?;
+        Ok(read)
+    }
+
+    /// The related objects in FFPT. None where the record deletes.
+    pub fn related(&self, alloc: Global, ruin: u8) -> Result<RelatedList, DatasetFault>
+        ensures { Gives result (unless_deleted ruin ((reading self.now).related (codes "FFPT"))) }
+    {
+        if ruin == 2 {
+            return Ok(RelatedList::new(alloc));
+        }
+        let row = RelatedRow::find(self.descriptors.get(&FFPT));
+        let read = row.read(alloc, &RowFields::new(self.number, FFPT, self.fields))?;
+        Ok(read)
+    }
+
+    /// The identifier in FOID.
+    pub fn foid(&self, alloc: Global) -> Result<Foid, DatasetFault>
+        ensures { Gives result ((reading self.now).foid) }
+    {
+        let row = FoidRow::find(self.descriptors.get(&FOID));
+        let read = row.read(alloc, &RowFields::new(self.number, FOID, self.fields))?;
+        Ok(read)
     }
 }
