@@ -4,3 +4,4 @@ pub mod Datasets
 mod Examples
 pub mod Sound
 pub mod Made
+pub mod Gathering

@@ -2,6 +2,7 @@
 #![tactic(auto)]
 
 mod change;
+mod dataset;
 mod fault;
 mod feature;
 mod general;
