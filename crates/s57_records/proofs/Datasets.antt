@@ -83,7 +83,7 @@ all_plain rest said e =
 
 -- ---- the whole
 
-dataset_made : (g : General) (scale : ℕ) (said : List Said) → IsGeneral g → cancels g ≡ false → scale_among g.base said ≡ Ok scale → (g.base ≡ true → All IsPlainInsert (filter_map change_in said)) → IsDataset (record { header = header_with g scale; base = g.base; cancels = false; changes = filter_map change_in said })
+pub dataset_made : (g : General) (scale : ℕ) (said : List Said) → IsGeneral g → cancels g ≡ false → scale_among g.base said ≡ Ok scale → (g.base ≡ true → All IsPlainInsert (filter_map change_in said)) → IsDataset (record { header = header_with g scale; base = g.base; cancels = false; changes = filter_map change_in said })
 dataset_made g scale said is stands scaled plain = record {
   edition = is.edition;
   update = is.update;
@@ -101,7 +101,7 @@ dataset_made g scale said is stands scaled plain = record {
           | inr update ↦ true≢false (sym (and_from (not g.base) (eqb g.edition 0) (ap not update) (eq-eqb g.edition 0 none)) ∙ stands)
         ]
 
-cancelled : (g : General) → IsGeneral g → cancels g ≡ true → IsDataset (record { header = header_with g 0; base = false; cancels = true; changes = [] })
+pub cancelled : (g : General) → IsGeneral g → cancels g ≡ true → IsDataset (record { header = header_with g 0; base = false; cancels = true; changes = [] })
 cancelled g is h = record {
   edition = is.edition;
   update = is.update;
@@ -112,7 +112,7 @@ cancelled g is h = record {
   inserts = λ base. absurd (true≢false (sym base));
 }
 
-base_plain : (base : Bool) (rest : List (ℕ × Subfields)) (said : List Said) → all_of (map (λ r. said_by base r.0 r.1 (kind_of r.1)) rest) ≡ Ok said → base ≡ true → All IsPlainInsert (filter_map change_in said)
+pub base_plain : (base : Bool) (rest : List (ℕ × Subfields)) (said : List Said) → all_of (map (λ r. said_by base r.0 r.1 (kind_of r.1)) rest) ≡ Ok said → base ≡ true → All IsPlainInsert (filter_map change_in said)
 base_plain true rest said e is_base = all_plain rest said e
 base_plain false rest said e is_base = absurd (true≢false (sym is_base))
 

@@ -1,5 +1,5 @@
 -- What was gathered is what the records say.
-use Rattle.std.proofs.Common.{◌≡◌, ℕ, suc, Bool, true, false, cond, not, ◌&&◌, List, [], ◌∷◌, ◌++◌, map, Option, Some, None, Result, Ok, Err, refl, sym, ap, ◌∙◌, append-nil}
+use Rattle.std.proofs.Common.{◌≡◌, ℕ, suc, Bool, true, false, cond, not, ◌&&◌, List, [], ◌∷◌, ◌++◌, map, Option, Some, None, Result, Ok, Err, refl, sym, ap, subst, ◌∙◌, append-nil}
 use Rattle.std.proofs.lemmas.Bool.{true≢false}
 use Rattle.std.proofs.lemmas.List.{append_assoc}
 use Rattle.std.specs.Prelude.{codes, filter_map, is_some}
@@ -11,8 +11,18 @@ use Rattle.s57_records.specs.declared.fault.DatasetFault.{DatasetFault}
 use Rattle.s57_records.specs.declared.fault.DatasetFault.TheVariants.{NoGeneral, Profile}
 use Rattle.s57_records.specs.Subfields.{Subfields}
 use Rattle.s57_records.specs.Rows.{◌>>=◌, checked_structure, scale_of, vector_of, feature_of}
-use Rattle.s57_records.specs.Dataset.{Kind, general, parameters, vector, feature, other, kind_of, Said, change_is, scale_is, nothing, said_by, looked_at, all_of, change_in, scale_in, first_or, scale_among, header_with, cancels, dataset_after, is_parameters}
+use Rattle.s57_records.specs.Dataset.{Kind, general, parameters, vector, feature, other, kind_of, Said, change_is, scale_is, nothing, said_by, looked_at, all_of, change_in, scale_in, first_or, scale_among, header_with, cancels, dataset_after, dataset_of, is_parameters}
+use Rattle.s57_records.specs.Answers.{Gives}
 use Rattle.s57_records.specs.Gathering.{with_change, with_scale, gathered_with, gather, nothing_gathered, needed_scale, dataset_gathered}
+use Rattle.chart_model.specs.Dataset.{IsDataset}
+use Rattle.iso8211_records.specs.Kinds.{layout_at}
+use Rattle.iso8211_records.specs.declared.record.RawField.{RawField}
+use Rattle.s57_records.specs.declared.reader.DataRecord.{DataRecord}
+use Rattle.s57_records.specs.Reading.{reading}
+use Rattle.s57_records.specs.Rows.{general_of}
+use Rattle.s57_records.proofs.Steps.{bind_then, ok_is}
+use Rattle.s57_records.proofs.Sound.{subfields_sound}
+use Rattle.s57_records.proofs.Datasets.{IsGeneral, general_is, dataset_made, cancelled, base_plain}
 
 first_of : Option ℕ → List ℕ → Option ℕ
 first_of (Some scale) scales = Some scale
@@ -152,3 +162,26 @@ pub gathered_same : (g : General) (first : Subfields) (rest : List Subfields) �
 unfolding dataset_gathered dataset_after ends
 gathered_same g first rest =
     ap (λ (r : Result DatasetValue DatasetFault). cond (cancels g) (Ok (record { header = header_with g 0; base = false; cancels = true; changes = [] })) (checked_structure first >>= λ _. r)) (records_same g rest)
+
+-- ---- the data set made of what was read
+
+reading_general : (r : DataRecord) (g : General) → general_of (reading r) ≡ Ok g → IsGeneral g
+reading_general r g e = general_is (reading r) g (subfields_sound (layout_at r.descriptors.now) r.number r.fields.now) e
+
+pub cancelled_from : (r : DataRecord) (g : General) → general_of (reading r) ≡ Ok g → cancels g ≡ true → IsDataset (record { header = header_with g 0; base = false; cancels = true; changes = [] })
+cancelled_from r g e cancel = cancelled g (reading_general r g e) cancel
+
+both_ok : (g : General) (r : Result Gathered DatasetFault) (gathered : Gathered) (scale : ℕ) → r ≡ Ok gathered → needed_scale g.base gathered.scale ≡ Ok scale → (r >>= λ gathered. needed_scale g.base gathered.scale >>= λ scale. ends g scale gathered.changes) ≡ ends g scale gathered.changes
+both_ok g r gathered scale e scale_e = rw e (rw scale_e refl)
+
+pub made_from : (r : DataRecord) (g : General) (rest : List Subfields) (gathered : Gathered) (scale : ℕ) → general_of (reading r) ≡ Ok g → cancels g ≡ false → gather g.base 2 rest nothing_gathered ≡ Ok gathered → needed_scale g.base gathered.scale ≡ Ok scale → IsDataset (record { header = header_with g scale; base = g.base; cancels = false; changes = gathered.changes })
+unfolding ends
+made_from r g rest gathered scale general_e stands gather_e scale_e =
+    bind_then (all_of (map (λ r. said_by g.base r.0 r.1 (kind_of r.1)) (looked_at false 2 rest))) _ (record { header = header_with g scale; base = g.base; cancels = false; changes = gathered.changes }) (sym (records_same g rest) ∙ both_ok g _ gathered scale gather_e scale_e) (λ said said_e after_said.
+    bind_then (scale_among g.base said) _ _ after_said (λ scale scale_e made.
+    subst IsDataset (ok_is _ _ made) (dataset_made g scale said (reading_general r g general_e) stands scale_e (base_plain g.base (looked_at false 2 rest) said said_e))))
+
+pub dataset_from : (first : Subfields) (rest : List Subfields) (g : General) (read : Result DatasetValue DatasetFault) → first.has (codes "DSID") ≡ true → general_of first ≡ Ok g → Gives read (dataset_gathered g first rest) → Gives read (dataset_of (first ∷ rest))
+unfolding dataset_of
+dataset_from first rest g read has_e general_e gives =
+    rw has_e (rw general_e (subst (λ (r : Result DatasetValue DatasetFault). Gives read r) (gathered_same g first rest) gives))

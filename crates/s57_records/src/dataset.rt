@@ -1,10 +1,11 @@
 //! The data set of a file.
 
-ghost use Rattle.std.specs.Prelude.{◌≡◌};
+ghost use Rattle.std.specs.Prelude.{◌≡◌, Ok};
 ghost use Rattle.iso8211_records.specs.Kinds.{layout_at};
 ghost use Rattle.s57_records.specs.Answers.{Gives};
-ghost use Rattle.s57_records.specs.Dataset.{kind_of, dataset_of};
-ghost use Rattle.s57_records.specs.Gathering.{gathered_with, gather, nothing_gathered};
+ghost use Rattle.s57_records.specs.Dataset.{kind_of, header_with, cancels, dataset_of};
+ghost use Rattle.s57_records.specs.Gathering.{gathered_with, gather, nothing_gathered, needed_scale, dataset_gathered};
+ghost use Rattle.s57_records.specs.Rows.{general_of};
 ghost use Rattle.s57_records.specs.Reading.{reading};
 ghost use Rattle.s57_records.specs.Readings.{all_subfields};
 
@@ -81,4 +82,93 @@ fn gather_all(
         rest = after;
     }
     Ok(gathered)
+}
+
+/// The scale of a base file, which needs one, and 0 for an update.
+fn scale_or_fault(base: bool, scale: Option<u32>) -> Result<u32, DatasetFault>
+    ensures { result ≡ needed_scale base scale }
+{
+    if !base {
+        return Ok(0);
+    }
+    match scale {
+        Some(scale) => Ok(scale),
+        None => Err(DatasetFault::Profile(DSPM)),
+    }
+}
+
+/// The header of a data set.
+fn header_of(general: &General, scale: u32) -> Header
+    ensures { result ≡ header_with general.now scale }
+{
+    Header {
+        key: general.key,
+        edition: general.edition,
+        update: general.update,
+        issued: general.issued,
+        agency: general.agency,
+        scale,
+    }
+}
+
+/// Whether an update cancels its cell.
+fn is_cancelling(general: &General) -> bool
+    ensures { result ≡ cancels general.now }
+{
+    !general.base && general.edition == 0
+}
+
+/// The data set with this general information. The records are looked at unless the file cancels its
+/// cell.
+#[tactic(auto, unfolding(crate::specs::Gathering::dataset_gathered))]
+fn read_after(
+    alloc: Global,
+    general: &General,
+    first: &DataRecord<'_>,
+    rest: &[RawRecord],
+) -> Result<Dataset, DatasetFault>
+    requires { general_of (reading first.now) ≡ Ok general.now }
+    ensures { Gives result (dataset_gathered general.now (reading first.now) (all_subfields (layout_at first.now.descriptors.now) 2 rest.now)) }
+{
+    if is_cancelling(general) {
+        return Ok(Dataset {
+            header: header_of(general, 0),
+            base: false,
+            cancels: true,
+            changes: ChangeList::new(alloc),
+        });
+    }
+    check_structure(alloc, first)?;
+    let gathered = gather_all(alloc, first.descriptors, rest, general.base)?;
+    let scale = scale_or_fault(general.base, gathered.scale)?;
+    Ok(Dataset {
+        header: header_of(general, scale),
+        base: general.base,
+        cancels: false,
+        changes: gathered.changes,
+    })
+}
+
+/// Reads the data set that the records of a file are.
+///
+/// # Errors
+///
+/// The first fault by record, then by field, then by subfield; `NoMemory`.
+#[tactic(auto, unfolding(crate::specs::Dataset::dataset_of))]
+pub fn read_dataset(alloc: Global, file: &RecordFile) -> Result<Dataset, DatasetFault>
+    ensures { Gives result (dataset_of (all_subfields (layout_at file.now.descriptors) 1 file.now.records)) }
+{
+    let Some((first, rest)) = file.records.as_slice().split_first() else {
+        return Err(DatasetFault::NoGeneral);
+    };
+    let fields = DataRecord {
+        descriptors: &file.descriptors,
+        number: 1,
+        fields: first.as_slice(),
+    };
+    if !fields.has(DSID) {
+        return Err(DatasetFault::NoGeneral);
+    }
+    let general = read_general(alloc, &fields)?;
+    read_after(alloc, &general, &fields, rest)
 }

@@ -9,4 +9,5 @@ mod general;
 mod reader;
 mod vector;
 
+pub use dataset::read_dataset;
 pub use fault::DatasetFault;
