@@ -1,8 +1,8 @@
-use Rattle.std.proofs.Common.{◌≡◌, ℕ, sym, ◌∙◌}
+use Rattle.std.proofs.Common.{sym, ◌∙◌}
 use Rattle.s57_records.proofs.Steps.{given}
 use Rattle.s57_records.proofs.Gathering.{dataset_from}
 use Rattle.s57_records.proofs.dataset.read_dataset.Goals as goal
 
 pub returns : goal.returns
 returns c =
-    let a : ℕ = c.in-Some.ensures in ?
+    rw (sym c.file.view_is) (rw (sym c.as_slice.ensures ∙ c.in-Some.ensures.cases.0) (rw (sym c.as_slice-2.ensures) (dataset_from _ _ c.in_ok-general.general c.read_after.result (sym c.has.ensures ∙ c.if-not-has.false) (given _ _ _ c.read_general.ensures c.in_ok-general.was) c.read_after.ensures)))
