@@ -1,9 +1,8 @@
 -- How lines and their replies go on over the bytes of a script.
 use Rattle.std.proofs.Common.{◌≡◌, ◌≢◌, ℕ, zero, suc, ◌+◌, ◌-◌, ◌<◌, ◌≤◌, ◌⊎◌, Bool, true, false, cond, ◌&&◌, List, [], ◌∷◌, ◌++◌, length, take, drop, get_or, eqb, leb, ltb, refl, sym, ◌∙◌, ap, subst, arith, zero-add, inl, inr, append_assoc, length-append, length-drop, length-take-le}
-use Rattle.std.specs.Prelude.{Option, Some, None, Result, Ok, Err, OnOk, OnErr, IfOk, All, IsTrue, nat_eq, codes, count_by, min}
-use Rattle.std.specs.List.{slice_split, list_all, starts_with}
+use Rattle.std.specs.Prelude.{Option, Some, None, Result, Ok, Err, OnOk, OnErr, IfOk, All, IsTrue, nat_eq, codes, min}
+use Rattle.std.specs.List.{slice_split, starts_with}
 use Rattle.std.specs.Str.Lines.{lines, lines_of_parts, strip_carriage_return}
-use Rattle.std.specs.Fmt.{decimal}
 use Rattle.std.specs.Option.{option_map_or, option_and_then}
 use Rattle.iso8211_records.specs.RecordFile.{record_file_of}
 use Rattle.std.proofs.lemmas.Bool.Decides.{nat_tests}
@@ -18,7 +17,6 @@ use Rattle.chart_ports.specs.declared.shelf.Fetched.{Fetched}
 use Rattle.chart_ports.specs.declared.shelf.Fetched.TheVariants.{Bytes, Absent, Long}
 use Rattle.ecdis_cli.specs.declared.reply.Reply.{Reply}
 use Rattle.ecdis_cli.specs.declared.reply.Reply.TheVariants.{BadLine, ShelfFault, Unread, Info}
-use Rattle.ecdis_cli.specs.declared.general.General.{General}
 use Rattle.ecdis_cli.specs.declared.stop.Stop.{Stop}
 use Rattle.ecdis_cli.specs.declared.stop.Stop.TheVariants.{DeskFault, NoMemory}
 use Rattle.ecdis_cli.specs.Stop.{status_of}
@@ -26,7 +24,7 @@ use Rattle.ecdis_cli.specs.declared.status.Status.TheVariants as stops
 use Rattle.ecdis_cli.specs.declared.status.Status.{Status}
 use Rattle.ecdis_cli.specs.declared.status.Status.TheVariants.{Done}
 use Rattle.ecdis_cli.specs.General.{general_of}
-use Rattle.ecdis_cli.specs.Line.{is_visible, is_name, is_silent, name_on}
+use Rattle.ecdis_cli.specs.Line.{is_name, is_silent, name_on}
 use Rattle.ecdis_cli.specs.Reply.{Files, printed, reading_of, reply_on, reply_to_info, answer_to, reply_to, reply_to_fetched}
 use Rattle.ecdis_cli.specs.Replies.{replies_from, replies_of, joined, is_fetch_failure, fetch_failures}
 use Rattle.ecdis_cli.specs.Progress.{Answered, Interrupted, output_from, marked, Advanced, Halted}

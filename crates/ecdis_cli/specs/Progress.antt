@@ -1,5 +1,5 @@
 -- How far the answering of a script has come.
-use Rattle.std.specs.Prelude.{◌≡◌, ℕ, ◌+◌, Bool, List, [], ◌∷◌, ◌++◌, IsTrue, count_by}
+use Rattle.std.specs.Prelude.{◌≡◌, ℕ, Bool, List, ◌++◌, IsTrue, count_by}
 use Rattle.std.specs.Str.Lines.{lines}
 use Rattle.chart_ports.specs.Count.{Rose, RoseBy}
 use Rattle.chart_ports.specs.Said.{SaysFront}

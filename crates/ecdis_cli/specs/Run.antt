@@ -1,5 +1,5 @@
 -- What a run of the program says.
-use Rattle.std.specs.Prelude.{◌≡◌, ℕ, Bool, List, ◌++◌, take}
+use Rattle.std.specs.Prelude.{◌≡◌, ℕ, Bool, List, ◌++◌}
 use Rattle.chart_ports.specs.Count.{RoseBy}
 use Rattle.chart_ports.specs.Said.{SaysFront}
 use Rattle.ecdis_cli.specs.declared.status.Status.{Status}

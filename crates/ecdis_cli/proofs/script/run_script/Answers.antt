@@ -1,5 +1,5 @@
 -- The run goes on by the bytes that were pulled.
-use Rattle.std.proofs.Common.{◌≡◌, ◌≤◌, ◌+◌, length, ◌-◌, min, length-take-le, arith, refl, ap, ◌∙◌, inl}
+use Rattle.std.proofs.Common.{◌≡◌, ◌≤◌, length-take-le, arith, refl, ap, ◌∙◌, inl}
 use Rattle.std.specs.Prelude.{Ok}
 use Rattle.ecdis_cli.proofs.Scripts.{Underway-start, Underway-next, Underway-stopped, Underway-halted, Underway-done, Underway-cut, pull-part, pull-whole, length-pull, given-more, rose-fewer, Halted-here, status_of-not_done}
 use Rattle.ecdis_cli.proofs.script.run_script.Goals as goal
