@@ -6,8 +6,8 @@ use Rattle.std.specs.Str.Lines.{lines, lines_of_parts, strip_carriage_return}
 use Rattle.std.specs.Option.{option_map_or, option_and_then}
 use Rattle.iso8211_records.specs.RecordFile.{record_file_of}
 use Rattle.std.proofs.lemmas.Bool.Decides.{nat_tests}
-use Rattle.std.proofs.lemmas.List.{append-nil, take-append-drop, take_more, take-take}
-use Rattle.std.proofs.lemmas.List.Elements.{All-nil, All-cons, All-append}
+use Rattle.std.proofs.lemmas.List.{append-nil, append_cancel_right, take-append-drop, take_more, take-take}
+use Rattle.std.proofs.lemmas.List.Elements.{All-nil, All-cons, All-head, All-tail, All-append}
 use Rattle.std.proofs.lemmas.List.Sums.{sum_by-append, sum_by-cons}
 use Rattle.std.proofs.lemmas.List.Splits.{slice_split_at, slice_split_none, length-slice_split}
 use Rattle.std.proofs.Math.Seq.{take-append-add, take-append_seam}
@@ -26,13 +26,9 @@ use Rattle.ecdis_cli.specs.declared.status.Status.TheVariants.{Done}
 use Rattle.ecdis_cli.specs.General.{general_of}
 use Rattle.ecdis_cli.specs.Line.{is_name, is_silent, name_on}
 use Rattle.ecdis_cli.specs.Reply.{Files, printed, reading_of, reply_on, reply_to_info, answer_to, reply_to, reply_to_fetched}
-use Rattle.ecdis_cli.specs.Replies.{replies_from, replies_of, joined, is_fetch_failure, fetch_failures}
-use Rattle.ecdis_cli.specs.Progress.{Answered, Interrupted, output_from, marked, Advanced, Halted}
+use Rattle.ecdis_cli.specs.Replies.{replies_from, replies_of, joined, onto_ended, ended, is_fetch_failure, fetch_failures}
+use Rattle.ecdis_cli.specs.Progress.{Unbroken, Answered, Interrupted, output_from, marked, Advanced, Halted}
 use Rattle.ecdis_cli.specs.Run.{Replied}
-
--- no line feed is among the bytes
-abbrev pub Unbroken : List ℕ → Type 0
-Unbroken bytes = All (λ byte. eqb byte 10 ≡ false) bytes
 
 -- Lines
 
@@ -193,6 +189,59 @@ output-long files number line byte rest marks long h ne =
           ∙ sym (ap (λ (l : List ℕ). output_from files number (line ++ l) marks) f.whole ∙ begun f.line f.unbroken)
     ]
 
+-- Lines that have ended
+
+ended-unbroken : (bytes : List ℕ) → Unbroken bytes → ended bytes ≡ []
+ended-unbroken [] h = refl
+ended-unbroken (byte ∷ bytes) h =
+    ap (onto_ended byte) (ended-unbroken bytes (All-tail (λ b. eqb b 10 ≡ false) byte bytes h))
+    ∙ ap (λ (v : Bool). cond v (byte ∷ []) []) (All-head (λ b. eqb b 10 ≡ false) byte bytes h)
+
+-- bytes without a line feed end no line
+ended-append_unbroken : (bytes more : List ℕ) → Unbroken more → ended (bytes ++ more) ≡ ended bytes
+ended-append_unbroken [] more h = ended-unbroken more h
+ended-append_unbroken (byte ∷ bytes) more h = ap (onto_ended byte) (ended-append_unbroken bytes more h)
+
+pub record IsCons (bytes : List ℕ) : Type 0 where
+  pub first : ℕ
+  pub others : List ℕ
+  pub whole : bytes ≡ first ∷ others
+
+onto_ended-cons : (byte : ℕ) (bytes : List ℕ) → IsCons bytes → onto_ended byte bytes ≡ byte ∷ bytes
+onto_ended-cons byte [] x = absurd (let e : [] ≡ x.first ∷ x.others = x.whole in cc)
+onto_ended-cons byte (next ∷ more) x = refl
+
+cons-front : (bytes more : List ℕ) → IsCons more → IsCons (bytes ++ more)
+cons-front [] more x = x
+cons-front (byte ∷ bytes) more x = record { first = byte; others = bytes ++ more; whole = refl }
+
+-- where a line ends later, all that comes before has ended
+ended-append : (bytes more : List ℕ) → IsCons (ended more) → ended (bytes ++ more) ≡ bytes ++ ended more
+ended-append [] more x = refl
+ended-append (byte ∷ bytes) more x = ap (onto_ended byte) (ended-append bytes more x) ∙ onto_ended-cons byte (bytes ++ ended more) (cons-front bytes (ended more) x)
+
+onto_ten : (bytes : List ℕ) → IsCons (onto_ended 10 bytes)
+onto_ten [] = record { first = 10; others = []; whole = refl }
+onto_ten (next ∷ more) = record { first = 10; others = next ∷ more; whole = refl }
+
+ended-feed : (line rest : List ℕ) → IsCons (ended (line ++ 10 ∷ rest))
+ended-feed line rest =
+    subst IsCons (sym (ended-append line (10 ∷ rest) (onto_ten (ended rest)))) (cons-front line (ended (10 ∷ rest)) (onto_ten (ended rest)))
+
+ended-fed : (bytes : List ℕ) → Fed bytes → IsCons (ended bytes)
+ended-fed bytes f = subst (λ (l : List ℕ). IsCons (ended l)) (sym f.whole) (ended-feed f.line f.rest)
+
+-- a line feed at the end ends all
+ended-line : (line : List ℕ) → ended (line ++ 10 ∷ []) ≡ line ++ 10 ∷ []
+ended-line line = ended-append line (10 ∷ []) (onto_ten [])
+
+output-empty : (files : Files) (number : ℕ) (marks : List Bool) → output_from files number [] marks ≡ []
+unfolding output_from
+output-empty files number marks = refl
+
+output-ended_none : (files : Files) (number : ℕ) (bytes : List ℕ) (marks : List Bool) → Unbroken bytes → output_from files number (ended bytes) marks ≡ []
+output-ended_none files number bytes marks h = ap (λ (l : List ℕ). output_from files number l marks) (ended-unbroken bytes h) ∙ output-empty files number marks
+
 -- Fronts
 
 front-whole : (before bytes now : List ℕ) → now ≡ before ++ bytes → SaysFront before bytes now
@@ -311,6 +360,9 @@ Advanced-start files number line before faults = record {
   replies = [];
   said = sym (append-nil before);
   ahead = λ rest more. refl;
+  ended_lines = λ h. sym (output-ended_none files number (line ++ []) [] (All-append (λ b. eqb b 10 ≡ false) line [] h (All-nil (λ b. eqb b 10 ≡ false))));
+  unended = λ h. refl;
+  open_line = λ h. h;
   failed = rose-none faults faults (omega arith);
 }
 
@@ -322,6 +374,11 @@ Advanced-feed files number line stripped before now a b later h e x = record {
   said = x.said;
   ahead = λ rest more. output-feed files number line rest (x.mark ∷ more) h
       ∙ ap (λ (l : List ℕ). reply_to files number l x.mark ++ output_from files (number + 1) rest more) (sym e);
+  ended_lines = λ _. sym (ap (λ (l : List ℕ). output_from files number l (x.mark ∷ [])) (ended-line line) ∙ output-feed files number line [] (x.mark ∷ []) h
+      ∙ ap (λ (l : List ℕ). reply_to files number l x.mark ++ output_from files (number + 1) [] []) (sym e)
+      ∙ ap (λ (l : List ℕ). reply_to files number stripped x.mark ++ l) (output-empty files (number + 1) []) ∙ append-nil (reply_to files number stripped x.mark));
+  unended = λ u. absurd (let f : true ≡ false = All-head (λ b. eqb b 10 ≡ false) 10 [] u in cc);
+  open_line = λ _. All-nil (λ b. eqb b 10 ≡ false);
   failed = rose-mark x.mark a b later x.cause;
 }
 
@@ -336,13 +393,16 @@ Halted-feed files number line stripped before now a b later h e x = record {
   failed = rose-mark x.mark a b later x.cause;
 }
 
-pub Advanced-kept : (files : Files) (number : ℕ) (line : List ℕ) (byte : ℕ) (before : List ℕ) (faults : ℕ)
+pub Advanced-kept : (files : Files) (number : ℕ) (line : List ℕ) (byte : ℕ) (before : List ℕ) (faults : ℕ) → eqb byte 10 ≡ false
     → Advanced files number line (byte ∷ []) number (line ++ byte ∷ []) before before faults faults
-Advanced-kept files number line byte before faults = record {
+Advanced-kept files number line byte before faults ne = record {
   marks = [];
   replies = [];
   said = sym (append-nil before);
   ahead = λ rest more. ap (λ (l : List ℕ). output_from files number l more) (sym (append_assoc line (byte ∷ []) rest));
+  ended_lines = λ h. sym (output-ended_none files number (line ++ byte ∷ []) [] (All-append (λ b. eqb b 10 ≡ false) line (byte ∷ []) h (All-cons (λ b. eqb b 10 ≡ false) byte [] ne (All-nil (λ b. eqb b 10 ≡ false)))));
+  unended = λ h. refl;
+  open_line = λ h. All-append (λ b. eqb b 10 ≡ false) line (byte ∷ []) h (All-cons (λ b. eqb b 10 ≡ false) byte [] ne (All-nil (λ b. eqb b 10 ≡ false)));
   failed = rose-none faults faults (omega arith);
 }
 
@@ -354,8 +414,46 @@ Advanced-dropped files number line byte before faults long h ne = record {
   replies = [];
   said = sym (append-nil before);
   ahead = λ rest more. output-long files number line byte rest more long h ne;
+  ended_lines = λ _. sym (output-ended_none files number (line ++ byte ∷ []) [] (All-append (λ b. eqb b 10 ≡ false) line (byte ∷ []) h (All-cons (λ b. eqb b 10 ≡ false) byte [] ne (All-nil (λ b. eqb b 10 ≡ false)))));
+  unended = λ _. refl;
+  open_line = λ u. u;
   failed = rose-none faults faults (omega arith);
 }
+
+All-front : (xs ys : List ℕ) → Unbroken (xs ++ ys) → Unbroken xs
+All-front [] ys h = All-nil (λ b. eqb b 10 ≡ false)
+All-front (x ∷ xs) ys h = All-cons (λ b. eqb b 10 ≡ false) x xs (All-head (λ b. eqb b 10 ≡ false) x (xs ++ ys) h) (All-front xs ys (All-tail (λ b. eqb b 10 ≡ false) x (xs ++ ys) h))
+
+All-behind : (xs ys : List ℕ) → Unbroken (xs ++ ys) → Unbroken ys
+All-behind [] ys h = h
+All-behind (x ∷ xs) ys h = All-behind xs ys (All-tail (λ b. eqb b 10 ≡ false) x (xs ++ ys) h)
+
+both-none : (xs ys : List Bool) → xs ≡ [] → ys ≡ [] → xs ++ ys ≡ []
+both-none xs ys e f = ap (λ (l : List Bool). l ++ ys) e ∙ f
+
+-- the replies to the lines that have ended, where no line or some line ends in the later bytes
+then-unbroken : (files : Files) (n0 n1 n2 : ℕ) (l0 l1 l2 bytes more s0 s1 s2 : List ℕ) (f0 f1 f2 : ℕ) → Unbroken l0 → Unbroken more
+    → (x : Advanced files n0 l0 bytes n1 l1 s0 s1 f0 f1) → (y : Advanced files n1 l1 more n2 l2 s1 s2 f1 f2)
+    → x.replies ++ y.replies ≡ output_from files n0 (ended (l0 ++ (bytes ++ more))) (x.marks ++ y.marks)
+then-unbroken files n0 n1 n2 l0 l1 l2 bytes more s0 s1 s2 f0 f1 f2 h u x y =
+    let line : Unbroken (l1 ++ more) = All-append (λ b. eqb b 10 ≡ false) l1 more (x.open_line h) u in
+    let none : y.replies ≡ [] = y.ended_lines (x.open_line h) ∙ output-ended_none files n1 (l1 ++ more) y.marks line in
+    ap (λ (l : List ℕ). x.replies ++ l) none ∙ append-nil x.replies ∙ x.ended_lines h
+    ∙ ap (λ (l : List ℕ). output_from files n0 l x.marks)
+        (sym (ap ended (sym (append_assoc l0 bytes more)) ∙ ended-append_unbroken (l0 ++ bytes) more u))
+    ∙ ap (λ (ms : List Bool). output_from files n0 (ended (l0 ++ (bytes ++ more))) ms)
+        (sym (ap (λ (ms : List Bool). x.marks ++ ms) (y.unended u) ∙ append-nil x.marks))
+
+then-fed : (files : Files) (n0 n1 n2 : ℕ) (l0 l1 l2 bytes more s0 s1 s2 : List ℕ) (f0 f1 f2 : ℕ) → Unbroken l0 → Fed more
+    → (x : Advanced files n0 l0 bytes n1 l1 s0 s1 f0 f1) → (y : Advanced files n1 l1 more n2 l2 s1 s2 f1 f2)
+    → x.replies ++ y.replies ≡ output_from files n0 (ended (l0 ++ (bytes ++ more))) (x.marks ++ y.marks)
+then-fed files n0 n1 n2 l0 l1 l2 bytes more s0 s1 s2 f0 f1 f2 h f x y =
+    let some : IsCons (ended more) = ended-fed more f in
+    ap (λ (l : List ℕ). x.replies ++ l) (y.ended_lines (x.open_line h)
+        ∙ ap (λ (l : List ℕ). output_from files n1 l y.marks) (ended-append l1 more some))
+    ∙ sym (x.ahead (ended more) y.marks)
+    ∙ ap (λ (l : List ℕ). output_from files n0 l (x.marks ++ y.marks))
+        (sym (ap ended (sym (append_assoc l0 bytes more)) ∙ ended-append (l0 ++ bytes) more some ∙ append_assoc l0 bytes (ended more)))
 
 pub Advanced-then : (files : Files) (n0 n1 n2 : ℕ) (l0 l1 l2 bytes more s0 s1 s2 : List ℕ) (f0 f1 f2 : ℕ) → f0 ≤ f1 → f1 ≤ f2
     → Advanced files n0 l0 bytes n1 l1 s0 s1 f0 f1 → Advanced files n1 l1 more n2 l2 s1 s2 f1 f2
@@ -370,6 +468,12 @@ Advanced-then files n0 n1 n2 l0 l1 l2 bytes more s0 s1 s2 f0 f1 f2 low high x y 
       ∙ x.ahead (more ++ rest) (y.marks ++ marks)
       ∙ ap (λ (l : List ℕ). x.replies ++ l) (y.ahead rest marks)
       ∙ sym (append_assoc x.replies y.replies (output_from files n2 (l2 ++ rest) marks));
+  ended_lines = λ h. elim (cut_at_feed more) as (λ _. x.replies ++ y.replies ≡ output_from files n0 (ended (l0 ++ (bytes ++ more))) (x.marks ++ y.marks)) [
+        inl u ↦ then-unbroken files n0 n1 n2 l0 l1 l2 bytes more s0 s1 s2 f0 f1 f2 h u x y
+      | inr f ↦ then-fed files n0 n1 n2 l0 l1 l2 bytes more s0 s1 s2 f0 f1 f2 h f x y
+      ];
+  unended = λ u. both-none x.marks y.marks (x.unended (All-front bytes more u)) (y.unended (All-behind bytes more u));
+  open_line = λ h. y.open_line (x.open_line h);
   failed = subst (λ (k : ℕ). RoseBy k f0 f2) (sym (marked-append x.marks y.marks)) (rose-more (marked x.marks) (marked y.marks) f0 f1 f2 low high x.failed y.failed);
 }
 
@@ -384,13 +488,17 @@ Halted-then files n0 n1 l0 l1 bytes more s0 s1 s2 f0 f1 f2 low high x y = record
   failed = subst (λ (k : ℕ). RoseBy k f0 f2) (sym (marked-append x.marks y.marks)) (rose-more (marked x.marks) (marked y.marks) f0 f1 f2 low high x.failed y.failed);
 }
 
+Advanced-front : (files : Files) (n0 n1 : ℕ) (l0 l1 bytes s0 s1 : List ℕ) (f0 f1 : ℕ) → (x : Advanced files n0 l0 bytes n1 l1 s0 s1 f0 f1) (rest : List ℕ)
+    → SaysFront s0 (output_from files n0 (l0 ++ (bytes ++ rest)) x.marks) s1
+Advanced-front files n0 n1 l0 l1 bytes s0 s1 f0 f1 x rest = front-same s0 _ _ s1
+    (sym (ap (λ (ms : List Bool). output_from files n0 (l0 ++ (bytes ++ rest)) ms) (sym (append-nil x.marks)) ∙ x.ahead rest []))
+    (front-append s0 x.replies (output_from files n1 (l1 ++ rest) []) s1 (front-whole s0 x.replies s1 x.said))
+
 pub Halted-here : (files : Files) (n0 n1 : ℕ) (l0 l1 bytes s0 s1 : List ℕ) (f0 f1 : ℕ)
     → Advanced files n0 l0 bytes n1 l1 s0 s1 f0 f1 → Halted files n0 l0 bytes s0 s1 f0 f1
 Halted-here files n0 n1 l0 l1 bytes s0 s1 f0 f1 x = record {
   marks = x.marks;
-  front = λ rest. front-same s0 _ _ s1
-      (sym (ap (λ (ms : List Bool). output_from files n0 (l0 ++ (bytes ++ rest)) ms) (sym (append-nil x.marks)) ∙ x.ahead rest []))
-      (front-append s0 x.replies (output_from files n1 (l1 ++ rest) []) s1 (front-whole s0 x.replies s1 x.said));
+  front = Advanced-front files n0 n1 l0 l1 bytes s0 s1 f0 f1 x;
   failed = x.failed;
 }
 
@@ -415,7 +523,7 @@ Advanced-byte files number line line' byte before faults h ne e =
     let P : List ℕ → Type 0 = λ (l : List ℕ). Advanced files number line (byte ∷ []) number l before before faults faults in
     let cases : (b : Bool) → ltb (length line) 1026 ≡ b → P (cond b (line ++ byte ∷ []) line)
     = λ (b : Bool). elim b as (λ v. ltb (length line) 1026 ≡ v → P (cond v (line ++ byte ∷ []) line)) [
-      | true ↦ λ t. Advanced-kept files number line byte before faults
+      | true ↦ λ t. Advanced-kept files number line byte before faults ne
       | false ↦ λ t. Advanced-dropped files number line byte before faults (grind (arith, nat_tests)) h ne
     ] in
     subst P (sym e) (cases (ltb (length line) 1026) refl)
@@ -460,9 +568,9 @@ unfolding replies_of
 replies_of-failures files script marks a b h = rose-fewer (fetch_failures (replies_from files 1 (lines script) marks)) (marked marks) a b (failures-le-marked files 1 (lines script) marks) h
 
 -- the last line was answered
-pub Replied-done : (files : Files) (number : ℕ) (line script s0 s1 s2 : List ℕ) (f0 f1 f2 : ℕ) (status : Status) → f0 ≤ f1 → f1 ≤ f2 → Unbroken line
-    → Advanced files 1 [] script number line s0 s1 f0 f1 → Answered files number line s1 s2 f1 f2 → Replied script files status s0 s2 f0 f2
-Replied-done files number line script s0 s1 s2 f0 f1 f2 status low high h x y =
+pub Replied-done : (files : Files) (number : ℕ) (line script left s0 s1 s2 : List ℕ) (f0 f1 f2 : ℕ) (status : Status) → status ≡ Done → f0 ≤ f1 → f1 ≤ f2 → Unbroken line
+    → Advanced files 1 [] script number line s0 s1 f0 f1 → Answered files number line s1 s2 f1 f2 → Replied script left files status s0 s2 f0 f2
+Replied-done files number line script left s0 s1 s2 f0 f1 f2 status done low high h x y =
     let whole : joined (replies_of files script (x.marks ++ y.mark ∷ [])) ≡ x.replies ++ reply_to files number line y.mark
     = replies_of-joined files script (x.marks ++ y.mark ∷ [])
     ∙ ap (λ (l : List ℕ). output_from files 1 l (x.marks ++ y.mark ∷ [])) (sym (append-nil script))
@@ -476,15 +584,17 @@ Replied-done files number line script s0 s1 s2 f0 f1 f2 status low high h x y =
       marks = x.marks ++ y.mark ∷ [];
       all = λ _. said;
       front = front-whole s0 _ s2 said;
+  at_fault = λ d. absurd (let e : Done ≡ stops.ScriptFault = sym done ∙ d in cc);
+  at_limit = λ d. absurd (let e : Done ≡ stops.ScriptLong = sym done ∙ d in cc);
       failures = replies_of-failures files script (x.marks ++ y.mark ∷ []) f0 f2
           (subst (λ (k : ℕ). RoseBy k f0 f2) (sym (marked-append x.marks (y.mark ∷ [])))
           (rose-more (marked x.marks) (marked (y.mark ∷ [])) f0 f1 f2 low high x.failed (rose-mark y.mark f1 f2 high y.cause)));
     }
 
 -- the last line was not
-pub Replied-cut : (files : Files) (number : ℕ) (line script s0 s1 s2 : List ℕ) (f0 f1 f2 : ℕ) (status : Status) → status ≢ Done → f0 ≤ f1 → f1 ≤ f2 → Unbroken line
-    → Advanced files 1 [] script number line s0 s1 f0 f1 → Interrupted files number line s1 s2 f1 f2 → Replied script files status s0 s2 f0 f2
-Replied-cut files number line script s0 s1 s2 f0 f1 f2 status not_done low high h x y =
+pub Replied-cut : (files : Files) (number : ℕ) (line script left s0 s1 s2 : List ℕ) (f0 f1 f2 : ℕ) (status : Status) → status ≢ Done → status ≢ stops.ScriptFault → status ≢ stops.ScriptLong → f0 ≤ f1 → f1 ≤ f2 → Unbroken line
+    → Advanced files 1 [] script number line s0 s1 f0 f1 → Interrupted files number line s1 s2 f1 f2 → Replied script left files status s0 s2 f0 f2
+Replied-cut files number line script left s0 s1 s2 f0 f1 f2 status not_done not_fault not_long low high h x y =
     let whole : joined (replies_of files script (x.marks ++ y.mark ∷ [])) ≡ x.replies ++ reply_to files number line y.mark
     = replies_of-joined files script (x.marks ++ y.mark ∷ [])
     ∙ ap (λ (l : List ℕ). output_from files 1 l (x.marks ++ y.mark ∷ [])) (sym (append-nil script))
@@ -494,21 +604,77 @@ Replied-cut files number line script s0 s1 s2 f0 f1 f2 status not_done low high 
     record {
       marks = x.marks ++ y.mark ∷ [];
       all = λ d. absurd (not_done d);
-      front = front-same s0 _ _ s2 (sym whole) (front-after s0 x.replies (reply_to files number line y.mark) s1 s2 x.said y.front);
+      at_fault = λ d. absurd (not_fault d);
+  at_limit = λ d. absurd (not_long d);
+  front = front-same s0 _ _ s2 (sym whole) (front-after s0 x.replies (reply_to files number line y.mark) s1 s2 x.said y.front);
       failures = replies_of-failures files script (x.marks ++ y.mark ∷ []) f0 f2
           (subst (λ (k : ℕ). RoseBy k f0 f2) (sym (marked-append x.marks (y.mark ∷ [])))
           (rose-more (marked x.marks) (marked (y.mark ∷ [])) f0 f1 f2 low high x.failed (rose-mark y.mark f1 f2 high y.cause)));
     }
 
 -- the run ended before the script's end
-pub Replied-halted : (files : Files) (script bytes rest s0 s1 : List ℕ) (f0 f1 : ℕ) (status : Status) → status ≢ Done → script ≡ bytes ++ rest
-    → Halted files 1 [] bytes s0 s1 f0 f1 → Replied script files status s0 s1 f0 f1
-Replied-halted files script bytes rest s0 s1 f0 f1 status not_done e x = record {
+pub Replied-halted : (files : Files) (script left bytes rest s0 s1 : List ℕ) (f0 f1 : ℕ) (status : Status) → status ≢ Done → status ≢ stops.ScriptFault → status ≢ stops.ScriptLong → script ≡ bytes ++ rest
+    → Halted files 1 [] bytes s0 s1 f0 f1 → Replied script left files status s0 s1 f0 f1
+Replied-halted files script left bytes rest s0 s1 f0 f1 status not_done not_fault not_long e x = record {
   marks = x.marks;
   all = λ d. absurd (not_done d);
   front = front-same s0 _ _ s1 (sym (replies_of-joined files script x.marks ∙ ap (λ (l : List ℕ). output_from files 1 l x.marks) e)) (x.front rest);
+  at_fault = λ d. absurd (not_fault d);
+  at_limit = λ d. absurd (not_long d);
   failures = replies_of-failures files script x.marks f0 f1 x.failed;
 }
+
+-- what was taken is all that the script has before what is left
+taken_is : (taken others left : List ℕ) → taken ++ left ≡ others ++ left → taken ≡ others
+taken_is taken others left e = append_cancel_right taken others left e
+
+-- what was said is the replies to the lines that have ended
+said_ended : (files : Files) (n1 : ℕ) (l1 bytes s0 s1 : List ℕ) (f0 f1 : ℕ) → (x : Advanced files 1 [] bytes n1 l1 s0 s1 f0 f1)
+    → s1 ≡ s0 ++ joined (replies_of files (ended bytes) x.marks)
+said_ended files n1 l1 bytes s0 s1 f0 f1 x =
+    x.said ∙ ap (λ (l : List ℕ). s0 ++ l) (x.ended_lines (All-nil (λ b. eqb b 10 ≡ false)) ∙ sym (replies_of-joined files (ended bytes) x.marks))
+
+-- the source failed where these bytes were taken
+pub Replied-fault : (files : Files) (script left bytes : List ℕ) (n1 : ℕ) (l1 s0 s1 : List ℕ) (f0 f1 : ℕ) → script ≡ bytes ++ left
+    → Advanced files 1 [] bytes n1 l1 s0 s1 f0 f1 → Replied script left files stops.ScriptFault s0 s1 f0 f1
+Replied-fault files script left bytes n1 l1 s0 s1 f0 f1 e x =
+    record {
+  marks = x.marks;
+  all = λ d. absurd (let f : stops.ScriptFault ≡ Done = d in cc);
+  front = front-same s0 _ _ s1 (sym (replies_of-joined files script x.marks ∙ ap (λ (l : List ℕ). output_from files 1 l x.marks) e)) (Advanced-front files 1 n1 [] l1 bytes s0 s1 f0 f1 x left);
+  at_fault = λ _ taken h. said_ended files n1 l1 bytes s0 s1 f0 f1 x
+      ∙ ap (λ (l : List ℕ). s0 ++ joined (replies_of files (ended l) x.marks)) (taken_is bytes taken left (sym e ∙ h));
+  at_limit = λ d. absurd (let f : stops.ScriptFault ≡ stops.ScriptLong = d in cc);
+  failures = replies_of-failures files script x.marks f0 f1 x.failed;
+}
+
+-- the script has more than its limit, which these bytes are
+pub Replied-long : (files : Files) (script left bytes rest : List ℕ) (n1 : ℕ) (l1 s0 s1 : List ℕ) (f0 f1 : ℕ) → script ≡ bytes ++ rest → length bytes ≡ 16777216
+    → Advanced files 1 [] bytes n1 l1 s0 s1 f0 f1 → Replied script left files stops.ScriptLong s0 s1 f0 f1
+Replied-long files script left bytes rest n1 l1 s0 s1 f0 f1 e limit x =
+    let within : take 16777216 script ≡ bytes
+        = ap (λ (k : ℕ). take k script) (sym limit) ∙ ap (λ (l : List ℕ). take (length bytes) l) e ∙ take-append_seam bytes rest in
+    record {
+  marks = x.marks;
+  all = λ d. absurd (let f : stops.ScriptLong ≡ Done = d in cc);
+  front = front-same s0 _ _ s1 (sym (replies_of-joined files script x.marks ∙ ap (λ (l : List ℕ). output_from files 1 l x.marks) e)) (Advanced-front files 1 n1 [] l1 bytes s0 s1 f0 f1 x rest);
+  at_fault = λ d. absurd (let f : stops.ScriptLong ≡ stops.ScriptFault = d in cc);
+  at_limit = λ _. said_ended files n1 l1 bytes s0 s1 f0 f1 x
+      ∙ ap (λ (l : List ℕ). s0 ++ joined (replies_of files (ended l) x.marks)) (sym within);
+  failures = replies_of-failures files script x.marks f0 f1 x.failed;
+}
+
+status_of-not_done : (stop : Stop) (status : Status) → status ≡ status_of stop → status ≢ Done
+status_of-not_done DeskFault status e = λ d. let x : stops.DeskFault ≡ Done = sym e ∙ d in cc
+status_of-not_done NoMemory status e = λ d. let x : stops.NoMemory ≡ Done = sym e ∙ d in cc
+
+status_of-not_fault : (stop : Stop) (status : Status) → status ≡ status_of stop → status ≢ stops.ScriptFault
+status_of-not_fault DeskFault status e = λ d. let x : stops.DeskFault ≡ stops.ScriptFault = sym e ∙ d in cc
+status_of-not_fault NoMemory status e = λ d. let x : stops.NoMemory ≡ stops.ScriptFault = sym e ∙ d in cc
+
+status_of-not_long : (stop : Stop) (status : Status) → status ≡ status_of stop → status ≢ stops.ScriptLong
+status_of-not_long DeskFault status e = λ d. let x : stops.DeskFault ≡ stops.ScriptLong = sym e ∙ d in cc
+status_of-not_long NoMemory status e = λ d. let x : stops.NoMemory ≡ stops.ScriptLong = sym e ∙ d in cc
 
 -- A run under way: these bytes were taken
 pub record Underway (files : Files) (script left : List ℕ) (number : ℕ) (line before now : List ℕ) (faults_before faults_now : ℕ) : Type 0 where
@@ -535,43 +701,55 @@ Underway-next files files' script left0 left1 bytes n1 n2 l1 l2 s0 s1 s2 f0 f1 f
       (subst (λ (fs : Files). Advanced fs n1 l1 bytes n2 l2 s1 s2 f1 f2) same y);
 }
 
--- the run ends at its place
-pub Underway-stopped : (files : Files) (script left : List ℕ) (number : ℕ) (line s0 s1 : List ℕ) (f0 f1 : ℕ) (status : Status) → status ≢ Done
-    → Underway files script left number line s0 s1 f0 f1 → Replied script files status s0 s1 f0 f1
-Underway-stopped files script left number line s0 s1 f0 f1 status not_done x =
-    Replied-halted files script x.taken left s0 s1 f0 f1 status not_done x.split (Halted-here files 1 number [] line x.taken s0 s1 f0 f1 x.advanced)
+-- the source fails at this place
+pub Underway-fault : (files : Files) (script left : List ℕ) (number : ℕ) (line s0 s1 : List ℕ) (f0 f1 : ℕ) (left' : List ℕ) → left' ≡ left
+    → Underway files script left number line s0 s1 f0 f1 → Replied script left' files stops.ScriptFault s0 s1 f0 f1
+Underway-fault files script left number line s0 s1 f0 f1 left' e x =
+    subst (λ (l : List ℕ). Replied script l files stops.ScriptFault s0 s1 f0 f1) (sym e)
+        (Replied-fault files script left x.taken number line s0 s1 f0 f1 x.split x.advanced)
 
 -- the run ends within further bytes
-pub Underway-halted : (files files' : Files) (script left0 left1 bytes : List ℕ) (number : ℕ) (line s0 s1 s2 : List ℕ) (f0 f1 f2 : ℕ) (status : Status) → status ≢ Done
+pub Underway-halted : (files files' : Files) (script left left0 left1 bytes : List ℕ) (number : ℕ) (line s0 s1 s2 : List ℕ) (f0 f1 f2 : ℕ) (stop : Stop) (status : Status) → status ≡ status_of stop
     → files' ≡ files → f0 ≤ f1 → f1 ≤ f2 → left0 ≡ bytes ++ left1
     → Underway files script left0 number line s0 s1 f0 f1 → Halted files' number line bytes s1 s2 f1 f2
-    → Replied script files status s0 s2 f0 f2
-Underway-halted files files' script left0 left1 bytes number line s0 s1 s2 f0 f1 f2 status not_done same low high e x y =
-    Replied-halted files script (x.taken ++ bytes) left1 s0 s2 f0 f2 status not_done
-    (x.split ∙ ap (λ (l : List ℕ). x.taken ++ l) e ∙ sym (append_assoc x.taken bytes left1))
-    (Halted-then files 1 number [] line x.taken bytes s0 s1 s2 f0 f1 f2 low high x.advanced
-    (subst (λ (fs : Files). Halted fs number line bytes s1 s2 f1 f2) same y))
+    → Replied script left files status s0 s2 f0 f2
+Underway-halted files files' script left left0 left1 bytes number line s0 s1 s2 f0 f1 f2 stop status is same low high e x y =
+    Replied-halted files script left (x.taken ++ bytes) left1 s0 s2 f0 f2 status (status_of-not_done stop status is) (status_of-not_fault stop status is) (status_of-not_long stop status is)
+        (x.split ∙ ap (λ (l : List ℕ). x.taken ++ l) e ∙ sym (append_assoc x.taken bytes left1))
+        (Halted-then files 1 number [] line x.taken bytes s0 s1 s2 f0 f1 f2 low high x.advanced
+            (subst (λ (fs : Files). Halted fs number line bytes s1 s2 f1 f2) same y))
+
+-- the script's limit is reached in the further bytes
+pub Underway-long : (files files' : Files) (script left left0 left1 bytes : List ℕ) (room n1 n2 : ℕ) (l1 l2 s0 s1 s2 : List ℕ) (f0 f1 f2 : ℕ)
+    → files' ≡ files → f0 ≤ f1 → f1 ≤ f2 → left0 ≡ bytes ++ left1 → length bytes ≡ room → length script + room ≡ 16777216 + length left0
+    → Underway files script left0 n1 l1 s0 s1 f0 f1 → Advanced files' n1 l1 bytes n2 l2 s1 s2 f1 f2
+    → Replied script left files stops.ScriptLong s0 s2 f0 f2
+Underway-long files files' script left left0 left1 bytes room n1 n2 l1 l2 s0 s1 s2 f0 f1 f2 same low high e fits counted x y =
+    let z : Underway files script left1 n2 l2 s0 s2 f0 f2 = Underway-next files files' script left0 left1 bytes n1 n2 l1 l2 s0 s1 s2 f0 f1 f2 same low high e x y in
+    let spent : length z.taken ≡ 16777216
+        = omega (arith, ap length z.split, length-append z.taken left1, ap length e, length-append bytes left1, counted, fits) in
+    Replied-long files script left z.taken left1 n2 l2 s0 s2 f0 f2 z.split spent z.advanced
 
 -- the script ends here
 all_taken : (script taken left : List ℕ) → script ≡ taken ++ left → left ≡ [] → taken ≡ script
 all_taken script taken left e none = sym (e ∙ ap (λ (l : List ℕ). taken ++ l) none ∙ append-nil taken)
 
-pub Underway-done : (files files' : Files) (script left : List ℕ) (number : ℕ) (line s0 s1 s2 : List ℕ) (f0 f1 f2 : ℕ) (status : Status)
-    → files' ≡ files → f0 ≤ f1 → f1 ≤ f2 → Unbroken line → left ≡ []
-    → Underway files script left number line s0 s1 f0 f1 → Answered files' number line s1 s2 f1 f2
-    → Replied script files status s0 s2 f0 f2
-Underway-done files files' script left number line s0 s1 s2 f0 f1 f2 status same low high h none x y =
-    Replied-done files number line script s0 s1 s2 f0 f1 f2 status low high h
-    (subst (λ (bs : List ℕ). Advanced files 1 [] bs number line s0 s1 f0 f1) (all_taken script x.taken left x.split none) x.advanced)
+pub Underway-done : (files files' : Files) (script left0 left : List ℕ) (number : ℕ) (line s0 s1 s2 : List ℕ) (f0 f1 f2 : ℕ)
+    → files' ≡ files → f0 ≤ f1 → f1 ≤ f2 → Unbroken line → left0 ≡ []
+    → Underway files script left0 number line s0 s1 f0 f1 → Answered files' number line s1 s2 f1 f2
+    → Replied script left files Done s0 s2 f0 f2
+Underway-done files files' script left0 left number line s0 s1 s2 f0 f1 f2 same low high h none x y =
+    Replied-done files number line script left s0 s1 s2 f0 f1 f2 Done refl low high h
+    (subst (λ (bs : List ℕ). Advanced files 1 [] bs number line s0 s1 f0 f1) (all_taken script x.taken left0 x.split none) x.advanced)
     (subst (λ (fs : Files). Answered fs number line s1 s2 f1 f2) same y)
 
-pub Underway-cut : (files files' : Files) (script left : List ℕ) (number : ℕ) (line s0 s1 s2 : List ℕ) (f0 f1 f2 : ℕ) (status : Status) → status ≢ Done
-    → files' ≡ files → f0 ≤ f1 → f1 ≤ f2 → Unbroken line → left ≡ []
-    → Underway files script left number line s0 s1 f0 f1 → Interrupted files' number line s1 s2 f1 f2
-    → Replied script files status s0 s2 f0 f2
-Underway-cut files files' script left number line s0 s1 s2 f0 f1 f2 status not_done same low high h none x y =
-    Replied-cut files number line script s0 s1 s2 f0 f1 f2 status not_done low high h
-    (subst (λ (bs : List ℕ). Advanced files 1 [] bs number line s0 s1 f0 f1) (all_taken script x.taken left x.split none) x.advanced)
+pub Underway-cut : (files files' : Files) (script left0 left : List ℕ) (number : ℕ) (line s0 s1 s2 : List ℕ) (f0 f1 f2 : ℕ) (stop : Stop) (status : Status) → status ≡ status_of stop
+    → files' ≡ files → f0 ≤ f1 → f1 ≤ f2 → Unbroken line → left0 ≡ []
+    → Underway files script left0 number line s0 s1 f0 f1 → Interrupted files' number line s1 s2 f1 f2
+    → Replied script left files status s0 s2 f0 f2
+Underway-cut files files' script left0 left number line s0 s1 s2 f0 f1 f2 stop status is same low high h none x y =
+    Replied-cut files number line script left s0 s1 s2 f0 f1 f2 status (status_of-not_done stop status is) (status_of-not_fault stop status is) (status_of-not_long stop status is) low high h
+    (subst (λ (bs : List ℕ). Advanced files 1 [] bs number line s0 s1 f0 f1) (all_taken script x.taken left0 x.split none) x.advanced)
     (subst (λ (fs : Files). Interrupted fs number line s1 s2 f1 f2) same y)
 
 -- What a source gave
@@ -588,18 +766,14 @@ pub length-pull : (n : ℕ) (buffer left0 left1 : List ℕ) → n ≤ length buf
 length-pull n buffer left0 left1 h e =
     ap length e ∙ length-append (take n buffer) left1 ∙ ap (λ (k : ℕ). k + length left1) (length-take-le n buffer h)
 
-pub status_of-not_done : (stop : Stop) (status : Status) → status ≡ status_of stop → status ≢ Done
-status_of-not_done DeskFault status e = λ d. let x : stops.DeskFault ≡ Done = sym e ∙ d in cc
-status_of-not_done NoMemory status e = λ d. let x : stops.NoMemory ≡ Done = sym e ∙ d in cc
-
 pub given-more : (m n a b c : ℕ) → RoseBy m a b → c ≡ min (b + n) LAST → RoseBy (m + n) a c
 given-more m n a b c (inl x) e = elim (decided (b + n) LAST) as (λ _. RoseBy (m + n) a c) [ inl h ↦ inl (omega arith) | inr h ↦ inr (omega arith) ]
 given-more m n a b c (inr x) e = inr (omega arith)
 
 -- nothing was read or said
-pub Replied-nothing : (files : Files) (script before : List ℕ) (faults : ℕ) (status : Status) → status ≢ Done → Replied script files status before before faults faults
-Replied-nothing files script before faults status not_done =
-    Underway-stopped files script script 1 [] before before faults faults status not_done (Underway-start files script 1 [] before faults refl refl)
+pub Replied-nothing : (files : Files) (script left before : List ℕ) (faults : ℕ) (status : Status) → status ≢ Done → status ≢ stops.ScriptFault → status ≢ stops.ScriptLong → Replied script left files status before before faults faults
+Replied-nothing files script left before faults status not_done not_fault not_long =
+    Replied-halted files script left [] script before before faults faults status not_done not_fault not_long refl (Halted-start files 1 [] [] before faults)
 
 steady : (before now : ℕ) → IsSteady before now → Rose before now → ⊥
 steady before now h (inl x) = omega (arith, h.same)
