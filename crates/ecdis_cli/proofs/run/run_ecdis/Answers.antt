@@ -1,5 +1,5 @@
 -- A run that doesn't begin says nothing; each other end has its cause.
-use Rattle.ecdis_cli.proofs.Scripts.{Replied-nothing, complete}
+use Rattle.ecdis_cli.proofs.Runs.{Replied-nothing, complete}
 use Rattle.ecdis_cli.proofs.run.run_ecdis.Goals as goal
 
 pub returns-then-words-ne1-clause-output : goal.returns-then-words-ne1-clause-output

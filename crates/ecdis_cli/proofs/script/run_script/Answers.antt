@@ -1,7 +1,8 @@
 -- The run goes on by the bytes that were pulled.
 use Rattle.std.proofs.Common.{◌≡◌, ◌≤◌, length-take-le, arith, refl, ap, ◌∙◌, inl}
 use Rattle.std.specs.Prelude.{Ok}
-use Rattle.ecdis_cli.proofs.Scripts.{Underway-start, Underway-next, Underway-fault, Underway-long, Underway-halted, Underway-done, Underway-cut, pull-part, pull-whole, length-pull, given-more, rose-fewer}
+use Rattle.ecdis_cli.proofs.Steps.{rose-fewer}
+use Rattle.ecdis_cli.proofs.Runs.{Underway-start, Underway-next, Underway-fault, Underway-long, Underway-halted, Underway-done, Underway-cut, pull-part, pull-whole, length-pull, given-more}
 use Rattle.ecdis_cli.proofs.script.run_script.Goals as goal
 
 pub loop-round-init : goal.loop-round-init
@@ -44,8 +45,8 @@ returns-then-count-room-clause-output g c = λ s l d.
     Underway-long _ _ _ _ _ _ _ c.loop-round.room _ _ _ _ _ _ _ _ _ _ (c.loop-round.invariant.same l)
     c.loop-round.invariant.shelf_later c.take_all.ensures.shelf_later
     (let part : c.min.result ≤ c.in-Ok.count = omega (arith, c.min.ensures) in pull-part c.min.result c.in-Ok.count c.pull.new.buf _ _ part (c.in-Ok.ensures.bytes s))
-        (length-take-le c.min.result c.pull.new.buf (omega (arith, c.in-Ok.ensures.within, c.min.ensures)) ∙ (let room : c.min.result ≡ c.loop-round.room = omega (arith, c.min.ensures) in room))
-        (c.loop-round.invariant.counted s)
+    (length-take-le c.min.result c.pull.new.buf (omega (arith, c.in-Ok.ensures.within, c.min.ensures)) ∙ (let room : c.min.result ≡ c.loop-round.room = omega (arith, c.min.ensures) in room))
+    (c.loop-round.invariant.counted s)
     (c.loop-round.invariant.underway s l d) (c.in_default-take_all.ensures.ok l d)
 
 pub returns-then-count-room-clause-script_over : goal.returns-then-count-room-clause-script_over
