@@ -2,7 +2,7 @@
 use Rattle.std.proofs.Common.{◌≡◌, ◌≢◌, ℕ, ◌+◌, ◌<◌, ◌≤◌, ◌⊎◌, Bool, false, List, [], ◌∷◌, ◌++◌, length, take, drop, eqb, refl, sym, ◌∙◌, ap, subst, arith, inl, inr, append_assoc, length-append, length-take-le}
 use Rattle.std.specs.Prelude.{min}
 use Rattle.std.specs.Str.Lines.{lines}
-use Rattle.std.proofs.lemmas.List.{append-nil, append_cancel_right, take-append-drop, take-take}
+use Rattle.std.proofs.lemmas.List.{append-nil, take-append-drop, take-take}
 use Rattle.std.proofs.lemmas.List.Elements.{All-nil}
 use Rattle.std.proofs.Math.Seq.{take-append_seam}
 use Rattle.chart_ports.specs.Count.{LAST, IsSteady, Rose, RoseBy}
@@ -86,10 +86,6 @@ Replied-halted files script left bytes rest s0 s1 f0 f1 status not_done not_faul
   failures = replies_of-failures files script x.marks f0 f1 x.failed;
 }
 
--- what was taken is all that the script has before what is left
-pub taken_is : (taken others left : List ℕ) → taken ++ left ≡ others ++ left → taken ≡ others
-taken_is taken others left e = append_cancel_right taken others left e
-
 -- what was said is the replies to the lines that have ended
 pub said_ended : (files : Files) (n1 : ℕ) (l1 bytes s0 s1 : List ℕ) (f0 f1 : ℕ) → (x : Advanced files 1 [] bytes n1 l1 s0 s1 f0 f1)
     → s1 ≡ s0 ++ joined (replies_of files (ended bytes) x.marks)
@@ -104,8 +100,7 @@ Replied-fault files script left bytes n1 l1 s0 s1 f0 f1 e x =
       marks = x.marks;
       all = λ d. absurd (let f : stops.ScriptFault ≡ Done = d in cc);
       front = front-same s0 _ _ s1 (sym (replies_of-joined files script x.marks ∙ ap (λ (l : List ℕ). output_from files 1 l x.marks) e)) (Advanced-front files 1 n1 [] l1 bytes s0 s1 f0 f1 x left);
-      at_fault = λ _ taken h. said_ended files n1 l1 bytes s0 s1 f0 f1 x
-          ∙ ap (λ (l : List ℕ). s0 ++ joined (replies_of files (ended l) x.marks)) (taken_is bytes taken left (sym e ∙ h));
+      at_fault = λ _. record { taken = bytes; split = e; said = said_ended files n1 l1 bytes s0 s1 f0 f1 x };
       at_limit = λ d. absurd (let f : stops.ScriptFault ≡ stops.ScriptLong = d in cc);
       failures = replies_of-failures files script x.marks f0 f1 x.failed;
     }
