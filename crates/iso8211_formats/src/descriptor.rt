@@ -29,9 +29,11 @@ impl Model for Descriptor {
 
     ghost Value = { Layout };
 
-    ghost view = { λ descriptor. record { labels = descriptor.labels; formats = descriptor.formats; repeats_from = descriptor.repeats_from } };
+    ghost view = { λ descriptor.
+        record { labels = descriptor.labels; formats = descriptor.formats; repeats_from = descriptor.repeats_from } };
 
-    ghost invariant = { λ descriptor. IsLayout (record { labels = descriptor.labels; formats = descriptor.formats; repeats_from = descriptor.repeats_from }) };
+    ghost invariant = { λ descriptor. IsLayout
+        (record { labels = descriptor.labels; formats = descriptor.formats; repeats_from = descriptor.repeats_from }) };
 }
 
 impl Descriptor {

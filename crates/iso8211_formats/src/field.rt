@@ -78,7 +78,8 @@ pub fn read_descriptor(alloc: Global, field: &[u8]) -> Result<Descriptor, Descri
     // What is spelled so is read, unless memory runs out.
     ensures only { (layout : Layout) → Spells layout field.now → Gives result (Some layout) }
     // A field is refused only where it spells no descriptor.
-    ensures bad { IsErrOf result DescriptorFault.Bad → (layout : Layout) → Spells layout field.now → ⊥ }
+    ensures bad { IsErrOf result DescriptorFault.Bad →
+        (layout : Layout) → Spells layout field.now → ⊥ }
     // What every descriptor keeps.
     ensures layout { IfOk result IsLayout }
     ensures exact { Gives result (descriptor_of field.now) }
@@ -93,5 +94,6 @@ pub fn one_descriptor()
 
 /// The function that definitions cite gives what a field spells.
 pub fn reading_is_spelling()
-    ensures { (field : List ℕ) (layout : Layout) → (descriptor_of field ≡ Some layout) ↔ Spells layout field }
+    ensures { (field : List ℕ) (layout : Layout) →
+        (descriptor_of field ≡ Some layout) ↔ Spells layout field }
 {}

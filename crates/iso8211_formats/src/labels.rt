@@ -45,7 +45,8 @@ fn is_plain(text: &[u8]) -> bool
 /// Adds these labels.
 fn push_plain(labels: &mut LabelList, text: &[u8]) -> Result<(), AllocError>
     requires { IsSome (plain_labels text.now) }
-    ensures { OnOk result (option_map (λ more. labels.old ++ more) (plain_labels text.now) ≡ Some labels.new) }
+    ensures { OnOk result
+        (option_map (λ more. labels.old ++ more) (plain_labels text.now) ≡ Some labels.new) }
 {
     let mut rest = text;
     while let Some(after) = after_label(rest) {
@@ -60,8 +61,10 @@ fn push_plain(labels: &mut LabelList, text: &[u8]) -> Result<(), AllocError>
 
 /// The labels of the group, where the text begins with the mark and they follow to its end.
 fn group_of(text: &[u8]) -> Option<&[u8]>
-    ensures found { IfSome result (λ group. (text.now ≡ 42 ∷ group.now) × IsSome (plain_labels group.now)) }
-    ensures none { IfNone result ((group : List ℕ) → text.now ≡ 42 ∷ group → plain_labels group ≡ None) }
+    ensures found { IfSome result (λ group.
+        (text.now ≡ 42 ∷ group.now) × IsSome (plain_labels group.now)) }
+    ensures none { IfNone result ((group : List ℕ) →
+        text.now ≡ 42 ∷ group → plain_labels group ≡ None) }
 {
     match text {
         [b'*', group @ ..] if is_plain(group) => Some(group),

@@ -1,9 +1,8 @@
 -- The count of data records that are come to.
-use Rattle.std.proofs.Common.{◌≡◌, ◌≢◌, ℕ, zero, suc, ◌+◌, ◌≤◌, ◌<◌, Bool, true, false, cond, List, [], ◌∷◌, ◌++◌, length, take, drop, Option, Some, None, Result, Ok, Err, refl, sym, ap, ◌∙◌, subst, append_assoc, arith, inl, inr}
+use Rattle.std.proofs.Common.{◌≡◌, ◌≢◌, ℕ, zero, suc, ◌+◌, ◌≤◌, ◌<◌, true, false, cond, List, [], ◌∷◌, ◌++◌, length, take, drop, Option, Some, None, Result, Ok, Err, refl, sym, ap, ◌∙◌, append_assoc, arith, inl, inr}
 use Rattle.std.specs.Prelude.{◌⊎◌, IfOk}
-use Rattle.std.specs.Option.{option_map_or}
 use Rattle.std.specs.Str.{bytes_eq}
-use Rattle.std.proofs.lemmas.List.{append-nil, length-append, take-append-drop}
+use Rattle.std.proofs.lemmas.List.{length-append, take-append-drop}
 use Rattle.std.proofs.lemmas.Slice.Eq.{bytes_eq-Decides}
 use Rattle.iso8211_records.specs.declared.record.RawField.{RawField}
 use Rattle.iso8211_records.specs.declared.record.RecordFile.{RecordFile}
@@ -11,7 +10,7 @@ use Rattle.iso8211_records.specs.declared.fault.FileFault.{FileFault}
 use Rattle.iso8211_records.specs.declared.fault.FileFault.TheVariants.{Unsupported, NoMemory}
 use Rattle.iso8211_records.specs.declared.known.TheConstants.{DATA_DESCRIPTIVE_RECORD}
 use Rattle.iso8211_records.specs.Spelling.{Layout}
-use Rattle.iso8211_records.specs.DataRecord.{IsDataRecord, AreDataRecords, HasNoRecord, ComesTo}
+use Rattle.iso8211_records.specs.DataRecord.{AreDataRecords, HasNoRecord, ComesTo}
 use Rattle.iso8211_records.specs.Values.{◌>>=◌, Gives}
 use Rattle.iso8211_records.specs.Reading.{data_record_at, data_records_of, come_to}
 use Rattle.iso8211_records.specs.RecordFile.{known_layouts, IsRecordFile, IsCount, after_first, record_file_of, data_records_in}

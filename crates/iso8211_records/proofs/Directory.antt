@@ -1,8 +1,8 @@
 -- Reading a directory, an entry at a time.
-use Rattle.std.proofs.Common.{◌≡◌, ℕ, zero, suc, ◌-◌, ◌+◌, ◌≤◌, ◌<◌, Bool, true, false, cond, List, [], ◌∷◌, ◌++◌, length, get_or, take, drop, Option, Some, None, refl, sym, ap, ◌∙◌, subst, append_assoc, add-one, eqb, arith, inl, inr}
+use Rattle.std.proofs.Common.{◌≡◌, ℕ, zero, suc, ◌-◌, ◌+◌, ◌≤◌, ◌<◌, true, false, List, [], ◌∷◌, ◌++◌, length, take, drop, Option, Some, None, refl, sym, ap, ◌∙◌, append_assoc, eqb, arith}
 use Rattle.std.specs.Prelude.{slice_index}
 use Rattle.std.specs.List.{slice_range}
-use Rattle.std.proofs.lemmas.List.{append-nil, length-append, length-drop, length-take, drop-take, take-take, drop-drop}
+use Rattle.std.proofs.lemmas.List.{append-nil, length-drop, length-take, drop-take, take-take, drop-drop}
 use Rattle.std.proofs.lemmas.Bool.Decides.{nat_tests}
 use Rattle.iso8211_leader.specs.Leader.{Frame}
 use Rattle.iso8211_leader.specs.Entry.{IsEntry, HasEntry, entry_size, entry_of, entry_text}

@@ -1,12 +1,11 @@
 -- The values that are read from a field's text are spelled there, and those that are spelled are read.
-use Rattle.std.proofs.Common.{◌≡◌, ℕ, zero, suc, ◌+◌, ◌-◌, ◌≤◌, ◌<◌, Bool, true, false, cond, List, [], ◌∷◌, ◌++◌, length, get_or, take, drop, Option, Some, None, refl, sym, ap, ◌∙◌, subst, append_assoc, add-one, arith, rules, inl, inr}
-use Rattle.std.proofs.lemmas.List.{length-append, append-nil}
+use Rattle.std.proofs.Common.{◌≡◌, ℕ, zero, suc, ◌+◌, ◌≤◌, List, [], ◌∷◌, ◌++◌, length, Some, refl, sym, ap, ◌∙◌, subst, append_assoc, arith}
+use Rattle.std.proofs.lemmas.List.{length-append}
 use Rattle.iso8211_formats.specs.declared.format.Format.{Format}
 use Rattle.iso8211_records.specs.declared.value.Value.{Value}
-use Rattle.iso8211_records.specs.Spelling.{Spells, AreSpelled, Layout, groups, IsFieldText, IsField}
+use Rattle.iso8211_records.specs.Spelling.{AreSpelled, Layout, groups, IsFieldText}
 use Rattle.iso8211_records.specs.Values.{◌>>=◌, value_at, values_at, groups_at, values_of}
-use Rattle.iso8211_records.specs.Reading.{text_of}
-use Rattle.iso8211_records.proofs.Options.{bind_some, cond_is, both_parts, both}
+use Rattle.iso8211_records.proofs.Options.{bind_some}
 use Rattle.iso8211_records.proofs.ValueLaws.{value_at-sound, value_at-again, Spells-some}
 
 -- ---- a list of values

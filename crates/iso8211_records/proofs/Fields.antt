@@ -1,6 +1,5 @@
 -- Reading one field and one data record.
-use Rattle.std.proofs.Common.{◌≡◌, ℕ, ◌≤◌, ◌<◌, Bool, true, false, List, [], ◌∷◌, length, take, drop, Option, Some, None, refl, sym, ap, ◌∙◌, subst, leb, arith}
-use Rattle.std.specs.Prelude.{◌&&◌, ◌||◌}
+use Rattle.std.proofs.Common.{◌≡◌, ℕ, ◌≤◌, true, false, List, [], ◌∷◌, length, take, drop, Option, Some, None, refl, sym, ap, ◌∙◌, leb, arith}
 use Rattle.std.specs.List.{list_any}
 use Rattle.std.specs.Str.{bytes_eq}
 use Rattle.std.proofs.Math.Bool.{or-false}
@@ -14,7 +13,7 @@ use Rattle.iso8211_records.specs.Tags.{DSID}
 use Rattle.iso8211_records.specs.Spelling.{Layout}
 use Rattle.iso8211_records.specs.DataRecord.{field_end, field_bytes}
 use Rattle.iso8211_records.specs.Frames.{is_leader}
-use Rattle.iso8211_records.specs.Values.{◌>>=◌, values_of}
+use Rattle.iso8211_records.specs.Values.{values_of}
 use Rattle.iso8211_records.specs.Reading.{text_of, field_by, field_of, fields_of, directory_of, data_record_at}
 use Rattle.iso8211_records.specs.RecordFile.{known_layouts}
 use Rattle.iso8211_records.proofs.FrameTests.{is_leader-is, is_leader-from}

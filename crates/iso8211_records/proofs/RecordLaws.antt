@@ -1,10 +1,10 @@
 -- A data record that is read at the front of bytes stands there, and one that stands there is read.
-use Rattle.std.proofs.Common.{◌≡◌, ℕ, zero, suc, ◌-◌, ◌+◌, ◌≤◌, ◌<◌, Bool, true, false, cond, List, [], ◌∷◌, ◌++◌, length, get_or, take, drop, Option, Some, None, refl, sym, ap, ◌∙◌, subst, append_assoc, add-one, leb, ltb, eqb, arith, drop-cons}
+use Rattle.std.proofs.Common.{◌≡◌, ℕ, zero, suc, ◌-◌, ◌+◌, ◌≤◌, ◌<◌, Bool, true, false, List, [], ◌∷◌, ◌++◌, length, get_or, take, drop, Option, Some, None, refl, sym, ap, ◌∙◌, subst, leb, ltb, eqb, arith, drop-cons}
 use Rattle.std.specs.Prelude.{◌&&◌, MatchOption, slice_index}
 use Rattle.std.specs.List.{slice_range}
 use Rattle.std.proofs.Math.ListN.{get_or-append, drop_of_length-le}
 use Rattle.std.proofs.Math.Seq.{take-append_seam, drop-append_seam}
-use Rattle.std.proofs.lemmas.List.{append-nil, length-append, length-drop, length-take, take-append-drop, take-append-le, drop-append-le, take-take}
+use Rattle.std.proofs.lemmas.List.{length-append, length-drop, length-take, take-append-drop, take-append-le, drop-append-le, take-take}
 use Rattle.std.proofs.lemmas.Bool.Decides.{nat_tests}
 use Rattle.iso8211_leader.specs.Leader.{Frame, HasLeader, frame_of}
 use Rattle.iso8211_leader.specs.Entry.{IsEntry, entry_size, entry_of}
@@ -13,13 +13,13 @@ use Rattle.iso8211_records.specs.declared.record.RawField.{RawField}
 use Rattle.iso8211_records.specs.declared.value.Value.{Value}
 use Rattle.iso8211_records.specs.Spelling.{Layout, IsFieldText, IsField}
 use Rattle.iso8211_records.specs.DataRecord.{IsDirectory, IsRecord, field_end, field_bytes, IsFieldOf, AreFieldsOf, IsDataRecord, AreDataRecords}
-use Rattle.iso8211_records.specs.Frames.{is_leader, is_entry}
+use Rattle.iso8211_records.specs.Frames.{is_entry}
 use Rattle.iso8211_records.specs.Values.{◌>>=◌, values_of}
 use Rattle.iso8211_records.specs.Reading.{entries_of, text_of, field_by, field_of, fields_of, directory_of, data_record_at, data_records_of}
-use Rattle.iso8211_records.proofs.Options.{bind_some, cond_is, both_parts, both}
-use Rattle.iso8211_records.proofs.FrameTests.{is_entry-is, is_entry-from, is_leader-from}
+use Rattle.iso8211_records.proofs.Options.{bind_some, cond_is, both_parts}
+use Rattle.iso8211_records.proofs.FrameTests.{is_entry-is, is_entry-from}
 use Rattle.iso8211_records.proofs.FieldLaws.{values_of-sound, values_of-again}
-use Rattle.iso8211_records.proofs.Records.{IsRead, data_record-read, frame-length}
+use Rattle.iso8211_records.proofs.Records.{data_record-read, frame-length}
 use Rattle.iso8211_records.proofs.Fields.{record-read}
 
 -- ---- directories

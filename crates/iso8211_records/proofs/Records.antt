@@ -1,5 +1,5 @@
 -- Reading fields and data records one after the other, as a loop does.
-use Rattle.std.proofs.Common.{◌≡◌, ℕ, zero, suc, ◌-◌, ◌+◌, ◌≤◌, ◌<◌, Bool, true, false, cond, List, [], ◌∷◌, ◌++◌, length, get_or, take, drop, Option, Some, None, refl, sym, ap, ◌∙◌, subst, append_assoc, add-one, leb, arith, drop-cons}
+use Rattle.std.proofs.Common.{◌≡◌, ℕ, zero, suc, ◌-◌, ◌+◌, ◌≤◌, ◌<◌, Bool, true, false, List, [], ◌∷◌, ◌++◌, length, get_or, take, drop, Option, Some, None, refl, sym, ap, ◌∙◌, append_assoc, add-one, leb, arith, drop-cons}
 use Rattle.std.specs.Prelude.{◌&&◌}
 use Rattle.std.specs.Option.{option_map_or}
 use Rattle.std.proofs.Math.ListN.{drop_of_length-le}
@@ -193,17 +193,9 @@ records-all layout_of front (byte ∷ bytes) total done so_far = absurd (omega a
 
 -- ---- the count of data records that are come to
 
-pub counted-last : (fault : FileFault) (layout_of : List ℕ → Option Layout) (bytes : List ℕ) (before now total : ℕ)
-    → 0 < length bytes → Fails fault (data_record_at layout_of bytes) → now ≡ before + 1 → before + come_to layout_of (length bytes) bytes ≡ total → (fault ≡ NoMemory → ⊥) → now ≡ total
-counted-last NoMemory layout_of bytes before now total left none one so_far other = absurd (other refl)
-counted-last Unsupported layout_of bytes before now total left none one so_far other = let last = come_to-last layout_of bytes left none in omega arith
-
-pub counted-most : (layout_of : List ℕ → Option Layout) (bytes : List ℕ) (before now total : ℕ) → 0 < length bytes → now ≡ before + 1 → before + come_to layout_of (length bytes) bytes ≡ total → now ≤ total
-counted-most layout_of bytes before now total left one so_far = let some = come_to-some layout_of bytes left in omega arith
-
-pub counted-more : (layout_of : List ℕ → Option Layout) (bytes : List ℕ) (fields : List RawField) (after : List ℕ) (before now total : ℕ)
-    → 0 < length bytes → data_record_at layout_of bytes ≡ Some (fields, after) → now ≡ before + 1 → before + come_to layout_of (length bytes) bytes ≡ total → now + come_to layout_of (length after) after ≡ total
-counted-more layout_of bytes fields after before now total left h one so_far = let step = come_to-step layout_of bytes fields after left h in omega arith
+pub come_to-failed : (fault : FileFault) (layout_of : List ℕ → Option Layout) (bytes : List ℕ) → 0 < length bytes → Fails fault (data_record_at layout_of bytes) → (fault ≡ NoMemory → ⊥) → come_to layout_of (length bytes) bytes ≡ 1
+come_to-failed NoMemory layout_of bytes left none other = absurd (other refl)
+come_to-failed Unsupported layout_of bytes left none other = come_to-last layout_of bytes left none
 
 pub counted-all : (layout_of : List ℕ → Option Layout) (bytes : List ℕ) (now total : ℕ) → length bytes ≡ 0 → now + come_to layout_of (length bytes) bytes ≡ total → now ≡ total
 counted-all layout_of bytes now total done so_far = let none = come_to-none layout_of bytes done in omega arith

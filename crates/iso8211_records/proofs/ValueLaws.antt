@@ -1,21 +1,19 @@
 -- A value that is read at the front of bytes is spelled there, and one that is spelled there is read.
-use Rattle.std.proofs.Common.{◌≡◌, ℕ, zero, suc, ◌+◌, ◌-◌, ◌/◌, ◌≤◌, ◌<◌, Bool, true, false, cond, ltb, leb, eqb, List, [], ◌∷◌, ◌++◌, length, get_or, take, drop, Option, Some, None, refl, sym, ap, ◌∙◌, subst, append_assoc, add-one, drop-cons, arith, rules, inl, inr, not}
-use Rattle.std.specs.Prelude.{position, ◌⊎◌, ℤ, pos, nat_lt, nat_le, ◌&&◌, ◌||◌, ◌==◌}
-use Rattle.std.specs.List.{AllByRecursion, prefix_len, position_or_len}
-use Rattle.std.proofs.lemmas.Grind.{common_steps}
+use Rattle.std.proofs.Common.{◌≡◌, ℕ, suc, ◌+◌, ◌/◌, ◌≤◌, ◌<◌, Bool, true, false, cond, eqb, List, [], ◌∷◌, ◌++◌, length, get_or, take, drop, Option, Some, None, refl, sym, ap, ◌∙◌, subst, append_assoc, add-one, drop-cons, arith, inl, inr, not}
+use Rattle.std.specs.Prelude.{position, pos, nat_lt, nat_le, ◌&&◌, ◌||◌}
+use Rattle.std.specs.List.{AllByRecursion, prefix_len}
 use Rattle.std.proofs.lemmas.Bool.Decides.{nat_tests}
-use Rattle.std.proofs.lemmas.Bool.{ltb-true, eqb-true, cases_eq}
+use Rattle.std.proofs.lemmas.Bool.{eqb-true, cases_eq}
 use Rattle.std.proofs.lemmas.List.{take-append-drop, length-append, length-take, get_or-take}
 use Rattle.std.proofs.lemmas.List.Quantifiers.{position-Some}
-use Rattle.std.proofs.Math.ListN.{get_or-append}
 use Rattle.std.proofs.Math.Seq.{take-append_seam, drop-append_seam, drop-append-add}
 use Rattle.iso8211_formats.specs.declared.format.Format.{Format}
 use Rattle.iso8211_formats.specs.declared.format.Format.TheVariants.{TextOpen, Text as TextOf, Unsigned, Signed, Bits as BitsOf}
 use Rattle.iso8211_records.specs.declared.value.Value.{Value}
 use Rattle.iso8211_records.specs.declared.value.Value.TheVariants.{Number, Text, Bits}
 use Rattle.iso8211_records.specs.Spelling.{IsNumberSize, IsTextByte, Spells, unsigned, signed}
-use Rattle.iso8211_records.specs.Values.{◌>>=◌, front_at, number_size, is_terminator, open_text_at, value_at}
-use Rattle.iso8211_records.proofs.Options.{bind_some, cond_is, both_parts, both}
+use Rattle.iso8211_records.specs.Values.{front_at, number_size, is_terminator, open_text_at, value_at}
+use Rattle.iso8211_records.proofs.Options.{bind_some, both_parts, both}
 
 -- what a front of bytes is
 pub record IsFront (size : ℕ) (bytes front rest : List ℕ) : Type 0 where

@@ -1,5 +1,5 @@
 -- Data records and what they hold (ISO/IEC 8211, records): a leader, a directory and a field area.
-use Rattle.std.specs.Prelude.{◌≡◌, ◌≢◌, ◌⊎◌, ℕ, ◌+◌, ◌-◌, ◌≤◌, Bool, false, List, [], ◌∷◌, ◌++◌, length, take, slice_index, Option, Some, None, MatchOption}
+use Rattle.std.specs.Prelude.{◌≡◌, ◌≢◌, ◌⊎◌, ℕ, ◌+◌, ◌-◌, ◌≤◌, Bool, false, List, [], ◌∷◌, ◌++◌, length, take, slice_index, Option, MatchOption}
 use Rattle.std.specs.List.{slice_range}
 use Rattle.iso8211_leader.specs.Leader.{HasLeader, Frame, frame_of}
 use Rattle.iso8211_leader.specs.Entry.{IsEntry, entry_of}

@@ -1,6 +1,6 @@
 -- Leaders and entries as tests that compute.
-use Rattle.std.specs.Prelude.{◌==◌, ℕ, Bool, true, false, not, ◌&&◌, ◌||◌, nat_le, List, length, slice_index, codes}
-use Rattle.std.specs.List.{slice_range, list_all}
+use Rattle.std.specs.Prelude.{◌==◌, ℕ, Bool, not, ◌&&◌, ◌||◌, nat_le, List, length, slice_index}
+use Rattle.std.specs.List.{list_all}
 use Rattle.std.specs.Char.{is_ascii_digit}
 use Rattle.std.specs.Int.{is_in_range}
 use Rattle.iso8211_leader.specs.Digits.{number_of}

@@ -1,5 +1,5 @@
 -- Files of records (ISO/IEC 8211): a data descriptive record, and data records.
-use Rattle.std.specs.Prelude.{◌≡◌, ◌≢◌, ◌⊎◌, ℕ, List, [], ◌∷◌, ◌++◌, length, take, drop, Option, Some, None, if◌then◌else◌}
+use Rattle.std.specs.Prelude.{◌≡◌, ◌≢◌, ◌⊎◌, ℕ, List, [], ◌++◌, length, take, drop, Option, Some, None, if◌then◌else◌}
 use Rattle.std.specs.Str.{bytes_eq}
 use Rattle.iso8211_records.specs.declared.record.RecordFile.{RecordFile}
 use Rattle.iso8211_records.specs.declared.known.TheConstants.{DATA_DESCRIPTIVE_RECORD, DSID_FORMATS}

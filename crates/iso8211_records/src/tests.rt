@@ -34,11 +34,7 @@ fn is_wanted(value: &Value, want: &Want) -> bool {
     }
 }
 
-fn read_with<C: Ledger>(
-    alloc: Global,
-    bytes: &[u8],
-    blank: Blank,
-) -> Result<RecordFile, FileFault>
+fn read_with<C: Ledger>(alloc: Global, bytes: &[u8], blank: Blank) -> Result<RecordFile, FileFault>
     requires name { blank.name ≡ C.name }
     requires parts { blank.parts ≡ C.parts }
     requires share { 0 < C.parts }
@@ -180,6 +176,9 @@ fn passes_other_fields_over(rt: HostRuntime) -> Result<(), Fail> {
             found.push((field.tag, field.values.as_slice().len()))?;
         }
     }
-    assert_eq!(rt; found.as_slice(), [(*b"0001", 0), (*b"DSID", 16)].as_slice());
+    assert_eq!(rt;
+        found.as_slice(),
+        [(*b"0001", 0), (*b"DSID", 16)].as_slice()
+    );
     Ok(())
 }

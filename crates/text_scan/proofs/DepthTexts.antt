@@ -1,6 +1,6 @@
 -- A depth is read as it is spelled.
-use Rattle.std.proofs.Common.{◌≡◌, ℕ, ◌+◌, ◌-◌, ◌*◌, ◌/◌, ◌^◌, ◌<◌, ◌≤◌, Bool, true, false, cond, ltb, leb, eqb, ◌&&◌, ◌⊎◌, List, [], ◌∷◌, ◌++◌, length, Option, Some, None, refl, sym, ap, subst, ◌∙◌, inl, inr, arith, append_assoc, append-nil, lit<, length-append}
-use Rattle.std.specs.Prelude.{option_map, option_and_then, ℤ, pos, neg_ℤ, IfSome}
+use Rattle.std.proofs.Common.{◌≡◌, ℕ, ◌+◌, ◌*◌, ◌^◌, ◌<◌, ◌≤◌, Bool, true, false, cond, ltb, leb, eqb, ◌&&◌, ◌⊎◌, List, [], ◌∷◌, ◌++◌, length, Option, Some, None, refl, sym, ap, subst, ◌∙◌, inl, inr, arith, append_assoc, append-nil, lit<, length-append}
+use Rattle.std.specs.Prelude.{option_map, option_and_then, ℤ, IfSome}
 use Rattle.std.specs.Str.{all_ascii_digits}
 use Rattle.std.specs.Char.{is_ascii_digit}
 use Rattle.std.proofs.lemmas.Bool.{ltb-true, lt-ltb, leb-true, le-leb, eqb-true, and_parts, and_from, cases_Bool, true≢false, false_from_ne_true}
@@ -28,9 +28,9 @@ decimals_of_found [] decimals e =
 decimals_of_found (x ∷ xs) decimals e =
     elim (chosen (eqb x 46 && all_ascii_digits xs) (Some xs) None (Some decimals) e) [
       | inl h ↦
-        let p = and_parts (eqb x 46) (all_ascii_digits xs) h.0 in
-        let same = some_is xs decimals h.1 in
-        (ap all_ascii_digits (sym same) ∙ p.1, inr (ap (λ (c : ℕ). c ∷ xs) (eqb-true x 46 p.0) ∙ ap (λ (t : List ℕ). 46 ∷ t) same))
+          let p = and_parts (eqb x 46) (all_ascii_digits xs) h.0 in
+          let same = some_is xs decimals h.1 in
+          (ap all_ascii_digits (sym same) ∙ p.1, inr (ap (λ (c : ℕ). c ∷ xs) (eqb-true x 46 p.0) ∙ ap (λ (t : List ℕ). 46 ∷ t) same))
       | inr h ↦ absurd (let none = h.1 in cc)
     ]
 
@@ -55,18 +55,18 @@ digits_of_found text digits e =
     let d = decimals_of_found (digits_and_rest text).1 a.0 a.1 in
     elim (chosen (in_range whole a.0) (Some (whole, a.0)) None (Some digits) a.2) [
       | inl h ↦
-        let p = and_parts (leb (length whole) 6) (leb (length a.0) 20 && ltb 0 (length whole + length a.0)) h.0 in
-        let q = and_parts (leb (length a.0) 20) (ltb 0 (length whole + length a.0)) p.1 in
-        let some : 0 < length whole + length a.0 = ltb-true _ _ q.1 in
-        let P : List ℕ × List ℕ → Type 0 = λ r. HasDigits text r.0 r.1 in
-        subst P (some_is (whole, a.0) digits h.1) (record {
-          all_whole = front.1;
-          short_whole = leb-true _ _ p.0;
-          all_decimals = d.0;
-          short_decimals = leb-true _ _ q.0;
-          some_digit = omega arith;
-          parts = parts_of text whole (digits_and_rest text).1 a.0 front.0 d.1;
-        })
+          let p = and_parts (leb (length whole) 6) (leb (length a.0) 20 && ltb 0 (length whole + length a.0)) h.0 in
+          let q = and_parts (leb (length a.0) 20) (ltb 0 (length whole + length a.0)) p.1 in
+          let some : 0 < length whole + length a.0 = ltb-true _ _ q.1 in
+          let P : List ℕ × List ℕ → Type 0 = λ r. HasDigits text r.0 r.1 in
+          subst P (some_is (whole, a.0) digits h.1) (record {
+            all_whole = front.1;
+            short_whole = leb-true _ _ p.0;
+            all_decimals = d.0;
+            short_decimals = leb-true _ _ q.0;
+            some_digit = omega arith;
+            parts = parts_of text whole (digits_and_rest text).1 a.0 front.0 d.1;
+          })
       | inr h ↦ absurd (let none = h.1 in cc)
     ]
 
@@ -83,9 +83,9 @@ unfolding decimals_of
 digits_of_again text whole decimals h =
     elim h.parts [
       | inl p ↦
-        digits_of-cut text whole [] decimals (ap digits_and_rest p.0 ∙ digits_and_rest-whole whole h.all_whole) (ap (λ (t : List ℕ). Some t) (sym p.1)) (in_range_again text whole decimals h)
+          digits_of-cut text whole [] decimals (ap digits_and_rest p.0 ∙ digits_and_rest-whole whole h.all_whole) (ap (λ (t : List ℕ). Some t) (sym p.1)) (in_range_again text whole decimals h)
       | inr p ↦
-        digits_of-cut text whole (46 ∷ decimals) decimals (ap digits_and_rest p ∙ digits_and_rest-before whole 46 decimals h.all_whole refl) (rw h.all_decimals refl) (in_range_again text whole decimals h)
+          digits_of-cut text whole (46 ∷ decimals) decimals (ap digits_and_rest p ∙ digits_and_rest-before whole 46 decimals h.all_whole refl) (rw h.all_decimals refl) (in_range_again text whole decimals h)
     ]
 
 -- ---- the whole text
@@ -117,11 +117,11 @@ plain_found : (x : ℕ) (xs : List ℕ) (depth : ℤ) → option_map (hundredths
 plain_found x xs depth e =
     elim (cases_Bool (eqb x 43)) [
       | inl h ↦
-        let m = map_some (hundredths false) (digits_of xs) depth (ap (λ (b : Bool). option_map (hundredths false) (digits_of (cond b xs (x ∷ xs)))) (sym h) ∙ e) in
-        spelled (x ∷ xs) (43 ∷ []) xs false m.0 depth (ap (λ (c : ℕ). c ∷ xs) (eqb-true x 43 h)) (inr refl) (digits_of_found xs m.0 m.1) m.2
+          let m = map_some (hundredths false) (digits_of xs) depth (ap (λ (b : Bool). option_map (hundredths false) (digits_of (cond b xs (x ∷ xs)))) (sym h) ∙ e) in
+          spelled (x ∷ xs) (43 ∷ []) xs false m.0 depth (ap (λ (c : ℕ). c ∷ xs) (eqb-true x 43 h)) (inr refl) (digits_of_found xs m.0 m.1) m.2
       | inr h ↦
-        let m = map_some (hundredths false) (digits_of (x ∷ xs)) depth (ap (λ (b : Bool). option_map (hundredths false) (digits_of (cond b xs (x ∷ xs)))) (sym h) ∙ e) in
-        spelled (x ∷ xs) [] (x ∷ xs) false m.0 depth refl (inl refl) (digits_of_found (x ∷ xs) m.0 m.1) m.2
+          let m = map_some (hundredths false) (digits_of (x ∷ xs)) depth (ap (λ (b : Bool). option_map (hundredths false) (digits_of (cond b xs (x ∷ xs)))) (sym h) ∙ e) in
+          spelled (x ∷ xs) [] (x ∷ xs) false m.0 depth refl (inl refl) (digits_of_found (x ∷ xs) m.0 m.1) m.2
     ]
 
 pub depth_of_found : (text : List ℕ) (depth : ℤ) → depth_of text ≡ Some depth → SpellsDepth text depth
@@ -130,8 +130,8 @@ depth_of_found [] depth e = absurd cc
 depth_of_found (x ∷ xs) depth e =
     elim (chosen (eqb x 45) (option_map (hundredths true) (digits_of xs)) (option_map (hundredths false) (digits_of (cond (eqb x 43) xs (x ∷ xs)))) (Some depth) e) [
       | inl h ↦
-        let m = map_some (hundredths true) (digits_of xs) depth h.1 in
-        spelled (x ∷ xs) (45 ∷ []) xs true m.0 depth (ap (λ (c : ℕ). c ∷ xs) (eqb-true x 45 h.0)) refl (digits_of_found xs m.0 m.1) m.2
+          let m = map_some (hundredths true) (digits_of xs) depth h.1 in
+          spelled (x ∷ xs) (45 ∷ []) xs true m.0 depth (ap (λ (c : ℕ). c ∷ xs) (eqb-true x 45 h.0)) refl (digits_of_found xs m.0 m.1) m.2
       | inr h ↦ plain_found x xs depth h.1
     ]
 
@@ -143,7 +143,7 @@ begins_otherwise x xs [] decimals byte no_digit no_point h =
       | inr p ↦ let first : x ≡ 46 = cc in ap (λ (c : ℕ). eqb c byte) first ∙ no_point
     ]
 begins_otherwise x xs (w ∷ ws) decimals byte no_digit no_point h =
-    let first : x ≡ w = elim h.parts [ | inl p ↦ let e = p.0 in cc | inr p ↦ cc ] in
+    let first : x ≡ w = elim h.parts [ inl p ↦ let e = p.0 in cc | inr p ↦ cc ] in
     let digit = and_parts (is_ascii_digit w) (all_ascii_digits ws) h.all_whole in
     false_from_ne_true _ (λ same. true≢false (sym digit.0 ∙ ap is_ascii_digit (sym first ∙ eqb-true x byte same) ∙ no_digit))
 

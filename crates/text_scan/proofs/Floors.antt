@@ -1,12 +1,12 @@
 -- The greatest whole number that is at most a quotient.
-use Rattle.std.proofs.Common.{◌≡◌, ℕ, zero, suc, ◌+◌, ◌-◌, ◌*◌, ◌/◌, ◌%◌, ◌<◌, ◌≤◌, Bool, true, false, refl, sym, ap, subst, ◌∙◌, arith, ◌^◌, lit<, pow-add}
+use Rattle.std.proofs.Common.{◌≡◌, ℕ, zero, suc, ◌+◌, ◌-◌, ◌*◌, ◌/◌, ◌<◌, ◌≤◌, refl, arith, ◌^◌, lit<, pow-add}
 use Rattle.std.specs.Prelude.{ℤ, pos, negsuc, neg_ℤ, ◌+ℤ◌, ◌*ℤ◌, ◌≤ℤ◌, ◌<ℤ◌}
 use Rattle.std.proofs.lemmas.Int.{ints, by_lt_z}
 use Rattle.std.proofs.lemmas.Nat.{div-add-mod', div_below}
 use native.Mathlib.Nat.{one-le-pow, pow-le-pow_right}
 use Rattle.std.proofs.Math.Nat.{mul-le-mul_right}
 use Rattle.text_scan.proofs.Scans.{below_limit}
-use Rattle.text_scan.specs.Depth.{IsFloor, with_sign}
+use Rattle.text_scan.specs.Depth.{IsFloor}
 
 -- a product with a unit keeps the order
 times_mono : (x y : ℤ) (unit : ℕ) → x ≤ℤ y → (x *ℤ pos unit) ≤ℤ (y *ℤ pos unit)

@@ -1,10 +1,9 @@
 -- A number is read as it is spelled.
-use Rattle.std.proofs.Common.{◌≡◌, ℕ, ◌<◌, ◌≤◌, Bool, true, false, cond, ltb, leb, eqb, ◌&&◌, ◌⊎◌, ◌↔◌, ◌^◌, List, [], ◌∷◌, length, Option, Some, None, refl, sym, ap, subst, ◌∙◌, inl, inr, arith}
+use Rattle.std.proofs.Common.{◌≡◌, ℕ, ◌<◌, ◌≤◌, Bool, true, false, ltb, leb, eqb, ◌&&◌, ◌↔◌, ◌^◌, List, [], ◌∷◌, length, Option, Some, None, refl, sym, ap, ◌∙◌, inl, inr, arith}
 use Rattle.std.specs.Prelude.{option_map, ℤ, pos, neg_ℤ, IfSome}
 use Rattle.std.specs.Str.{all_ascii_digits}
-use Rattle.std.specs.Str.Parse.{IsNumeral, digits_value}
 use Rattle.std.specs.Char.{is_ascii_digit}
-use Rattle.std.proofs.lemmas.Bool.{ltb-true, lt-ltb, leb-true, le-leb, eqb-true, and_parts, and_from, cases_Bool, true≢false, false_from_ne_true}
+use Rattle.std.proofs.lemmas.Bool.{ltb-true, lt-ltb, leb-true, le-leb, eqb-true, and_parts, true≢false, false_from_ne_true}
 use Rattle.text_scan.specs.Number.{IsNumber, value_of, number_of, SpellsSigned, signed_of}
 use Rattle.text_scan.proofs.Scans.{chosen, value_short, AllDigits-from_test, test_from_AllDigits}
 
@@ -23,9 +22,9 @@ unfolding number_of
 number_of_found text n e =
     elim (chosen (is_number text) (Some (value_of text)) None (Some n) e) [
       | inl h ↦
-        let p = and_parts (ltb 0 (length text)) (leb (length text) 18 && all_ascii_digits text) h.0 in
-        let q = and_parts (leb (length text) 18) (all_ascii_digits text) p.1 in
-        (((ltb-true _ _ p.0, AllDigits-from_test text q.1), leb-true _ _ q.0), some_is _ _ h.1)
+          let p = and_parts (ltb 0 (length text)) (leb (length text) 18 && all_ascii_digits text) h.0 in
+          let q = and_parts (leb (length text) 18) (all_ascii_digits text) p.1 in
+          (((ltb-true _ _ p.0, AllDigits-from_test text q.1), leb-true _ _ q.0), some_is _ _ h.1)
       | inr h ↦ absurd (let none = h.1 in cc)
     ]
 
@@ -60,13 +59,13 @@ signed_of_found [] z e = absurd cc
 signed_of_found (x ∷ xs) z e =
     elim (chosen (eqb x 45) (option_map (λ n. neg_ℤ (pos n)) (number_of xs)) (option_map (λ n. pos n) (number_of (x ∷ xs))) (Some z) e) [
       | inl h ↦
-        let m = map_some (λ n. neg_ℤ (pos n)) (number_of xs) z h.1 in
-        let f = number_of_found xs m.0 m.1 in
-        inr (xs, ap (λ (c : ℕ). c ∷ xs) (eqb-true x 45 h.0), f.0, sym m.2 ∙ ap (λ (n : ℕ). neg_ℤ (pos n)) (sym f.1))
+          let m = map_some (λ n. neg_ℤ (pos n)) (number_of xs) z h.1 in
+          let f = number_of_found xs m.0 m.1 in
+          inr (xs, ap (λ (c : ℕ). c ∷ xs) (eqb-true x 45 h.0), f.0, sym m.2 ∙ ap (λ (n : ℕ). neg_ℤ (pos n)) (sym f.1))
       | inr h ↦
-        let m = map_some (λ n. pos n) (number_of (x ∷ xs)) z h.1 in
-        let f = number_of_found (x ∷ xs) m.0 m.1 in
-        inl (f.0, sym m.2 ∙ ap (λ (n : ℕ). pos n) (sym f.1))
+          let m = map_some (λ n. pos n) (number_of (x ∷ xs)) z h.1 in
+          let f = number_of_found (x ∷ xs) m.0 m.1 in
+          inl (f.0, sym m.2 ∙ ap (λ (n : ℕ). pos n) (sym f.1))
     ]
 
 signed_of-minus : (digits : List ℕ) → IsNumber digits → signed_of (45 ∷ digits) ≡ Some (neg_ℤ (pos (value_of digits)))

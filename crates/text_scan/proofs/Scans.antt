@@ -1,14 +1,13 @@
 -- Texts scanned digit by digit.
-use Rattle.std.proofs.Common.{◌≡◌, ℕ, zero, suc, ◌+◌, ◌-◌, ◌*◌, ◌^◌, ◌<◌, ◌≤◌, Bool, true, false, cond, not, ltb, ◌&&◌, ◌⊎◌, lit<, List, [], ◌∷◌, ◌++◌, length, get_or, take, drop, position, Option, Some, None, refl, sym, ap, ◌∙◌, inl, inr, arith, add-one}
+use Rattle.std.proofs.Common.{◌≡◌, ℕ, zero, suc, ◌+◌, ◌-◌, ◌*◌, ◌^◌, ◌<◌, ◌≤◌, Bool, true, false, cond, not, ltb, ◌⊎◌, lit<, List, [], ◌∷◌, ◌++◌, length, get_or, take, drop, position, Some, None, refl, sym, ap, ◌∙◌, inl, inr, arith, add-one}
 use Rattle.std.specs.List.{position_or_len}
 use Rattle.std.specs.Char.{is_ascii_digit, digit_value}
 use Rattle.std.specs.Str.{all_ascii_digits}
-use Rattle.std.specs.Str.Parse.{AllDigits, IsNumeral, digits_value, digits_value_after}
-use Rattle.std.proofs.lemmas.Bool.{ltb-false, leb-true, le-ltb, lt-ltb, and_parts, and_from, cases_Bool, not-true, not-false, false_from_ne_true, true≢false}
-use Rattle.std.proofs.lemmas.List.{take_all}
+use Rattle.std.specs.Str.Parse.{AllDigits, digits_value, digits_value_after}
+use Rattle.std.proofs.lemmas.Bool.{ltb-false, leb-true, le-leb, le-ltb, lt-ltb, and_parts, and_from, cases_Bool, not-true, not-false, false_from_ne_true, true≢false}
 use Rattle.std.proofs.lemmas.List.Quantifiers.{position-Some}
 use Rattle.std.proofs.lemmas.List.Sums.{fails_before_first}
-use Rattle.std.proofs.lemmas.Str.Parse.{IsNumeralModel, numerals_by_value, tells_all_ascii_digits, digits_value_short}
+use Rattle.std.proofs.lemmas.Str.Parse.{IsNumeralModel, numerals_by_value, tells_all_ascii_digits, digits_value_short, digit_from_value}
 use native.Mathlib.Nat.{pow-suc, pow-le-pow_right}
 use Rattle.text_scan.specs.Depth.{digits_and_rest}
 
@@ -141,3 +140,9 @@ digits_and_rest-before [] x xs all other = rw other refl
 digits_and_rest-before (d ∷ ds) x xs all other =
     let p = and_parts (is_ascii_digit d) (all_ascii_digits ds) all in
     rw (p.0, digits_and_rest-before ds x xs p.1 other) refl
+
+-- the byte of a digit's value
+pub digit_of : (x : ℕ) → digit_value x < 10 → (digit_value x ≡ x - 48) × (48 ≤ x) × (x ≤ 57)
+digit_of x small =
+    let range = digit_from_value x small in
+    digit_value-digit x (and_from _ _ (le-leb 48 x range.0) (le-leb x 57 range.1))

@@ -116,7 +116,8 @@ pub fn read_depth(text: &[u8]) -> Option<i32>
 
 /// The function that definitions cite gives what a text spells, which is one depth at most.
 pub fn depths_are_spelled()
-    ensures function { (text : List ℕ) (depth : ℤ) → (depth_of text ≡ Some depth) ↔ SpellsDepth text depth }
-    ensures one { (text : List ℕ) (a b : ℤ) → SpellsDepth text a → SpellsDepth text b → a ≡ b }
-{
-}
+    ensures function { (text : List ℕ) (depth : ℤ) →
+        (depth_of text ≡ Some depth) ↔ SpellsDepth text depth }
+    ensures one { (text : List ℕ) (a b : ℤ) →
+        SpellsDepth text a → SpellsDepth text b → a ≡ b }
+{}

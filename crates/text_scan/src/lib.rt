@@ -4,6 +4,8 @@
 mod depth;
 mod digits;
 mod number;
+#[cfg(test)]
+mod tests;
 mod written;
 
 pub use depth::{depths_are_spelled, read_depth};

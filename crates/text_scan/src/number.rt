@@ -52,7 +52,8 @@ pub fn read_signed(text: &[u8]) -> Option<i64>
 
 /// The functions that definitions cite give what a text spells.
 pub fn numbers_are_spelled()
-    ensures number { (text : List ℕ) (n : ℕ) → (number_of text ≡ Some n) ↔ (IsNumber text × (value_of text ≡ n)) }
-    ensures signed { (text : List ℕ) (z : ℤ) → (signed_of text ≡ Some z) ↔ SpellsSigned text z }
-{
-}
+    ensures number { (text : List ℕ) (n : ℕ) →
+        (number_of text ≡ Some n) ↔ (IsNumber text × (value_of text ≡ n)) }
+    ensures signed { (text : List ℕ) (z : ℤ) →
+        (signed_of text ≡ Some z) ↔ SpellsSigned text z }
+{}

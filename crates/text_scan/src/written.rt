@@ -19,9 +19,8 @@ pub fn write_number(alloc: Global, out: &mut Octets, n: i128) -> Result<(), Allo
     out.extend_from_slice(buffer.format(n).as_bytes())
 }
 
-/// The function that definitions cite gives a decimal text, and below 2 ^ 64 the only one.
+/// The function that definitions cite gives a decimal text, and a number has one decimal text at most.
 pub fn decimals_are_spelled()
     ensures decimal { (z : ℤ) → unsigned_abs z < 10 ^ 64 → IsDecimal (decimal_of z) z }
-    ensures only { (z : ℤ) (text : List ℕ) → unsigned_abs z < 2 ^ 64 → IsDecimal text z → text ≡ decimal_of z }
-{
-}
+    ensures one { (z : ℤ) (a b : List ℕ) → IsDecimal a z → IsDecimal b z → a ≡ b }
+{}

@@ -1,5 +1,5 @@
 -- What is read of a file is not that the shelf failed.
-use Rattle.ecdis_cli.proofs.Scripts.{fetched-no_fault}
+use Rattle.ecdis_cli.proofs.Steps.{fetched-no_fault}
 use Rattle.ecdis_cli.proofs.info.inform.Goals as goal
 
 pub returns-in-Ok-clause-failed : goal.returns-in-Ok-clause-failed

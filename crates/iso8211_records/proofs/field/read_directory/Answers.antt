@@ -1,4 +1,4 @@
-use Rattle.std.proofs.Common.{◌≡◌, arith, sym}
+use Rattle.std.proofs.Common.{arith}
 use Rattle.iso8211_leader.specs.Leader.{frame}
 use Rattle.iso8211_records.proofs.Directory.{entries-more, entries-none, entries-all, entries-first, directory-closed, directory-open}
 use Rattle.iso8211_records.proofs.field.read_directory.Goals as goal

@@ -1,4 +1,4 @@
-use Rattle.std.proofs.Common.{◌+◌, ℕ, sym, ap, ◌∙◌, arith}
+use Rattle.std.proofs.Common.{ℕ, sym, ap, ◌∙◌, arith}
 use Rattle.std.specs.Str.Parse.{digits_value_after}
 use Rattle.text_scan.proofs.Scans.{value_short, value_after-append}
 use Rattle.text_scan.proofs.depth.amount.Goals as goal

@@ -1,4 +1,4 @@
-use Rattle.std.proofs.Common.{ℕ, ◌+◌, ◌-◌, ◌*◌, ◌/◌, ◌<◌, ◌^◌, ap, arith}
+use Rattle.std.proofs.Common.{ℕ, ◌*◌, ◌/◌, ap, arith}
 use Rattle.std.proofs.lemmas.Int.{ints}
 use Rattle.text_scan.proofs.Floors.{floor_small, amount_small, unit_small}
 use Rattle.text_scan.proofs.depth.floor.Goals as goal

@@ -1,4 +1,4 @@
-use Rattle.std.proofs.Common.{◌+◌, ◌*◌, get_or, ℕ, ◌^◌, ◌<◌, ap, subst, ◌∙◌, arith}
+use Rattle.std.proofs.Common.{◌+◌, ◌*◌, ℕ, ◌^◌, ◌<◌, ap, subst, ◌∙◌, arith}
 use Rattle.text_scan.proofs.Scans.{digit_at, value_after-more, below-more, below_limit}
 use Rattle.text_scan.proofs.digits.append_digits.Goals as goal
 
