@@ -10,3 +10,5 @@ mod Results
 mod Framing
 mod Described
 mod FieldsLoop
+mod Records
+mod KindLaws
