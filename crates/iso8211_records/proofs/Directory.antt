@@ -53,11 +53,11 @@ entries_at-bound (suc bound) (suc other) at frame bytes place enough enough_too 
     ]
 
 -- the tests of an entry
-entry-tests : (frame : Frame) (bytes : List ℕ) (place : ℕ) → HasEntry frame bytes 0 place → (leb (place + entry_size frame) (frame.base - 1) && is_entry frame (entry_text frame bytes place)) ≡ true
+pub entry-tests : (frame : Frame) (bytes : List ℕ) (place : ℕ) → HasEntry frame bytes 0 place → (leb (place + entry_size frame) (frame.base - 1) && is_entry frame (entry_text frame bytes place)) ≡ true
 entry-tests frame bytes place h =
     both _ _ (le-test _ _ (let b = h.before_closing in omega arith)) (is_entry-from frame (entry_text frame bytes place) h.entry)
 
-entry-from-tests : (frame : Frame) (bytes : List ℕ) (place : ℕ) → (leb (place + entry_size frame) (frame.base - 1) && is_entry frame (entry_text frame bytes place)) ≡ true → HasEntry frame bytes 0 place
+pub entry-from-tests : (frame : Frame) (bytes : List ℕ) (place : ℕ) → (leb (place + entry_size frame) (frame.base - 1) && is_entry frame (entry_text frame bytes place)) ≡ true → HasEntry frame bytes 0 place
 entry-from-tests frame bytes place h =
     let p = both_parts (leb (place + entry_size frame) (frame.base - 1)) (is_entry frame (entry_text frame bytes place)) h in
     let low : place + entry_size frame ≤ frame.base - 1 = le-is _ _ p.0 in

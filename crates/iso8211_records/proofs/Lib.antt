@@ -12,3 +12,4 @@ mod Described
 mod FieldsLoop
 mod Records
 mod KindLaws
+mod DirectoryLaws

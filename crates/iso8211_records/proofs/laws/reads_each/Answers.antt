@@ -1,0 +1,5 @@
+use Rattle.iso8211_records.proofs.DirectoryLaws.{entries_at-sound}
+use Rattle.iso8211_records.proofs.laws.reads_each.Goals as goal
+
+pub returns-clause-given : goal.returns-clause-given
+returns-clause-given c = let p = entries_at-sound in ?
