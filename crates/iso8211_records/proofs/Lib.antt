@@ -13,3 +13,5 @@ mod FieldsLoop
 mod Records
 mod KindLaws
 mod DirectoryLaws
+mod Firsts
+mod FrameLaws
