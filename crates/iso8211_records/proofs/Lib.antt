@@ -15,3 +15,5 @@ mod KindLaws
 mod DirectoryLaws
 mod Firsts
 mod FrameLaws
+mod HoldLaws
+mod DataLaws
