@@ -42,17 +42,17 @@ field_by-sound tags pairs number tag bytes field ended h =
     elim (is_listed tags tag)
     as (λ b. is_listed tags tag ≡ b → cond b (or_fault (Subfield number tag) (values_by (layout_at pairs tag) bytes) >>= λ values. Ok (record { tag = tag; values = values })) (Ok (record { tag = tag; values = [] })) ≡ Ok field → IsFieldOf tags pairs bytes field tag) [
       | true ↦ λ e k.
-        (let p = bind_ok (or_fault (Subfield number tag) (values_by (layout_at pairs tag) bytes)) (λ values. Ok (record { tag = tag; values = values })) field k in
-        let found : RawField = record { tag = tag; values = p.0 } in
-        let is : found ≡ field = cc in
-        let v = values_by-sound (layout_at pairs tag) bytes p.0 (ended e) (or_fault-some (Subfield number tag) (values_by (layout_at pairs tag) bytes) p.0 p.1) in
-        subst (λ (f : RawField). IsFieldOf tags pairs bytes f tag) is
-        (record { tag_is = refl; values_are = subst (λ b. MatchBool b (HasValues pairs bytes found) (p.0 ≡ [])) (sym e) v }))
+          (let p = bind_ok (or_fault (Subfield number tag) (values_by (layout_at pairs tag) bytes)) (λ values. Ok (record { tag = tag; values = values })) field k in
+          let found : RawField = record { tag = tag; values = p.0 } in
+          let is : found ≡ field = cc in
+          let v = values_by-sound (layout_at pairs tag) bytes p.0 (ended e) (or_fault-some (Subfield number tag) (values_by (layout_at pairs tag) bytes) p.0 p.1) in
+          subst (λ (f : RawField). IsFieldOf tags pairs bytes f tag) is
+          (record { tag_is = refl; values_are = subst (λ b. MatchBool b (HasValues pairs bytes found) (p.0 ≡ [])) (sym e) v }))
       | false ↦ λ e k.
-        (let found : RawField = record { tag = tag; values = [] } in
-        let is : found ≡ field = cc in
-        subst (λ (f : RawField). IsFieldOf tags pairs bytes f tag) is
-        (record { tag_is = refl; values_are = subst (λ b. MatchBool b (HasValues pairs bytes found) (found.values ≡ [])) (sym e) refl }))
+          (let found : RawField = record { tag = tag; values = [] } in
+          let is : found ≡ field = cc in
+          subst (λ (f : RawField). IsFieldOf tags pairs bytes f tag) is
+          (record { tag_is = refl; values_are = subst (λ b. MatchBool b (HasValues pairs bytes found) (found.values ≡ [])) (sym e) refl }))
     ] refl h
 
 field_by-again : (tags : List (List ℕ)) (pairs : List (List ℕ × Layout)) (number : ℕ) (tag bytes : List ℕ) (field : RawField) → IsFieldOf tags pairs bytes field tag → field_by tags pairs number tag bytes ≡ Ok field
@@ -61,8 +61,8 @@ field_by-again tags pairs number tag bytes field h =
     elim (is_listed tags tag)
     as (λ b. MatchBool b (HasValues pairs bytes field) (field.values ≡ []) → cond b (or_fault (Subfield number tag) (values_by (layout_at pairs tag) bytes) >>= λ values. Ok (record { tag = tag; values = values })) (Ok (record { tag = tag; values = [] })) ≡ Ok field) [
       | true ↦ λ k.
-        (let at_tag : layout_at pairs tag ≡ Some k.0 = ap (layout_at pairs) (sym h.tag_is) ∙ k.1 in
-        rw (values_by-again (layout_at pairs tag) k.0 bytes field.values at_tag k.2, ← h.tag_is) refl)
+          (let at_tag : layout_at pairs tag ≡ Some k.0 = ap (layout_at pairs) (sym h.tag_is) ∙ k.1 in
+          rw (values_by-again (layout_at pairs tag) k.0 bytes field.values at_tag k.2, ← h.tag_is) refl)
       | false ↦ λ k. rw (← k, ← h.tag_is) refl
     ] h.values_are
 
@@ -95,8 +95,8 @@ field_by-readable tags pairs number frame bytes entry h =
     elim (is_listed tags entry.tag)
     as (λ b. is_listed tags entry.tag ≡ b → (field : RawField) × (cond b (or_fault (Subfield number entry.tag) (values_by (layout_at pairs entry.tag) (field_bytes frame bytes entry)) >>= λ values. Ok (record { tag = entry.tag; values = values })) (Ok (record { tag = entry.tag; values = [] })) ≡ Ok field)) [
       | true ↦ λ e.
-        (let p = h e in
-        (record { tag = entry.tag; values = p.2 }, rw (values_by-again (layout_at pairs entry.tag) p.0 (field_bytes frame bytes entry) p.2 p.1 p.3) refl))
+          (let p = h e in
+          (record { tag = entry.tag; values = p.2 }, rw (values_by-again (layout_at pairs entry.tag) p.0 (field_bytes frame bytes entry) p.2 p.1 p.3) refl))
       | false ↦ λ e. (record { tag = entry.tag; values = [] }, refl)
     ] refl
 
@@ -122,18 +122,18 @@ fields_of-fault tags pairs number frame bytes [] fault ended h = absurd cc
 fields_of-fault tags pairs number frame bytes (entry ∷ entries) fault ended h =
     elim (err_bind (field_by tags pairs number entry.tag (field_bytes frame bytes entry)) (λ field. fields_of tags pairs number frame bytes entries >>= λ fields. Ok (field ∷ fields)) fault h) [
       | inl bad ↦
-        (let unreadable : IsReadable tags pairs frame bytes entry → ⊥ = λ r.
+          (let unreadable : IsReadable tags pairs frame bytes entry → ⊥ = λ r.
           (let some = field_by-readable tags pairs number frame bytes entry r in let no : (let x : Result RawField FileFault = Ok some.0 in x ≡ Err fault) = sym some.1 ∙ bad in cc) in
-        let err = field_by-unreadable tags pairs number frame bytes entry ended.0 unreadable in
-        (0, entry, first-here (IsReadable tags pairs frame bytes) entry entries unreadable, err_is {A = RawField} (sym bad ∙ err)))
+          let err = field_by-unreadable tags pairs number frame bytes entry ended.0 unreadable in
+          (0, entry, first-here (IsReadable tags pairs frame bytes) entry entries unreadable, err_is {A = RawField} (sym bad ∙ err)))
       | inr good ↦
-        elim (err_bind (fields_of tags pairs number frame bytes entries) (λ fields. Ok (good.0 ∷ fields)) fault good.2) [
-          | inl later ↦
-            (let p = fields_of-fault tags pairs number frame bytes entries fault ended.1 later in
-            let f = field_by-sound tags pairs number entry.tag (field_bytes frame bytes entry) good.0 ended.0 good.1 in
-            (suc p.0, p.1, first-later (IsReadable tags pairs frame bytes) entry entries p.0 p.1 (readable good.0 f) p.2, p.3))
-          | inr none ↦ absurd (let no = none.2 in cc)
-        ]
+          elim (err_bind (fields_of tags pairs number frame bytes entries) (λ fields. Ok (good.0 ∷ fields)) fault good.2) [
+            | inl later ↦
+                (let p = fields_of-fault tags pairs number frame bytes entries fault ended.1 later in
+                let f = field_by-sound tags pairs number entry.tag (field_bytes frame bytes entry) good.0 ended.0 good.1 in
+                (suc p.0, p.1, first-later (IsReadable tags pairs frame bytes) entry entries p.0 p.1 (readable good.0 f) p.2, p.3))
+            | inr none ↦ absurd (let no = none.2 in cc)
+          ]
     ]
   where
     readable : (field : RawField) → IsFieldOf tags pairs (field_bytes frame bytes entry) field entry.tag → IsReadable tags pairs frame bytes entry
@@ -190,12 +190,13 @@ AreFieldsOf-described : (tags : List (List ℕ)) (pairs : List (List ℕ × Layo
 AreFieldsOf-described tags pairs frame bytes [] [] h = tt
 AreFieldsOf-described tags pairs frame bytes [] (field ∷ fields) h = absurd h
 AreFieldsOf-described tags pairs frame bytes (entry ∷ entries) [] h = absurd h
-AreFieldsOf-described tags pairs frame bytes (entry ∷ entries) (field ∷ fields) h =
-    (λ listed.
+AreFieldsOf-described tags pairs frame bytes (entry ∷ entries) (field ∷ fields) h = (
+  λ listed.
       (let v = subst (λ b. MatchBool b (HasValues pairs (field_bytes frame bytes entry) field) (field.values ≡ [])) listed h.0.values_are in
       let at_tag : layout_at pairs entry.tag ≡ Some v.0 = ap (layout_at pairs) (sym h.0.tag_is) ∙ v.1 in
       ap is_some at_tag),
-      AreFieldsOf-described tags pairs frame bytes entries fields h.1)
+  AreFieldsOf-described tags pairs frame bytes entries fields h.1,
+)
 
 unless_undescribed-ok : (o : Option Entry) → unless_undescribed o ≡ Ok tt → o ≡ None
 unless_undescribed-ok None h = refl
@@ -213,11 +214,11 @@ pub data_record_at-sound : (tags : List (List ℕ)) (pairs : List (List ℕ × L
 unfolding data_record_at
 data_record_at-sound tags pairs number at bytes fields size h =
     let p = bind_ok (record_at tags false at bytes)
-      (λ framed. unless_undescribed (first_without (is_described tags pairs) framed.entries) >>= λ _. fields_of tags pairs number framed.frame bytes framed.entries >>= λ fields. Ok (fields, framed.frame.length)) (fields, size) h in
+    (λ framed. unless_undescribed (first_without (is_described tags pairs) framed.entries) >>= λ _. fields_of tags pairs number framed.frame bytes framed.entries >>= λ fields. Ok (fields, framed.frame.length)) (fields, size) h in
     let r = data_record_at-is tags pairs number at bytes fields size h in
     let b = record_at-sound tags false at bytes p.0 p.1 in
     let q = bind_ok (unless_undescribed (first_without (is_described tags pairs) p.0.entries))
-      (λ _. fields_of tags pairs number p.0.frame bytes p.0.entries >>= λ fields. Ok (fields, p.0.frame.length)) (fields, size) p.2 in
+    (λ _. fields_of tags pairs number p.0.frame bytes p.0.entries >>= λ fields. Ok (fields, p.0.frame.length)) (fields, size) p.2 in
     let s = bind_ok (fields_of tags pairs number p.0.frame bytes p.0.entries) (λ fields. Ok (fields, p.0.frame.length)) (fields, size) q.2 in
     let pair : List RawField × ℕ = (s.0, p.0.frame.length) in
     let is : pair ≡ (fields, size) = let ok : (let x : Result (List RawField × ℕ) FileFault = Ok pair in x ≡ Ok (fields, size)) = s.2 in cc in
@@ -225,13 +226,15 @@ data_record_at-sound tags pairs number at bytes fields size h =
     let len : length b.piece ≡ p.0.frame.length = k.whole in
     let size_is : p.0.frame.length ≡ size = ap (λ (x : List RawField × ℕ). x.1) is in
     let read : fields_of tags pairs number p.0.frame b.piece p.0.entries ≡ Ok fields =
-        sym (fields_of-same tags pairs number p.0.frame b.piece b.rest p.0.entries len k.inside)
-        ∙ ap (λ (l : List ℕ). fields_of tags pairs number p.0.frame l p.0.entries) (sym b.parts) ∙ s.1 ∙ ap (λ (x : List RawField × ℕ). Ok x.0) is in
+    sym (fields_of-same tags pairs number p.0.frame b.piece b.rest p.0.entries len k.inside)
+    ∙ ap (λ (l : List ℕ). fields_of tags pairs number p.0.frame l p.0.entries) (sym b.parts) ∙ s.1 ∙ ap (λ (x : List RawField × ℕ). Ok x.0) is in
     record {
-      piece = b.piece; rest = b.rest; parts = b.parts;
+      piece = b.piece;
+      rest = b.rest;
+      parts = b.parts;
       rest_is = b.rest_is ∙ ap (λ n. drop n bytes) size_is;
       size_is = len ∙ size_is;
-      is_record = record { frame = p.0.frame; entries = p.0.entries; is_record = k; has_fields = fields_of-sound tags pairs number p.0.frame b.piece p.0.entries fields k.ended read }
+      is_record = record { frame = p.0.frame; entries = p.0.entries; is_record = k; has_fields = fields_of-sound tags pairs number p.0.frame b.piece p.0.entries fields k.ended read };
     }
 
 pub data_record_at-again : (tags : List (List ℕ)) (pairs : List (List ℕ × Layout)) (number at : ℕ) (piece rest : List ℕ) (fields : List RawField) → IsDataRecord tags pairs piece fields → data_record_at tags pairs number at (piece ++ rest) ≡ Ok (fields, length piece)
@@ -273,29 +276,29 @@ pub data_record_at-fault : (tags : List (List ℕ)) (pairs : List (List ℕ × L
 unfolding data_record_at
 data_record_at-fault tags pairs number at bytes fault h =
     elim (err_bind (record_at tags false at bytes)
-      (λ framed. unless_undescribed (first_without (is_described tags pairs) framed.entries) >>= λ _. fields_of tags pairs number framed.frame bytes framed.entries >>= λ fields. Ok (fields, framed.frame.length)) fault h) [
+    (λ framed. unless_undescribed (first_without (is_described tags pairs) framed.entries) >>= λ _. fields_of tags pairs number framed.frame bytes framed.entries >>= λ fields. Ok (fields, framed.frame.length)) fault h) [
       | inl bad ↦ to-data-fault tags pairs number at bytes fault (record_at-fault tags false at bytes fault bad)
       | inr good ↦
-        (let b = record_at-sound tags false at bytes good.0 good.1 in
-        elim (err_bind (unless_undescribed (first_without (is_described tags pairs) good.0.entries))
+          (let b = record_at-sound tags false at bytes good.0 good.1 in
+          elim (err_bind (unless_undescribed (first_without (is_described tags pairs) good.0.entries))
           (λ _. fields_of tags pairs number good.0.frame bytes good.0.entries >>= λ fields. Ok (fields, good.0.frame.length)) fault good.2) [
-          | inl bad ↦ undescribed tags pairs number at bytes fault good.0 b bad
-          | inr described ↦
-            elim (err_bind (fields_of tags pairs number good.0.frame bytes good.0.entries) (λ fields. Ok (fields, good.0.frame.length)) fault described.2) [
-              | inl bad ↦ unread tags pairs number at bytes fault good.0 b described.1 bad
-              | inr none ↦ absurd (let no = none.2 in cc)
-            ]
-        ])
+            | inl bad ↦ undescribed tags pairs number at bytes fault good.0 b bad
+            | inr described ↦
+                elim (err_bind (fields_of tags pairs number good.0.frame bytes good.0.entries) (λ fields. Ok (fields, good.0.frame.length)) fault described.2) [
+                  | inl bad ↦ unread tags pairs number at bytes fault good.0 b described.1 bad
+                  | inr none ↦ absurd (let no = none.2 in cc)
+                ]
+          ])
     ]
   where
     unread : (tags : List (List ℕ)) (pairs : List (List ℕ × Layout)) (number at : ℕ) (bytes : List ℕ) (fault : FileFault) (framed : Framed) → Begins tags false bytes framed
-      → unless_undescribed (first_without (is_described tags pairs) framed.entries) ≡ Ok tt → fields_of tags pairs number framed.frame bytes framed.entries ≡ Err fault → HasDataFault tags pairs number at bytes fault
+        → unless_undescribed (first_without (is_described tags pairs) framed.entries) ≡ Ok tt → fields_of tags pairs number framed.frame bytes framed.entries ≡ Err fault → HasDataFault tags pairs number at bytes fault
     unread tags pairs number at bytes fault framed b described bad =
         let k : IsRecord tags false b.piece framed.frame framed.entries = b.is_record in
         let len : length b.piece ≡ framed.frame.length = k.whole in
         let here : fields_of tags pairs number framed.frame b.piece framed.entries ≡ Err fault =
-            sym (fields_of-same tags pairs number framed.frame b.piece b.rest framed.entries len k.inside)
-            ∙ ap (λ (l : List ℕ). fields_of tags pairs number framed.frame l framed.entries) (sym b.parts) ∙ bad in
+        sym (fields_of-same tags pairs number framed.frame b.piece b.rest framed.entries len k.inside)
+        ∙ ap (λ (l : List ℕ). fields_of tags pairs number framed.frame l framed.entries) (sym b.parts) ∙ bad in
         let f = fields_of-fault tags pairs number framed.frame b.piece framed.entries fault k.ended here in
         let each = first_without-none (is_described tags pairs) (IsDescribed tags pairs) framed.entries (is_described-test tags pairs) (unless_undescribed-ok (first_without (is_described tags pairs) framed.entries) described) in
         subst (λ (x : FileFault). HasDataFault tags pairs number at bytes x) (sym f.3)
@@ -319,7 +322,7 @@ data_record_at-faulty tags pairs number at bytes (Subfield n tag) h =
     let framed : record_at tags false at bytes ≡ Ok (record { frame = h.1; entries = h.2 }) = ap (record_at tags false at) b.parts ∙ record_at-again tags false at h.0 b.rest h.1 h.2 k in
     let described = first_without-each (is_described tags pairs) (IsDescribed tags pairs) h.2 (is_described-test tags pairs) h.6 in
     let bad : fields_of tags pairs number h.1 bytes h.2 ≡ Err (Subfield number h.4.tag) =
-        ap (λ (l : List ℕ). fields_of tags pairs number h.1 l h.2) b.parts ∙ fields_of-same tags pairs number h.1 h.0 b.rest h.2 k.whole k.inside ∙ fields_of-faulty tags pairs number h.1 h.0 h.2 h.3 h.4 k.ended h.7 in
+    ap (λ (l : List ℕ). fields_of tags pairs number h.1 l h.2) b.parts ∙ fields_of-same tags pairs number h.1 h.0 b.rest h.2 k.whole k.inside ∙ fields_of-faulty tags pairs number h.1 h.0 h.2 h.3 h.4 k.ended h.7 in
     rw (framed, described, bad, ← h.8, ← h.9) refl
 
 -- ---- the data descriptive record
@@ -335,12 +338,12 @@ descriptive_record_at-sound law tags bytes pairs rest h =
     let b = record_at-sound tags true 0 bytes d.framed d.is_framed in
     let k : IsRecord tags true b.piece d.framed.frame d.framed.entries = b.is_record in
     let read : descriptors_in d.framed.frame b.piece (describing tags [] d.framed.entries) ≡ Ok pairs =
-        sym (descriptors_in-same d.framed.frame b.piece b.rest (describing tags [] d.framed.entries) k.whole (describing-inside tags [] d.framed.frame d.framed.entries k.inside))
-        ∙ ap (λ (l : List ℕ). descriptors_in d.framed.frame l (describing tags [] d.framed.entries)) (sym b.parts) ∙ d.describe in
+    sym (descriptors_in-same d.framed.frame b.piece b.rest (describing tags [] d.framed.entries) k.whole (describing-inside tags [] d.framed.frame d.framed.entries k.inside))
+    ∙ ap (λ (l : List ℕ). descriptors_in d.framed.frame l (describing tags [] d.framed.entries)) (sym b.parts) ∙ d.describe in
     record {
       piece = b.piece;
       parts = b.parts ∙ ap (λ (l : List ℕ). b.piece ++ l) (b.rest_is ∙ d.rest_is);
-      is_record = record { frame = d.framed.frame; entries = d.framed.entries; is_record = k; describe = descriptors_in-sound law d.framed.frame b.piece (describing tags [] d.framed.entries) pairs read }
+      is_record = record { frame = d.framed.frame; entries = d.framed.entries; is_record = k; describe = descriptors_in-sound law d.framed.frame b.piece (describing tags [] d.framed.entries) pairs read };
     }
 
 pub descriptive_record_at-again : SpellingLaw → (tags : List (List ℕ)) (piece rest : List ℕ) (pairs : List (List ℕ × Layout)) → IsDescriptiveRecord tags piece pairs → descriptive_record_at tags (piece ++ rest) ≡ Ok (pairs, rest)
@@ -349,7 +352,7 @@ descriptive_record_at-again law tags piece rest pairs h =
     let k : IsRecord tags true piece h.frame h.entries = h.is_record in
     let len : length piece ≡ h.frame.length = k.whole in
     let read : descriptors_in h.frame (piece ++ rest) (describing tags [] h.entries) ≡ Ok pairs =
-        descriptors_in-same h.frame piece rest (describing tags [] h.entries) len (describing-inside tags [] h.frame h.entries k.inside) ∙ descriptors_in-again law h.frame piece (describing tags [] h.entries) pairs h.describe in
+    descriptors_in-same h.frame piece rest (describing tags [] h.entries) len (describing-inside tags [] h.frame h.entries k.inside) ∙ descriptors_in-again law h.frame piece (describing tags [] h.entries) pairs h.describe in
     rw (record_at-again tags true 0 piece rest h.frame h.entries k, read) (ap (λ (l : List ℕ). Ok (pairs, l)) (ap (λ n. drop n (piece ++ rest)) (sym len) ∙ drop-append_seam piece rest))
 
 to-descriptive-fault : (tags : List (List ℕ)) (bytes : List ℕ) (fault : FileFault) → HasFrameFault tags true 0 bytes fault → HasDescriptiveFault tags bytes fault
@@ -367,17 +370,17 @@ descriptive_record_at-fault law tags bytes fault h =
     elim (err_bind (record_at tags true 0 bytes) (λ framed. descriptors_in framed.frame bytes (describing tags [] framed.entries) >>= λ descriptors. Ok (descriptors, drop framed.frame.length bytes)) fault h) [
       | inl bad ↦ to-descriptive-fault tags bytes fault (record_at-fault tags true 0 bytes fault bad)
       | inr good ↦
-        (let b = record_at-sound tags true 0 bytes good.0 good.1 in
-        elim (err_bind (descriptors_in good.0.frame bytes (describing tags [] good.0.entries)) (λ descriptors. Ok (descriptors, drop good.0.frame.length bytes)) fault good.2) [
-          | inl bad ↦
-            (let k : IsRecord tags true b.piece good.0.frame good.0.entries = b.is_record in
-            let here : descriptors_in good.0.frame b.piece (describing tags [] good.0.entries) ≡ Err fault =
+          (let b = record_at-sound tags true 0 bytes good.0 good.1 in
+          elim (err_bind (descriptors_in good.0.frame bytes (describing tags [] good.0.entries)) (λ descriptors. Ok (descriptors, drop good.0.frame.length bytes)) fault good.2) [
+            | inl bad ↦
+                (let k : IsRecord tags true b.piece good.0.frame good.0.entries = b.is_record in
+                let here : descriptors_in good.0.frame b.piece (describing tags [] good.0.entries) ≡ Err fault =
                 sym (descriptors_in-same good.0.frame b.piece b.rest (describing tags [] good.0.entries) k.whole (describing-inside tags [] good.0.frame good.0.entries k.inside))
                 ∙ ap (λ (l : List ℕ). descriptors_in good.0.frame l (describing tags [] good.0.entries)) (sym b.parts) ∙ bad in
-            let f = descriptors_in-fault law good.0.frame b.piece (describing tags [] good.0.entries) fault here in
-            subst (λ (x : FileFault). HasDescriptiveFault tags bytes x) (sym f.3) (b.piece, good.0.frame, good.0.entries, f.0, f.1, begins tags true bytes good.0 b, f.2, refl))
-          | inr none ↦ absurd (let no = none.2 in cc)
-        ])
+                let f = descriptors_in-fault law good.0.frame b.piece (describing tags [] good.0.entries) fault here in
+                subst (λ (x : FileFault). HasDescriptiveFault tags bytes x) (sym f.3) (b.piece, good.0.frame, good.0.entries, f.0, f.1, begins tags true bytes good.0 b, f.2, refl))
+            | inr none ↦ absurd (let no = none.2 in cc)
+          ])
     ]
 
 pub descriptive_record_at-faulty : SpellingLaw → (tags : List (List ℕ)) (bytes : List ℕ) (fault : FileFault) → HasDescriptiveFault tags bytes fault → descriptive_record_at tags bytes ≡ Err fault
@@ -393,7 +396,7 @@ descriptive_record_at-faulty law tags bytes (Descriptor tag) h =
     let k : IsRecord tags true h.0 h.1 h.2 = b.is_record in
     let framed : record_at tags true 0 bytes ≡ Ok (record { frame = h.1; entries = h.2 }) = ap (record_at tags true 0) b.parts ∙ record_at-again tags true 0 h.0 b.rest h.1 h.2 k in
     let bad : descriptors_in h.1 bytes (describing tags [] h.2) ≡ Err (Descriptor h.4.tag) =
-        ap (λ (l : List ℕ). descriptors_in h.1 l (describing tags [] h.2)) b.parts
-        ∙ descriptors_in-same h.1 h.0 b.rest (describing tags [] h.2) k.whole (describing-inside tags [] h.1 h.2 k.inside)
-        ∙ descriptors_in-faulty law h.1 h.0 (describing tags [] h.2) h.3 h.4 h.6 in
+    ap (λ (l : List ℕ). descriptors_in h.1 l (describing tags [] h.2)) b.parts
+    ∙ descriptors_in-same h.1 h.0 b.rest (describing tags [] h.2) k.whole (describing-inside tags [] h.1 h.2 k.inside)
+    ∙ descriptors_in-faulty law h.1 h.0 (describing tags [] h.2) h.3 h.4 h.6 in
     rw (framed, bad, ← h.7) refl

@@ -70,7 +70,7 @@ unfolding entries_at
 entries_at-step zero at frame bytes place left enough h = absurd (omega arith)
 entries_at-step (suc bound) at frame bytes place left enough h =
     let same : entries_at bound at frame bytes (place + entry_size frame) ≡ entries_at (suc bound) at frame bytes (place + entry_size frame) =
-        entries_at-bound bound (suc bound) at frame bytes (place + entry_size frame) (omega arith) (omega arith) in
+    entries_at-bound bound (suc bound) at frame bytes (place + entry_size frame) (omega arith) (omega arith) in
     rw (lt-test place (frame.base - 1) left, entry-tests frame bytes place h)
     (ap (λ (read : Result (List Entry) FileFault). read >>= λ entries. Ok (entry_of frame (entry_text frame bytes place) ∷ entries)) same)
 
@@ -80,11 +80,11 @@ unfolding entries_at
 entries_at-stop zero at frame bytes place left none = refl
 entries_at-stop (suc bound) at frame bytes place left none =
     let test : (leb (place + entry_size frame) (frame.base - 1) && is_entry frame (entry_text frame bytes place)) ≡ false =
-        elim (leb (place + entry_size frame) (frame.base - 1) && is_entry frame (entry_text frame bytes place))
-        as (λ b. (leb (place + entry_size frame) (frame.base - 1) && is_entry frame (entry_text frame bytes place)) ≡ b → b ≡ false) [
-          | true ↦ λ e. absurd (none (entry-from-tests frame bytes place e))
-          | false ↦ λ e. refl
-        ] refl in
+    elim (leb (place + entry_size frame) (frame.base - 1) && is_entry frame (entry_text frame bytes place))
+    as (λ b. (leb (place + entry_size frame) (frame.base - 1) && is_entry frame (entry_text frame bytes place)) ≡ b → b ≡ false) [
+      | true ↦ λ e. absurd (none (entry-from-tests frame bytes place e))
+      | false ↦ λ e. refl
+    ] refl in
     rw (lt-test place (frame.base - 1) left, test) refl
 
 -- the closing byte

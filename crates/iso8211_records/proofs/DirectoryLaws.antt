@@ -47,6 +47,7 @@ has_closing-is bytes place h =
   where
     lt-is : (a b : ℕ) → ltb a b ≡ true → a < b
     lt-is a b h = grind (arith, nat_tests)
+
     eq-is : (a b : ℕ) → eqb a b ≡ true → a ≡ b
     eq-is a b h = grind (arith, nat_tests)
 
@@ -81,11 +82,12 @@ next-entry frame bytes place end front rest low len parts h =
       inside = inside;
       entry = record { before_closing = omega arith; entry = subst (λ (text : List ℕ). IsEntry frame text) (sym text_is) h };
       front_is = text_is;
-      rest_is = sym (rest-text bytes place (entry_size frame) end inside) ∙ rest_is
+      rest_is = sym (rest-text bytes place (entry_size frame) end inside) ∙ rest_is;
     }
   where
     place-inside : (place end size more : ℕ) → end - place ≡ size + more → 4 ≤ size → place + size ≤ end
     place-inside place end size more e some = omega arith
+
     entry-some : (frame : Frame) → 4 ≤ entry_size frame
     entry-some frame = omega arith
 
@@ -121,14 +123,16 @@ entries_at-skip bound at frame bytes place end (entry ∷ entries) enough low h 
     let step = entries_at-step bound at frame bytes place (before-end (entry_size frame) place end frame.base inside low (entry-some frame)) enough next.entry in
     let named : entry_of frame (entry_text frame bytes place) ≡ entry = ap (entry_of frame) next.front_is ∙ sym h.4 in
     let others : entries_at bound at frame bytes (place + entry_size frame) ≡ behind entries (entries_at bound at frame bytes end) =
-        entries_at-skip bound at frame bytes (place + entry_size frame) end entries (omega arith) low (subst (λ (text : List ℕ). IsDirectory frame entries text) (sym next.rest_is) h.5) sizes.1 in
+    entries_at-skip bound at frame bytes (place + entry_size frame) end entries (omega arith) low (subst (λ (text : List ℕ). IsDirectory frame entries text) (sym next.rest_is) h.5) sizes.1 in
     step ∙ rw (named, others) (put-first entry entries (entries_at bound at frame bytes end))
   where
     put-first : (entry : Entry) (entries : List Entry) (read : Result (List Entry) FileFault) → (behind entries read >>= λ more. Ok (entry ∷ more)) ≡ behind (entry ∷ entries) read
     put-first entry entries (Err fault) = refl
     put-first entry entries (Ok more) = refl
+
     entry-some : (frame : Frame) → 4 ≤ entry_size frame
     entry-some frame = omega arith
+
     before-end : (size place end base : ℕ) → place + size ≤ end → end ≤ base - 1 → 4 ≤ size → place < base - 1
     before-end size place end base inside low some = omega arith
 
@@ -157,20 +161,21 @@ walk zero frame bytes place low enough = absurd (omega arith)
 walk (suc bound) frame bytes place low enough =
     elim (cases_lt place (frame.base - 1)) [
       | inl left ↦
-        elim (leb (place + entry_size frame) (frame.base - 1) && is_entry frame (entry_text frame bytes place))
-        as (λ b. (leb (place + entry_size frame) (frame.base - 1) && is_entry frame (entry_text frame bytes place)) ≡ b → Walk frame bytes place) [
-          | true ↦ λ e. longer bound frame bytes place (entry-from-tests frame bytes place e) (let inside = (entry-from-tests frame bytes place e).before_closing in walk bound frame bytes (place + entry_size frame) (omega arith) (omega arith))
-          | false ↦ λ e. none-yet frame bytes place low (lacks_entry left (λ h. (let yes = entry-tests frame bytes place h in let no : true ≡ false = sym yes ∙ e in cc)))
-        ] refl
+          elim (leb (place + entry_size frame) (frame.base - 1) && is_entry frame (entry_text frame bytes place))
+          as (λ b. (leb (place + entry_size frame) (frame.base - 1) && is_entry frame (entry_text frame bytes place)) ≡ b → Walk frame bytes place) [
+            | true ↦ λ e. longer bound frame bytes place (entry-from-tests frame bytes place e) (let inside = (entry-from-tests frame bytes place e).before_closing in walk bound frame bytes (place + entry_size frame) (omega arith) (omega arith))
+            | false ↦ λ e. none-yet frame bytes place low (lacks_entry left (λ h. (let yes = entry-tests frame bytes place h in let no : true ≡ false = sym yes ∙ e in cc)))
+          ] refl
       | inr done ↦
-        elim (has_closing bytes place) as (λ b. has_closing bytes place ≡ b → Walk frame bytes place) [
-          | true ↦ λ e. none-yet frame bytes place low (closed (omega arith) (has_closing-is bytes place e))
-          | false ↦ λ e. none-yet frame bytes place low (lacks_closing (omega arith) (λ is. (let yes = has_closing-from bytes place is in let no : true ≡ false = sym yes ∙ e in cc)))
-        ] refl
+          elim (has_closing bytes place) as (λ b. has_closing bytes place ≡ b → Walk frame bytes place) [
+            | true ↦ λ e. none-yet frame bytes place low (closed (omega arith) (has_closing-is bytes place e))
+            | false ↦ λ e. none-yet frame bytes place low (lacks_closing (omega arith) (λ is. (let yes = has_closing-from bytes place is in let no : true ≡ false = sym yes ∙ e in cc)))
+          ] refl
     ]
   where
     mul-more : (a b c d : ℕ) → d ≡ a + b + b * c → d ≡ a + b * suc c
     mul-more a b c d h = grind arith
+
     longer : (bound : ℕ) (frame : Frame) (bytes : List ℕ) (place : ℕ) → HasEntry frame bytes 0 place → Walk frame bytes (place + entry_size frame) → Walk frame bytes place
     longer bound frame bytes place h w =
         let inside : place + entry_size frame ≤ w.end = let e = w.end_is in omega arith in
@@ -180,7 +185,7 @@ walk (suc bound) frame bytes place low enough =
           low = w.low;
           directory = (entry_text frame bytes place, slice_range bytes (place + entry_size frame) w.end, cut-text bytes place (entry_size frame) w.end inside, h.entry, refl, w.directory);
           end_is = mul-more place (entry_size frame) (length w.entries) w.end w.end_is;
-          ends = w.ends
+          ends = w.ends;
         }
 
 -- ---- a directory that is read
@@ -221,9 +226,10 @@ entries_at-sound bound at frame bytes place entries low enough h =
     by-end : (w : Walk frame bytes place) → Ends frame bytes w.end → IsDirectory frame entries (slice_range bytes place (frame.base - 1)) × (slice_get bytes (frame.base - 1) ≡ Some 30)
     by-end w (closed at_end closing) =
         let e : entries_at bound at frame bytes place ≡ Ok w.entries = closed-value bound at frame bytes place w.entries w.end enough w.directory w.end_is at_end closing in
-        let same : w.entries ≡ entries = let ok : (let r : Result (List Entry) FileFault = Ok w.entries in r ≡ Ok entries) = sym e ∙ h in cc in
-        (subst (λ (es : List Entry). IsDirectory frame es (slice_range bytes place (frame.base - 1))) same (subst (λ n. IsDirectory frame w.entries (slice_range bytes place n)) at_end w.directory),
-          subst (λ n. slice_get bytes n ≡ Some 30) at_end closing)
+        let same : w.entries ≡ entries = let ok : (let r : Result (List Entry) FileFault = Ok w.entries in r ≡ Ok entries) = sym e ∙ h in cc in (
+          subst (λ (es : List Entry). IsDirectory frame es (slice_range bytes place (frame.base - 1))) same (subst (λ n. IsDirectory frame w.entries (slice_range bytes place n)) at_end w.directory),
+          subst (λ n. slice_get bytes n ≡ Some 30) at_end closing,
+        )
     by-end w (lacks_entry left none) = absurd (let e = entries_at-broken bound at frame bytes place w.end w.entries enough w.directory w.end_is (inl (left, none)) in let no : Ok entries ≡ Err (Directory (at + w.end)) = sym h ∙ e in cc)
     by-end w (lacks_closing at_end other) = absurd (let e = entries_at-broken bound at frame bytes place w.end w.entries enough w.directory w.end_is (inr (at_end, other)) in let no : Ok entries ≡ Err (Directory (at + w.end)) = sym h ∙ e in cc)
 
@@ -235,8 +241,8 @@ entries_at-breaks bound at frame bytes place fault low enough h =
     by-end w w.ends
   where
     by-end : (w : Walk frame bytes place) → Ends frame bytes w.end
-      → (entries : List Entry) × (end : ℕ) × (fault ≡ Directory (at + end)) × IsDirectory frame entries (slice_range bytes place end) × (end ≡ place + entry_size frame * length entries)
-      × (((end < frame.base - 1) × ¬ HasEntry frame bytes 0 end) ⊎ ((end ≡ frame.base - 1) × (slice_get bytes end ≢ Some 30)))
+        → (entries : List Entry) × (end : ℕ) × (fault ≡ Directory (at + end)) × IsDirectory frame entries (slice_range bytes place end) × (end ≡ place + entry_size frame * length entries)
+        × (((end < frame.base - 1) × ¬ HasEntry frame bytes 0 end) ⊎ ((end ≡ frame.base - 1) × (slice_get bytes end ≢ Some 30)))
     by-end w (closed at_end closing) = absurd (let e = closed-value bound at frame bytes place w.entries w.end enough w.directory w.end_is at_end closing in let no : Ok w.entries ≡ Err fault = sym e ∙ h in cc)
     by-end w (lacks_entry left none) =
         let e = entries_at-broken bound at frame bytes place w.end w.entries enough w.directory w.end_is (inl (left, none)) in

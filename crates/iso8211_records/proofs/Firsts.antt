@@ -28,11 +28,12 @@ passes-false passes P x t h =
 
 first-later : {A : Type 0} (P : A → Type 0) (x : A) (xs : List A) (count : ℕ) (y : A) → P x → IsFirstWithout P xs count y → IsFirstWithout P (x ∷ xs) (suc count) y
 first-later P x xs count y h f = record {
-  before = x ∷ f.before; after = f.after;
+  before = x ∷ f.before;
+  after = f.after;
   parts = ap (λ (l : List _). x ∷ l) f.parts;
   counted = ap (λ n. suc n) f.counted;
   each = (h, f.each);
-  fails = f.fails
+  fails = f.fails;
 }
 
 first-here : {A : Type 0} (P : A → Type 0) (x : A) (xs : List A) → (P x → ⊥) → IsFirstWithout P (x ∷ xs) 0 x

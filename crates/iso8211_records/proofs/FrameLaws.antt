@@ -33,7 +33,7 @@ use Rattle.iso8211_records.proofs.Records.{IsFramed, record_at-is}
 pub is_inside-test : (frame : Frame) → IsTest (is_inside frame) (IsInside frame)
 is_inside-test frame = record {
   yes = λ entry e. le-is _ _ e;
-  no = λ entry e h. (let yes = le-test (field_end frame entry) frame.length h in let no : true ≡ false = sym yes ∙ e in cc)
+  no = λ entry e h. (let yes = le-test (field_end frame entry) frame.length h in let no : true ≡ false = sym yes ∙ e in cc);
 }
 
 last-byte : (bytes : List ℕ) → has_end bytes ≡ true → (text : List ℕ) × (bytes ≡ text ++ 30 ∷ [])
@@ -47,6 +47,7 @@ last-byte bytes h =
   where
     lt-is : (a b : ℕ) → ltb a b ≡ true → a < b
     lt-is a b h = grind (arith, nat_tests)
+
     eq-is : (a b : ℕ) → eqb a b ≡ true → a ≡ b
     eq-is a b h = grind (arith, nat_tests)
 
@@ -63,12 +64,13 @@ has_end-from text =
 pub is_ended-test : (tags : List (List ℕ)) (frame : Frame) (bytes : List ℕ) → IsTest (is_ended tags frame bytes) (IsEnded tags frame bytes)
 is_ended-test tags frame bytes = record {
   yes = λ entry. yes (is_listed tags entry.tag) (field_bytes frame bytes entry);
-  no = λ entry. no (is_listed tags entry.tag) (field_bytes frame bytes entry)
+  no = λ entry. no (is_listed tags entry.tag) (field_bytes frame bytes entry);
 }
   where
     yes : (listed : Bool) (field : List ℕ) → (not listed || has_end field) ≡ true → IsTrue listed → (text : List ℕ) × (field ≡ text ++ 30 ∷ [])
     yes true field e l = last-byte field e
     yes false field e l = absurd cc
+
     no : (listed : Bool) (field : List ℕ) → (not listed || has_end field) ≡ false → (IsTrue listed → (text : List ℕ) × (field ≡ text ++ 30 ∷ [])) → ⊥
     no true field e h = let p = h refl in let yes : has_end field ≡ true = ap has_end p.1 ∙ has_end-from p.0 in let bad : true ≡ false = sym yes ∙ e in cc
     no false field e h = cc
@@ -105,7 +107,7 @@ spans_at-breaks at frame bytes entries fault h =
     ]
   where
     by-place : (o : Option ℕ) → place_without (is_inside frame) (entry_size frame) 24 entries ≡ o → frame.length ≤ length bytes
-      → unless_at (λ place. Span (at + place)) (place_without (is_inside frame) (entry_size frame) 24 entries) ≡ Err fault → (place : ℕ) × (fault ≡ Span (at + place)) × SpanBreaks frame bytes entries place
+        → unless_at (λ place. Span (at + place)) (place_without (is_inside frame) (entry_size frame) 24 entries) ≡ Err fault → (place : ℕ) × (fault ≡ Span (at + place)) × SpanBreaks frame bytes entries place
     by-place None e whole k = absurd (let bad : Ok tt ≡ Err fault = sym (ap (unless_at (λ place. Span (at + place))) e) ∙ k in cc)
     by-place (Some q) e whole k =
         let p = place_without-some (is_inside frame) (IsInside frame) (entry_size frame) 24 entries q (is_inside-test frame) e in
@@ -217,8 +219,8 @@ record-piece tags first at piece rest framed len f =
       whole = len;
       inside = inside;
       ended = each-map (IsInside framed.frame) (IsEnded tags framed.frame (piece ++ rest)) (IsEnded tags framed.frame piece) framed.entries
-        (λ entry within ended. (λ listed. (let p = ended listed in (p.0, sym (same-field piece rest framed.frame entry len within) ∙ p.1))))
-        inside (ends_at-all tags at framed.frame (piece ++ rest) framed.entries f.ends)
+          (λ entry within ended. (λ listed. (let p = ended listed in (p.0, sym (same-field piece rest framed.frame entry len within) ∙ p.1))))
+          inside (ends_at-all tags at framed.frame (piece ++ rest) framed.entries f.ends);
     }
 
 -- a record that begins the bytes, with what stands after it
@@ -238,8 +240,11 @@ record_at-sound tags first at bytes framed h =
     let parts : bytes ≡ piece ++ rest = sym (take-append-drop framed.frame.length bytes) in
     let len : length piece ≡ framed.frame.length = omega (arith, length-take framed.frame.length bytes) in
     record {
-      piece = piece; rest = rest; parts = parts; rest_is = refl;
-      is_record = record-piece tags first at piece rest framed len (subst (λ (l : List ℕ). IsFramed tags first at l framed) parts f)
+      piece = piece;
+      rest = rest;
+      parts = parts;
+      rest_is = refl;
+      is_record = record-piece tags first at piece rest framed len (subst (λ (l : List ℕ). IsFramed tags first at l framed) parts f);
     }
 
 pub record_at-again : (tags : List (List ℕ)) (first : Bool) (at : ℕ) (piece rest : List ℕ) (frame : Frame) (entries : List Entry) → IsRecord tags first piece frame entries → record_at tags first at (piece ++ rest) ≡ Ok (record { frame = frame; entries = entries })
@@ -254,12 +259,12 @@ record_at-again tags first at piece rest frame entries h =
     let same : slice_range piece 24 (frame.base - 1) ≡ slice_range (piece ++ rest) 24 (frame.base - 1) = sym (same-range piece rest 24 (frame.base - 1) (omega arith) (omega arith)) in
     let more : length (piece ++ rest) ≡ length piece + length rest = length-append piece rest in
     let closing : slice_get (piece ++ rest) (frame.base - 1) ≡ Some 30 =
-        slice_get-get_or (piece ++ rest) (frame.base - 1) 0 (omega arith) ∙ ap (λ byte. Some byte) (get_or-append piece rest 0 (frame.base - 1) (omega arith) ∙ h.closing) in
+    slice_get-get_or (piece ++ rest) (frame.base - 1) 0 (omega arith) ∙ ap (λ byte. Some byte) (get_or-append piece rest 0 (frame.base - 1) (omega arith) ∙ h.closing) in
     let directory = directory_at-again at first frame (piece ++ rest) entries (record { leader = leader; says = says; directory = subst (λ (text : List ℕ). IsDirectory frame entries text) same h.directory; closing = closing }) in
     let ended = each-map (IsInside frame) (IsEnded tags frame piece) (IsEnded tags frame (piece ++ rest)) entries
-        (λ entry within ended. (λ listed. (let p = ended listed in (p.0, same-field piece rest frame entry len within ∙ p.1)))) h.inside h.ended in
+    (λ entry within ended. (λ listed. (let p = ended listed in (p.0, same-field piece rest frame entry len within ∙ p.1)))) h.inside h.ended in
     record_at-all tags first at (piece ++ rest) frame entries (leader_at-some first at (piece ++ rest) frame leader says) directory
-      (spans_at-fine at frame (piece ++ rest) entries (omega arith) h.inside) (ends_at-fine tags at frame (piece ++ rest) entries ended)
+    (spans_at-fine at frame (piece ++ rest) entries (omega arith) h.inside) (ends_at-fine tags at frame (piece ++ rest) entries ended)
 
 -- ---- its fault
 
@@ -274,14 +279,14 @@ record_at-faulty tags first at bytes (Span offset) h =
     let b : BreaksSpan first bytes h.0 = h.2 in
     let d : HasDirectory first bytes b.frame b.entries = b.has_directory in
     record_at-spans (Span (at + h.0)) tags first at bytes b.frame b.entries (leader_at-some first at bytes b.frame d.leader d.says) (directory_at-again at first b.frame bytes b.entries d)
-      (spans_at-broken at b.frame bytes b.entries h.0 b.breaks)
+    (spans_at-broken at b.frame bytes b.entries h.0 b.breaks)
     ∙ ap (λ n. Err (Span n)) (sym h.1)
 record_at-faulty tags first at bytes (Terminator offset) h =
     let b : BreaksEnd tags first bytes h.0 = h.2 in
     let d : HasDirectory first bytes b.frame b.entries = b.has_directory in
     record_at-ends (Terminator (at + h.0)) tags first at bytes b.frame b.entries (leader_at-some first at bytes b.frame d.leader d.says) (directory_at-again at first b.frame bytes b.entries d)
-      (spans_at-fine at b.frame bytes b.entries b.whole b.inside)
-      (ends_at-broken tags at b.frame bytes b.entries h.0 (b.count, b.entry, b.breaks, b.place_is))
+    (spans_at-fine at b.frame bytes b.entries b.whole b.inside)
+    (ends_at-broken tags at b.frame bytes b.entries h.0 (b.count, b.entry, b.breaks, b.place_is))
     ∙ ap (λ n. Err (Terminator n)) (sym h.1)
 record_at-faulty tags first at bytes (Descriptor tag) h = absurd h
 record_at-faulty tags first at bytes (Subfield number tag) h = absurd h
@@ -315,12 +320,21 @@ after-ends tags first at bytes fault frame entries h leader directory spans (Err
     let b = ends_at-breaks tags at frame bytes entries found e in
     let at_end : ends_at tags at frame bytes entries ≡ Err (Terminator (at + b.0)) = e ∙ ap (λ (f : FileFault). Err f) b.1 in
     let same : Terminator (at + b.0) ≡ fault = err_is {A = Framed} (sym (record_at-ends (Terminator (at + b.0)) tags first at bytes frame entries leader directory spans at_end) ∙ h) in
-    to-fault tags first at bytes fault (Terminator (at + b.0)) (sym same)
-      (b.0, refl, record {
-        frame = frame; entries = entries; has_directory = directory_at-sound at first frame bytes entries l.0 l.1 directory;
-        whole = spans_at-whole at frame bytes entries spans; inside = spans_at-inside at frame bytes entries spans;
-        count = b.2.0; entry = b.2.1; breaks = b.2.2; place_is = b.2.3
-      })
+    to-fault tags first at bytes fault (Terminator (at + b.0)) (sym same) (
+      b.0,
+      refl,
+      record {
+        frame = frame;
+        entries = entries;
+        has_directory = directory_at-sound at first frame bytes entries l.0 l.1 directory;
+        whole = spans_at-whole at frame bytes entries spans;
+        inside = spans_at-inside at frame bytes entries spans;
+        count = b.2.0;
+        entry = b.2.1;
+        breaks = b.2.2;
+        place_is = b.2.3;
+      },
+    )
 
 after-spans : (tags : List (List ℕ)) (first : Bool) (at : ℕ) (bytes : List ℕ) (fault : FileFault) (frame : Frame) (entries : List Entry) → record_at tags first at bytes ≡ Err fault
     → leader_at first at bytes ≡ Ok frame → directory_at at frame bytes ≡ Ok entries
@@ -332,7 +346,7 @@ after-spans tags first at bytes fault frame entries h leader directory (Err foun
     let at_span : spans_at at frame bytes entries ≡ Err (Span (at + b.0)) = e ∙ ap (λ (f : FileFault). Err f) b.1 in
     let same : Span (at + b.0) ≡ fault = err_is {A = Framed} (sym (record_at-spans (Span (at + b.0)) tags first at bytes frame entries leader directory at_span) ∙ h) in
     to-fault tags first at bytes fault (Span (at + b.0)) (sym same)
-      (b.0, refl, record { frame = frame; entries = entries; has_directory = directory_at-sound at first frame bytes entries l.0 l.1 directory; breaks = b.2 })
+    (b.0, refl, record { frame = frame; entries = entries; has_directory = directory_at-sound at first frame bytes entries l.0 l.1 directory; breaks = b.2 })
 
 after-directory : (tags : List (List ℕ)) (first : Bool) (at : ℕ) (bytes : List ℕ) (fault : FileFault) (frame : Frame) → record_at tags first at bytes ≡ Err fault
     → leader_at first at bytes ≡ Ok frame → (r : Result (List Entry) FileFault) → directory_at at frame bytes ≡ r → HasFrameFault tags first at bytes fault

@@ -77,16 +77,16 @@ descriptors_in-fault law frame bytes [] fault h = absurd cc
 descriptors_in-fault law frame bytes (entry ∷ entries) fault h =
     elim (err_bind (or_fault (Descriptor entry.tag) (descriptor_of (field_bytes frame bytes entry))) (λ layout. descriptors_in frame bytes entries >>= λ pairs. Ok ((entry.tag, layout) ∷ pairs)) fault h) [
       | inl bad ↦
-        (let p = or_fault-none (Descriptor entry.tag) fault (descriptor_of (field_bytes frame bytes entry)) bad in
-        (0, entry, first-here (Describes frame bytes) entry entries (λ d. (let some = (law (field_bytes frame bytes entry) d.0).1 d.1 in let no : None ≡ Some d.0 = sym p.0 ∙ some in cc)), sym p.1))
+          (let p = or_fault-none (Descriptor entry.tag) fault (descriptor_of (field_bytes frame bytes entry)) bad in
+          (0, entry, first-here (Describes frame bytes) entry entries (λ d. (let some = (law (field_bytes frame bytes entry) d.0).1 d.1 in let no : None ≡ Some d.0 = sym p.0 ∙ some in cc)), sym p.1))
       | inr good ↦
-        elim (err_bind (descriptors_in frame bytes entries) (λ pairs. Ok ((entry.tag, good.0) ∷ pairs)) fault good.2) [
-          | inl later ↦
-            (let p = descriptors_in-fault law frame bytes entries fault later in
-            let layout = or_fault-some (Descriptor entry.tag) (descriptor_of (field_bytes frame bytes entry)) good.0 good.1 in
-            (suc p.0, p.1, first-later (Describes frame bytes) entry entries p.0 p.1 (good.0, (law (field_bytes frame bytes entry) good.0).0 layout) p.2, p.3))
-          | inr none ↦ absurd (let no = none.2 in cc)
-        ]
+          elim (err_bind (descriptors_in frame bytes entries) (λ pairs. Ok ((entry.tag, good.0) ∷ pairs)) fault good.2) [
+            | inl later ↦
+                (let p = descriptors_in-fault law frame bytes entries fault later in
+                let layout = or_fault-some (Descriptor entry.tag) (descriptor_of (field_bytes frame bytes entry)) good.0 good.1 in
+                (suc p.0, p.1, first-later (Describes frame bytes) entry entries p.0 p.1 (good.0, (law (field_bytes frame bytes entry) good.0).0 layout) p.2, p.3))
+            | inr none ↦ absurd (let no = none.2 in cc)
+          ]
     ]
 
 descriptors_in-front : SpellingLaw → (frame : Frame) (bytes : List ℕ) (before after : List Entry) (entry : Entry) → AllByRecursion (Describes frame bytes) before → ¬ Describes frame bytes entry
@@ -108,12 +108,13 @@ descriptors_in-faulty law frame bytes entries count entry f = ap (descriptors_in
 pub is_described-test : (tags : List (List ℕ)) (descriptors : List (List ℕ × Layout)) → IsTest (is_described tags descriptors) (IsDescribed tags descriptors)
 is_described-test tags descriptors = record {
   yes = λ entry. yes (is_listed tags entry.tag) (is_some (layout_at descriptors entry.tag));
-  no = λ entry. no (is_listed tags entry.tag) (is_some (layout_at descriptors entry.tag))
+  no = λ entry. no (is_listed tags entry.tag) (is_some (layout_at descriptors entry.tag));
 }
   where
     yes : (listed some : Bool) → (not listed || some) ≡ true → IsTrue listed → some ≡ true
     yes true some e l = e
     yes false some e l = absurd cc
+
     no : (listed some : Bool) → (not listed || some) ≡ false → (IsTrue listed → some ≡ true) → ⊥
     no true some e h = let yes = h refl in let bad : true ≡ false = sym yes ∙ e in cc
     no false some e h = cc

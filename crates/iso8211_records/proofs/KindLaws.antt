@@ -110,7 +110,7 @@ descriptive_record_at-is tags bytes pairs rest h =
       framed = p.0;
       is_framed = p.1;
       describe = q.1 ∙ ap (λ (x : List (List ℕ × Layout) × List ℕ). Ok x.0) is;
-      rest_is = ap (λ (x : List (List ℕ × Layout) × List ℕ). x.1) is
+      rest_is = ap (λ (x : List (List ℕ × Layout) × List ℕ). x.1) is;
     }
 
 pub descriptive-shorter : (tags : List (List ℕ)) (bytes : List ℕ) (pairs : List (List ℕ × Layout)) (rest : List ℕ) → descriptive_record_at tags bytes ≡ Ok (pairs, rest) → length rest ≤ length bytes
@@ -127,9 +127,12 @@ descriptive-listed tags bytes pairs rest h =
 values_by-some : (number : ℕ) (tag : List ℕ) (o : Option Layout) (bytes : List ℕ) (values : List Value) → or_fault (Subfield number tag) (values_by o bytes) ≡ Ok values → (layout : Layout) × (o ≡ Some layout) × FitsLayout layout values
 unfolding values_by
 values_by-some number tag None bytes values h = absurd cc
-values_by-some number tag (Some layout) bytes values h =
-    (layout, refl, let text = values_of-sound (formats_in layout) (take (length bytes - 1) bytes) values (or_fault-ok (Subfield number tag) (values_of (formats_in layout) (take (length bytes - 1) bytes)) values h) in
-      (text.0, AreSpelled-kinds (with_groups text.0 (formats_in layout)) values (take (length bytes - 1) bytes) text.1))
+values_by-some number tag (Some layout) bytes values h = (
+  layout,
+  refl,
+  let text = values_of-sound (formats_in layout) (take (length bytes - 1) bytes) values (or_fault-ok (Subfield number tag) (values_of (formats_in layout) (take (length bytes - 1) bytes)) values h) in
+      (text.0, AreSpelled-kinds (with_groups text.0 (formats_in layout)) values (take (length bytes - 1) bytes) text.1),
+)
   where
     or_fault-ok : (fault : FileFault) (o : Option (List Value)) (values : List Value) → or_fault fault o ≡ Ok values → o ≡ Some values
     or_fault-ok fault None values h = absurd cc
@@ -142,18 +145,18 @@ field_by-fits tags pairs number tag bytes field listed h =
     elim (is_listed tags tag)
     as (λ b. is_listed tags tag ≡ b → cond b (or_fault (Subfield number tag) (values_by (layout_at pairs tag) bytes) >>= λ values. Ok (record { tag = tag; values = values })) (Ok (record { tag = tag; values = [] })) ≡ Ok field → FitsTag pairs field) [
       | true ↦ λ e k.
-        (let p = bind_ok (or_fault (Subfield number tag) (values_by (layout_at pairs tag) bytes)) (λ values. Ok (record { tag = tag; values = values })) field k in
-        let found : RawField = record { tag = tag; values = p.0 } in
-        let is : found ≡ field = cc in
-        let fits = values_by-some number tag (layout_at pairs tag) bytes p.0 p.1 in
-        subst (λ (f : RawField). FitsTag pairs f) is
-        (subst (λ (o : Option Layout). MatchOption o (p.0 ≡ []) (λ layout. FitsLayout layout p.0)) (sym fits.1) fits.2))
+          (let p = bind_ok (or_fault (Subfield number tag) (values_by (layout_at pairs tag) bytes)) (λ values. Ok (record { tag = tag; values = values })) field k in
+          let found : RawField = record { tag = tag; values = p.0 } in
+          let is : found ≡ field = cc in
+          let fits = values_by-some number tag (layout_at pairs tag) bytes p.0 p.1 in
+          subst (λ (f : RawField). FitsTag pairs f) is
+          (subst (λ (o : Option Layout). MatchOption o (p.0 ≡ []) (λ layout. FitsLayout layout p.0)) (sym fits.1) fits.2))
       | false ↦ λ e k.
-        (let found : RawField = record { tag = tag; values = [] } in
-        let is : found ≡ field = cc in
-        let none = layout_at-unlisted tags pairs tag listed e in
-        subst (λ (f : RawField). FitsTag pairs f) is
-        (subst (λ (o : Option Layout). MatchOption o (found.values ≡ []) (λ layout. FitsLayout layout found.values)) (sym none) refl))
+          (let found : RawField = record { tag = tag; values = [] } in
+          let is : found ≡ field = cc in
+          let none = layout_at-unlisted tags pairs tag listed e in
+          subst (λ (f : RawField). FitsTag pairs f) is
+          (subst (λ (o : Option Layout). MatchOption o (found.values ≡ []) (λ layout. FitsLayout layout found.values)) (sym none) refl))
     ] refl h
 
 fields_of-fit : (tags : List (List ℕ)) (pairs : List (List ℕ × Layout)) (number : ℕ) (frame : Frame) (bytes : List ℕ) (entries : List Entry) (fields : List RawField) → AllByRecursion (λ (p : List ℕ × Layout). is_listed tags p.0 ≡ true) pairs
@@ -176,10 +179,11 @@ records-fit (suc bound) tags pairs number at [] records listed h = let none : re
 records-fit zero tags pairs number at (byte ∷ bytes) records listed h = absurd cc
 records-fit (suc bound) tags pairs number at (byte ∷ bytes) records listed h =
     let p = bind_ok (data_record_at tags pairs number at (byte ∷ bytes))
-      (λ first. data_records_at bound tags pairs (number + 1) (at + first.1) (drop first.1 (byte ∷ bytes)) >>= λ others. Ok (first.0 ∷ others)) records h in
+    (λ first. data_records_at bound tags pairs (number + 1) (at + first.1) (drop first.1 (byte ∷ bytes)) >>= λ others. Ok (first.0 ∷ others)) records h in
     let q = bind_ok (data_records_at bound tags pairs (number + 1) (at + p.0.1) (drop p.0.1 (byte ∷ bytes))) (λ others. Ok (p.0.0 ∷ others)) records p.2 in
     let is : p.0.0 ∷ q.0 ≡ records = cc in
     let first = data_record_at-is tags pairs number at (byte ∷ bytes) p.0.0 p.0.1 p.1 in
-    subst (λ (rs : List (List RawField)). KeepsKinds pairs rs) is
-    (fields_of-fit tags pairs number first.framed.frame (byte ∷ bytes) first.framed.entries p.0.0 listed first.has_fields,
-      records-fit bound tags pairs (number + 1) (at + p.0.1) (drop p.0.1 (byte ∷ bytes)) q.0 listed q.1)
+    subst (λ (rs : List (List RawField)). KeepsKinds pairs rs) is (
+      fields_of-fit tags pairs number first.framed.frame (byte ∷ bytes) first.framed.entries p.0.0 listed first.has_fields,
+      records-fit bound tags pairs (number + 1) (at + p.0.1) (drop p.0.1 (byte ∷ bytes)) q.0 listed q.1,
+    )

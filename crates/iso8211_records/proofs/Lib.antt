@@ -17,3 +17,5 @@ mod Firsts
 mod FrameLaws
 mod HoldLaws
 mod DataLaws
+mod FileLaws
+mod Answering

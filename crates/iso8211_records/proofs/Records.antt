@@ -34,7 +34,7 @@ pub record_at-is : (tags : List (List ℕ)) (first : Bool) (at : ℕ) (bytes : L
 unfolding record_at leader_at
 record_at-is tags first at bytes framed h =
     let p = bind_ok (leader_at first at bytes)
-      (λ frame. directory_at at frame bytes >>= λ entries. spans_at at frame bytes entries >>= λ _. ends_at tags at frame bytes entries >>= λ _. Ok (record { frame = frame; entries = entries })) framed h in
+    (λ frame. directory_at at frame bytes >>= λ entries. spans_at at frame bytes entries >>= λ _. ends_at tags at frame bytes entries >>= λ _. Ok (record { frame = frame; entries = entries })) framed h in
     let l = cond_ok (is_leader first (take 24 bytes)) (Ok (frame_of (take 24 bytes))) (Leader at) p.0 p.1 in
     let frame_is : frame_of (take 24 bytes) ≡ p.0 = same_ok _ _ l.1 in
     let q = bind_ok (directory_at at p.0 bytes) (λ entries. spans_at at p.0 bytes entries >>= λ _. ends_at tags at p.0 bytes entries >>= λ _. Ok (record { frame = p.0; entries = entries })) framed p.2 in
@@ -62,9 +62,9 @@ pub data_record_at-is : (tags : List (List ℕ)) (descriptors : List (List ℕ �
 unfolding data_record_at
 data_record_at-is tags descriptors number at bytes fields size h =
     let p = bind_ok (record_at tags false at bytes)
-      (λ framed. unless_undescribed (first_without (is_described tags descriptors) framed.entries) >>= λ _. fields_of tags descriptors number framed.frame bytes framed.entries >>= λ fields. Ok (fields, framed.frame.length)) (fields, size) h in
+    (λ framed. unless_undescribed (first_without (is_described tags descriptors) framed.entries) >>= λ _. fields_of tags descriptors number framed.frame bytes framed.entries >>= λ fields. Ok (fields, framed.frame.length)) (fields, size) h in
     let q = bind_ok (unless_undescribed (first_without (is_described tags descriptors) p.0.entries))
-      (λ _. fields_of tags descriptors number p.0.frame bytes p.0.entries >>= λ fields. Ok (fields, p.0.frame.length)) (fields, size) p.2 in
+    (λ _. fields_of tags descriptors number p.0.frame bytes p.0.entries >>= λ fields. Ok (fields, p.0.frame.length)) (fields, size) p.2 in
     let r = bind_ok (fields_of tags descriptors number p.0.frame bytes p.0.entries) (λ fields. Ok (fields, p.0.frame.length)) (fields, size) q.2 in
     let pair : List RawField × ℕ = (r.0, p.0.frame.length) in
     let is : pair ≡ (fields, size) = same_ok pair (fields, size) r.2 in
@@ -73,7 +73,7 @@ data_record_at-is tags descriptors number at bytes fields size h =
       is_framed = record_at-is tags false at bytes p.0 p.1;
       described = q.1;
       has_fields = r.1 ∙ ap (λ (x : List RawField × ℕ). Ok x.0) is;
-      size_is = ap (λ (x : List RawField × ℕ). x.1) is
+      size_is = ap (λ (x : List RawField × ℕ). x.1) is;
     }
 
 pub data_record-size : (tags : List (List ℕ)) (descriptors : List (List ℕ × Layout)) (number at : ℕ) (bytes : List ℕ) (fields : List RawField) (size : ℕ) → data_record_at tags descriptors number at bytes ≡ Ok (fields, size)
@@ -105,12 +105,12 @@ records-bound zero other tags descriptors number at (byte ∷ bytes) enough enou
 records-bound (suc bound) zero tags descriptors number at (byte ∷ bytes) enough enough_too = absurd (omega arith)
 records-bound (suc bound) (suc other) tags descriptors number at (byte ∷ bytes) enough enough_too =
     after-record (data_record_at tags descriptors number at (byte ∷ bytes)) (λ fields size h.
-      let less = drop-shorter tags descriptors number at (byte ∷ bytes) fields size h in
-      records-bound bound other tags descriptors (number + 1) (at + size) (drop size (byte ∷ bytes)) (omega arith) (omega arith))
+    let less = drop-shorter tags descriptors number at (byte ∷ bytes) fields size h in
+    records-bound bound other tags descriptors (number + 1) (at + size) (drop size (byte ∷ bytes)) (omega arith) (omega arith))
   where
     after-record : (read : Result (List RawField × ℕ) FileFault)
-      → ((fields : List RawField) (size : ℕ) → read ≡ Ok (fields, size) → data_records_at bound tags descriptors (number + 1) (at + size) (drop size (byte ∷ bytes)) ≡ data_records_at other tags descriptors (number + 1) (at + size) (drop size (byte ∷ bytes)))
-      → (read >>= λ x. data_records_at bound tags descriptors (number + 1) (at + x.1) (drop x.1 (byte ∷ bytes)) >>= λ others. Ok (x.0 ∷ others))
+        → ((fields : List RawField) (size : ℕ) → read ≡ Ok (fields, size) → data_records_at bound tags descriptors (number + 1) (at + size) (drop size (byte ∷ bytes)) ≡ data_records_at other tags descriptors (number + 1) (at + size) (drop size (byte ∷ bytes)))
+        → (read >>= λ x. data_records_at bound tags descriptors (number + 1) (at + x.1) (drop x.1 (byte ∷ bytes)) >>= λ others. Ok (x.0 ∷ others))
         ≡ (read >>= λ x. data_records_at other tags descriptors (number + 1) (at + x.1) (drop x.1 (byte ∷ bytes)) >>= λ others. Ok (x.0 ∷ others))
     after-record (Err fault) same = refl
     after-record (Ok x) same = rw (same x.0 x.1 refl) refl
@@ -126,12 +126,12 @@ come_to-bound zero other tags descriptors number at (byte ∷ bytes) enough enou
 come_to-bound (suc bound) zero tags descriptors number at (byte ∷ bytes) enough enough_too = absurd (omega arith)
 come_to-bound (suc bound) (suc other) tags descriptors number at (byte ∷ bytes) enough enough_too =
     after-record (data_record_at tags descriptors number at (byte ∷ bytes)) (λ fields size h.
-      let less = drop-shorter tags descriptors number at (byte ∷ bytes) fields size h in
-      come_to-bound bound other tags descriptors (number + 1) (at + size) (drop size (byte ∷ bytes)) (omega arith) (omega arith))
+    let less = drop-shorter tags descriptors number at (byte ∷ bytes) fields size h in
+    come_to-bound bound other tags descriptors (number + 1) (at + size) (drop size (byte ∷ bytes)) (omega arith) (omega arith))
   where
     after-record : (read : Result (List RawField × ℕ) FileFault)
-      → ((fields : List RawField) (size : ℕ) → read ≡ Ok (fields, size) → come_to bound tags descriptors (number + 1) (at + size) (drop size (byte ∷ bytes)) ≡ come_to other tags descriptors (number + 1) (at + size) (drop size (byte ∷ bytes)))
-      → 1 + or_zero (λ (x : List RawField × ℕ). come_to bound tags descriptors (number + 1) (at + x.1) (drop x.1 (byte ∷ bytes))) read
+        → ((fields : List RawField) (size : ℕ) → read ≡ Ok (fields, size) → come_to bound tags descriptors (number + 1) (at + size) (drop size (byte ∷ bytes)) ≡ come_to other tags descriptors (number + 1) (at + size) (drop size (byte ∷ bytes)))
+        → 1 + or_zero (λ (x : List RawField × ℕ). come_to bound tags descriptors (number + 1) (at + x.1) (drop x.1 (byte ∷ bytes))) read
         ≡ 1 + or_zero (λ (x : List RawField × ℕ). come_to other tags descriptors (number + 1) (at + x.1) (drop x.1 (byte ∷ bytes))) read
     after-record (Err fault) same = refl
     after-record (Ok x) same = rw (same x.0 x.1 refl) refl
@@ -181,7 +181,7 @@ pub records-more : (tags : List (List ℕ)) (descriptors : List (List ℕ × Lay
 records-more tags descriptors front at bytes fields size total left h so_far =
     let next : length (front ++ fields ∷ []) + 1 ≡ length front + 1 + 1 = omega (arith, length-append front (fields ∷ [])) in
     rw next (sym (join front fields (data_records_at (length (drop size bytes)) tags descriptors (length front + 1 + 1) (at + size) (drop size bytes)))
-      ∙ ap (behind front) (sym (records-step tags descriptors (length front + 1) at bytes fields size left h)) ∙ so_far)
+    ∙ ap (behind front) (sym (records-step tags descriptors (length front + 1) at bytes fields size left h)) ∙ so_far)
 
 pub records-fail : (fault : FileFault) (tags : List (List ℕ)) (descriptors : List (List ℕ × Layout)) (front : List (List RawField)) (number at : ℕ) (bytes : List ℕ) (total : Result (List (List RawField)) FileFault)
     → 0 < length bytes → Fails fault (data_record_at tags descriptors number at bytes)

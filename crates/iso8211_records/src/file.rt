@@ -12,6 +12,7 @@ use crate::data::read_data_record;
 use crate::descriptive::read_descriptive_record;
 use crate::descriptors::DescriptorMap;
 use crate::fault::FileFault;
+use crate::laws::{faults_each, reads_each};
 use crate::record::{RawList, RecordFile};
 use chart_ports::Steps;
 use std::alloc::Global;
@@ -43,6 +44,8 @@ pub fn read_file<C: Ledger>(
     ensures come_to { result ≢ Err FileFault.NoMemory → steps.new ≡ steps.old + data_records_in tags.now bytes.now }
     ensures at_most { steps.new ≤ steps.old + data_records_in tags.now bytes.now }
 {
+    reads_each();
+    faults_each();
     read_all(alloc, bytes, tags, steps)
 }
 

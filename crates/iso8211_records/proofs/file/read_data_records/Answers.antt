@@ -17,10 +17,10 @@ pub returns-in_err-record-clause-come_to : goal.returns-in_err-record-clause-com
 returns-in_err-record-clause-come_to g c =
     let p = err_from_is_err_and c.from_residual.result c.from_residual.ensures.1 in
     λ other.
-      let last = come_to-failed _ _ _ _ _ _ (empty-false _ c.loop-rest-test.ensures) (rw c.as_slice.ensures at c.in_err-record.ensures.read)
-        (λ out_of_memory. other (p.1 ∙ ap (λ (fault : FileFault). Err fault) (p.2 ∙ out_of_memory))) in
-      let so_far = c.loop-rest.invariant.steps in
-      omega arith
+    let last = come_to-failed _ _ _ _ _ _ (empty-false _ c.loop-rest-test.ensures) (rw c.as_slice.ensures at c.in_err-record.ensures.read)
+    (λ out_of_memory. other (p.1 ∙ ap (λ (fault : FileFault). Err fault) (p.2 ∙ out_of_memory))) in
+    let so_far = c.loop-rest.invariant.steps in
+    omega arith
 
 pub returns-in_err-record-clause-at_most : goal.returns-in_err-record-clause-at_most
 returns-in_err-record-clause-at_most g c =
@@ -42,7 +42,7 @@ loop-rest-preserved g c =
     record {
       place = let within = c.in_ok-record.ensures.within in let so_far_place = c.loop-rest.invariant.place in let len = c.split_at.ensures.back_len in omega arith;
       read = rw (c.in_ok-push.ensures.ok, c.split_at.ensures.back) (records-more _ _ _ _ _ _ _ _ (empty-false _ c.loop-rest-test.ensures) one c.loop-rest.invariant.read);
-      steps = rw (c.in_ok-push.ensures.ok, c.split_at.ensures.back) (omega arith)
+      steps = rw (c.in_ok-push.ensures.ok, c.split_at.ensures.back) (omega arith);
     }
 
 pub returns-clause-come_to : goal.returns-clause-come_to
