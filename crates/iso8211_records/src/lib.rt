@@ -21,3 +21,6 @@ pub use file::read_file;
 pub use laws::{faults_each, never_both, one_fault, one_reading, reads_each};
 pub use record::{RawField, RawList, RawRecord, RecordFile};
 pub use value::{Value, ValueList};
+
+#[cfg(test)]
+mod tests;
