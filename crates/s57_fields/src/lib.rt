@@ -31,6 +31,6 @@ pub use lists::{
 pub use name::{ObjectName, RecordName};
 pub use number::{FourBytes, OneByte, TwoBytes};
 pub use row_fields::RowFields;
-pub use signed::Within;
+pub use signed::{Depth, Within};
 pub use subfield::{Place, Subfield};
 pub use text::{DataSetName, EightBytes, NineDigits, PlainText, key_in};
