@@ -105,11 +105,7 @@ impl DsidRow {
     ///
     /// The first `MissingField` or `Value` in the order of the row; `NoMemory`.
     #[tactic(auto, unfolding(crate::specs::General::dsid_in))]
-    pub fn read(
-        &self,
-        alloc: Global,
-        values: &RowFields<'_>,
-    ) -> Result<Dsid, FieldFault>
+    pub fn read(&self, alloc: Global, values: &RowFields<'_>) -> Result<Dsid, FieldFault>
         ensures found { Gives result (dsid_in self.now values.now) }
         ensures key { IfOk result (λ dsid. IsKey (key_in dsid.dsnm)) }
         ensures edition { IfOk result (λ dsid. dsid.edtn ≤ 999999999) }
@@ -150,17 +146,11 @@ impl DssiRow {
     ///
     /// The first `MissingField` or `Value` in the order of the row; `NoMemory`.
     #[tactic(auto, unfolding(crate::specs::General::dssi_in))]
-    pub fn read(
-        &self,
-        alloc: Global,
-        values: &RowFields<'_>,
-    ) -> Result<Dssi, FieldFault>
+    pub fn read(&self, alloc: Global, values: &RowFields<'_>) -> Result<Dssi, FieldFault>
         ensures found { Gives result (dssi_in self.now values.now) }
     {
         let aall = self.aall.once(alloc, values, &OneByte)?;
-        Ok(Dssi {
-            aall,
-        })
+        Ok(Dssi { aall })
     }
 }
 
@@ -186,11 +176,7 @@ impl DspmRow {
     ///
     /// The first `MissingField` or `Value` in the order of the row; `NoMemory`.
     #[tactic(auto, unfolding(crate::specs::General::dspm_in))]
-    pub fn read(
-        &self,
-        alloc: Global,
-        values: &RowFields<'_>,
-    ) -> Result<Dspm, FieldFault>
+    pub fn read(&self, alloc: Global, values: &RowFields<'_>) -> Result<Dspm, FieldFault>
         ensures found { Gives result (dspm_in self.now values.now) }
     {
         let cscl = self.cscl.once(alloc, values, &FourBytes)?;

@@ -208,20 +208,12 @@ impl FoidRow {
     ///
     /// The first `MissingField` or `Value` in the order of the row; `NoMemory`.
     #[tactic(auto, unfolding(crate::specs::Identifiers::foid_of))]
-    pub fn read(
-        &self,
-        alloc: Global,
-        values: &RowFields<'_>,
-    ) -> Result<Foid, FieldFault>
+    pub fn read(&self, alloc: Global, values: &RowFields<'_>) -> Result<Foid, FieldFault>
         ensures found { Gives result (foid_of self.now values.now) }
     {
         let agen = self.agen.once(alloc, values, &TwoBytes)?;
         let fidn = self.fidn.once(alloc, values, &FourBytes)?;
         let fids = self.fids.once(alloc, values, &TwoBytes)?;
-        Ok(Foid {
-            agen,
-            fidn,
-            fids,
-        })
+        Ok(Foid { agen, fidn, fids })
     }
 }

@@ -30,7 +30,6 @@ const LATITUDE: u32 = 900_000_000;
 /// The greatest longitude, in degrees times 10,000,000.
 const LONGITUDE: u32 = 1_800_000_000;
 
-
 /// A row ATTV or ATTF as it stands in a file's descriptor.
 #[derive(Clone, Copy, Debug)]
 pub struct AttributeRow {
@@ -89,16 +88,14 @@ pub struct RelatedRow {
 }
 
 /// Each code with the text beside it.
-fn attributes(
-    alloc: Global,
-    codes: Vec<u16>,
-    texts: Vec<Octets>,
-) -> Result<AttrList, AllocError>
+fn attributes(alloc: Global, codes: Vec<u16>, texts: Vec<Octets>) -> Result<AttrList, AllocError>
     requires { All IsPlainText texts.items }
     ensures joined { IfOk result (λ joined. joined ≡ attributes codes.items texts.items) }
     ensures plain { IfOk result (λ attrs. All (λ attr. IsPlainText attr.value) attrs) }
 {
-    let joined = codes.into_iter().zip(texts)
+    let joined = codes
+        .into_iter()
+        .zip(texts)
         .map(|(code, value)| Attr { code, value })
         .collect(alloc)?;
     Ok(AttrList::from_vec(joined))
@@ -223,8 +220,19 @@ fn vector_pointers(
 ) -> Result<Pointers, AllocError>
     ensures { IfOk result (λ joined. joined ≡ vector_pointers names.items ornts.items usags.items topis.items masks.items) }
 {
-    let joined = names.into_iter().zip(ornts).zip(usags).zip(topis).zip(masks)
-        .map(|((((target, ornt), usag), topi), mask)| Pointer { target, ornt, usag, topi, mask })
+    let joined = names
+        .into_iter()
+        .zip(ornts)
+        .zip(usags)
+        .zip(topis)
+        .zip(masks)
+        .map(|((((target, ornt), usag), topi), mask)| Pointer {
+            target,
+            ornt,
+            usag,
+            topi,
+            mask,
+        })
         .collect(alloc)?;
     Ok(Pointers::from_vec(joined))
 }
@@ -285,8 +293,18 @@ fn feature_pointers(
     ensures joined { IfOk result (λ joined. joined ≡ feature_pointers names.items ornts.items usags.items masks.items) }
     ensures topi { IfOk result (λ pointers. All (λ pointer. pointer.topi ≡ 255) pointers) }
 {
-    let joined = names.into_iter().zip(ornts).zip(usags).zip(masks)
-        .map(|(((target, ornt), usag), mask)| Pointer { target, ornt, usag, topi: 255, mask })
+    let joined = names
+        .into_iter()
+        .zip(ornts)
+        .zip(usags)
+        .zip(masks)
+        .map(|(((target, ornt), usag), mask)| Pointer {
+            target,
+            ornt,
+            usag,
+            topi: 255,
+            mask,
+        })
         .collect(alloc)?;
     Ok(Pointers::from_vec(joined))
 }
@@ -337,17 +355,15 @@ impl FeaturePointerRow {
 }
 
 /// Each latitude with the longitude beside it.
-fn coordinates(
-    alloc: Global,
-    ys: Vec<i32>,
-    xs: Vec<i32>,
-) -> Result<Coords, AllocError>
+fn coordinates(alloc: Global, ys: Vec<i32>, xs: Vec<i32>) -> Result<Coords, AllocError>
     requires latitudes { All (IsWithin LATITUDE) ys.items }
     requires longitudes { All (IsWithin LONGITUDE) xs.items }
     ensures joined { IfOk result (λ joined. joined ≡ coordinates ys.items xs.items) }
     ensures coords { IfOk result AreCoords }
 {
-    let joined = ys.into_iter().zip(xs)
+    let joined = ys
+        .into_iter()
+        .zip(xs)
         .map(|(y, x)| Coord { x, y, z: None })
         .collect(alloc)?;
     Ok(Coords::from_vec(joined))
@@ -389,7 +405,9 @@ impl CoordinateRow {
         ensures coords { IfOk result AreCoords }
     {
         let ys = self.ycoo.column(alloc, values, &Within { most: LATITUDE })?;
-        let xs = self.xcoo.column(alloc, values, &Within { most: LONGITUDE })?;
+        let xs = self
+            .xcoo
+            .column(alloc, values, &Within { most: LONGITUDE })?;
         Ok(coordinates(alloc, ys, xs)?)
     }
 }
@@ -407,8 +425,15 @@ fn soundings(
     ensures joined { IfOk result (λ joined. joined ≡ soundings ys.items xs.items depths.items) }
     ensures coords { IfOk result AreCoords }
 {
-    let joined = ys.into_iter().zip(xs).zip(depths)
-        .map(|((y, x), depth)| Coord { x, y, z: Some(depth) })
+    let joined = ys
+        .into_iter()
+        .zip(xs)
+        .zip(depths)
+        .map(|((y, x), depth)| Coord {
+            x,
+            y,
+            z: Some(depth),
+        })
         .collect(alloc)?;
     Ok(Coords::from_vec(joined))
 }
@@ -450,21 +475,21 @@ impl SoundingRow {
         ensures coords { IfOk result AreCoords }
     {
         let ys = self.ycoo.column(alloc, values, &Within { most: LATITUDE })?;
-        let xs = self.xcoo.column(alloc, values, &Within { most: LONGITUDE })?;
+        let xs = self
+            .xcoo
+            .column(alloc, values, &Within { most: LONGITUDE })?;
         let depths = self.ve3d.column(alloc, values, &Depth)?;
         Ok(soundings(alloc, ys, xs, depths)?)
     }
 }
 
 /// Each identifier with the relationship beside it.
-fn related(
-    alloc: Global,
-    foids: Vec<Foid>,
-    rinds: Vec<u8>,
-) -> Result<RelatedList, AllocError>
+fn related(alloc: Global, foids: Vec<Foid>, rinds: Vec<u8>) -> Result<RelatedList, AllocError>
     ensures { IfOk result (λ joined. joined ≡ related foids.items rinds.items) }
 {
-    let joined = foids.into_iter().zip(rinds)
+    let joined = foids
+        .into_iter()
+        .zip(rinds)
         .map(|(foid, rind)| Related { foid, rind })
         .collect(alloc)?;
     Ok(RelatedList::from_vec(joined))

@@ -11,14 +11,14 @@ pub returns-clause-joined : goal.returns-clause-joined
 returns-clause-joined c =
     c.from_vec.ensures
     ∙ subst (λ r. IfOk r (λ joined. joined.items ≡ coordinates c.args.ys.items c.args.xs.items)) c.in_ok-joined.was
-      (items_from_collect c.collect.result c.collect.ensures.ran
-        (YieldsList-from_map _ (λ it. record { x = it.1; y = it.0; z = None })
-          (YieldsList-at c.map.ensures.source
-            (YieldsList-from_zip
-              (YieldsList-at c.zip.ensures.first (YieldsList-from_vec c.args.ys.items c.into_iter.ensures.rest (c.into_iter.ensures.len ∙ c.args.ys.ok.0)))
-              (YieldsList-from_vec c.args.xs.items c.zip.ensures.second.0 (c.zip.ensures.second.1 ∙ c.args.xs.ok.0))))
-          c.map.ensures.closure
-          (λ x r q k. search (rules, tests))))
+    (items_from_collect c.collect.result c.collect.ensures.ran
+    (YieldsList-from_map _ (λ it. record { x = it.1; y = it.0; z = None })
+    (YieldsList-at c.map.ensures.source
+    (YieldsList-from_zip
+    (YieldsList-at c.zip.ensures.first (YieldsList-from_vec c.args.ys.items c.into_iter.ensures.rest (c.into_iter.ensures.len ∙ c.args.ys.ok.0)))
+    (YieldsList-from_vec c.args.xs.items c.zip.ensures.second.0 (c.zip.ensures.second.1 ∙ c.args.xs.ok.0))))
+    c.map.ensures.closure
+    (λ x r q k. search (rules, tests))))
 
 pub returns-clause-coords : goal.returns-clause-coords
 returns-clause-coords c =
