@@ -1,0 +1,6 @@
+pub mod Subfields
+pub mod Rows
+pub mod Dataset
+pub mod Readings
+pub mod Answers
+pub mod Reading

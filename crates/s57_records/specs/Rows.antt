@@ -1,0 +1,218 @@
+-- What one data record stands for (S-57 Part 3; Appendix B.1): its fields in their order, each with its subfields in
+-- their order, and with the tests of the profile and of the lists of values in their places.
+use Rattle.std.specs.Prelude.{◌≡◌, ℕ, ◌-◌, ◌^◌, Bool, true, false, not, ◌&&◌, ◌||◌, ◌==◌, nat_le, if◌then◌else◌, List, [], ◌++◌, codes, Option, Some, None, Result, Ok, Err}
+use Rattle.std.specs.Int.{is_in_range}
+use Rattle.chart_model.specs.declared.name.Name.{Name}
+use Rattle.chart_model.specs.declared.name.Foid.{Foid}
+use Rattle.chart_model.specs.declared.update_record.Control.{Control}
+use Rattle.chart_model.specs.Change.{Change}
+use Rattle.chart_model.specs.declared.record.Coord.{Coord}
+use Rattle.s57_records.specs.declared.general.General.{General}
+use Rattle.s57_records.specs.declared.change.VectorHead.{VectorHead}
+use Rattle.s57_records.specs.declared.change.FeatureHead.{FeatureHead}
+use Rattle.s57_records.specs.declared.fault.DatasetFault.{DatasetFault}
+use Rattle.s57_records.specs.declared.fault.DatasetFault.TheVariants.{MissingField, Value, Profile}
+use Rattle.s57_records.specs.Subfields.{Subfields}
+
+infixl 10 ◌>>=◌
+abbrev pub ◌>>=◌ : {A B : Type 0} → Result A DatasetFault → (A → Result B DatasetFault) → Result B DatasetFault
+(Ok x) >>= f = f x
+(Err e) >>= f = Err e
+
+-- the fault where the test fails
+abbrev pub ensure : Bool → DatasetFault → Result (Unit {0}) DatasetFault
+ensure test fault = if test then Ok tt else Err fault
+
+abbrev pub one_byte : ℕ
+one_byte = 255
+
+abbrev pub two_bytes : ℕ
+two_bytes = 65535
+
+abbrev pub four_bytes : ℕ
+four_bytes = 2 ^ 32 - 1
+
+-- whether a subfield reads as this number
+abbrev pub reads_as : Result ℕ DatasetFault → ℕ → Bool
+reads_as (Ok n) m = n == m
+reads_as (Err fault) m = false
+
+-- ---- general information
+
+-- an edition of 0 is refused in a base file
+abbrev pub checked_edition : Subfields → ℕ → Result (Unit {0}) DatasetFault
+checked_edition s edition = ensure (not (edition == 0 && reads_as (s.number (codes "DSID") (codes "PROF") one_byte) 1)) (Profile (codes "EDTN"))
+
+-- DSID: PROF is 1 for a base file, whose edition isn't 0, and 2 for an update
+unfoldable pub general_of : Subfields → Result General DatasetFault
+general_of s = do
+  key ← s.key (codes "DSID") (codes "DSNM")
+  edition ← s.digits (codes "DSID") (codes "EDTN")
+  _ ← checked_edition s edition
+  update ← s.digits (codes "DSID") (codes "UPDN")
+  issued ← s.date (codes "DSID") (codes "ISDT")
+  prof ← s.number (codes "DSID") (codes "PROF") one_byte
+  _ ← ensure (prof == 1 || prof == 2) (Profile (codes "PROF"))
+  agency ← s.number (codes "DSID") (codes "AGEN") two_bytes
+  Ok (record { key = key; edition = edition; update = update; issued = issued; base = prof == 1; agency = agency })
+
+-- DSSI, where it is there: AALL is 0 or 1
+unfoldable pub checked_structure : Subfields → Result (Unit {0}) DatasetFault
+checked_structure s =
+    if s.has (codes "DSSI") then (do
+      aall ← s.number (codes "DSSI") (codes "AALL") one_byte
+      ensure (nat_le aall 1) (Profile (codes "AALL")))
+    else Ok tt
+
+-- DSPM of a base file: the denominator of the scale. Depths are in metres, coordinates in degrees times 10,000,000,
+-- soundings in decimetres
+unfoldable pub scale_of : Subfields → Result ℕ DatasetFault
+scale_of s = do
+  scale ← s.number (codes "DSPM") (codes "CSCL") four_bytes
+  duni ← s.number (codes "DSPM") (codes "DUNI") one_byte
+  _ ← ensure (duni == 1) (Profile (codes "DUNI"))
+  coun ← s.number (codes "DSPM") (codes "COUN") one_byte
+  _ ← ensure (coun == 1) (Profile (codes "COUN"))
+  comf ← s.number (codes "DSPM") (codes "COMF") four_bytes
+  _ ← ensure (comf == 10000000) (Profile (codes "COMF"))
+  somf ← s.number (codes "DSPM") (codes "SOMF") four_bytes
+  _ ← ensure (somf == 10) (Profile (codes "SOMF"))
+  Ok scale
+
+-- ---- changes
+
+abbrev pub is_instruction : ℕ → Bool
+is_instruction n = is_in_range 1 3 n
+
+-- the instruction of a record: insert in a base file, and in an update RUIN, which is 1, 2 or 3
+unfoldable pub ruin_of : Bool → ℕ → Subfields → List ℕ → Result ℕ DatasetFault
+ruin_of base n s tag =
+    if base then Ok 1 else (do
+      ruin ← s.number tag (codes "RUIN") one_byte
+      _ ← ensure (is_instruction ruin) (Value n (codes "RUIN"))
+      Ok ruin)
+
+-- the lists of a deletion aren't looked at
+abbrev pub unless_deleted : {A : Type 0} → ℕ → Result (List A) DatasetFault → Result (List A) DatasetFault
+unless_deleted ruin items = if ruin == 2 then Ok [] else items
+
+-- The control field of a list: the labels are those of its instruction, its index and its count. It is looked at in
+-- the modifications of an update alone.
+unfoldable pub edit_of : Bool → ℕ → ℕ → Subfields → List ℕ → List ℕ → List ℕ → List ℕ → Result (Option Control) DatasetFault
+edit_of base ruin n s tag instruction_label index_label count_label =
+    if not base && (ruin == 3 && s.has tag) then (do
+      instruction ← s.number tag instruction_label one_byte
+      _ ← ensure (is_instruction instruction) (Value n instruction_label)
+      index ← s.number tag index_label two_bytes
+      count ← s.number tag count_label two_bytes
+      Ok (Some (record { instruction = instruction; index = index; count = count })))
+    else Ok None
+
+abbrev pub is_vector_kind : ℕ → Bool
+is_vector_kind rcnm = rcnm == 110 || (rcnm == 120 || rcnm == 130)
+
+-- VRID
+unfoldable pub vector_head : Bool → ℕ → Subfields → Result VectorHead DatasetFault
+vector_head base n s = do
+  rcnm ← s.number (codes "VRID") (codes "RCNM") one_byte
+  _ ← ensure (is_vector_kind rcnm) (Profile (codes "RCNM"))
+  rcid ← s.number (codes "VRID") (codes "RCID") four_bytes
+  version ← s.number (codes "VRID") (codes "RVER") two_bytes
+  ruin ← ruin_of base n s (codes "VRID")
+  Ok (record { target = record { rcnm = rcnm; rcid = rcid }; version = version; ruin = ruin })
+
+-- SG2D and SG3D, of which a record has one at most
+unfoldable pub coords_of : ℕ → Subfields → Result (List Coord) DatasetFault
+coords_of ruin s = do
+  flat ← unless_deleted ruin (s.coords (codes "SG2D"))
+  _ ← ensure (not (s.has (codes "SG2D") && s.has (codes "SG3D"))) (Profile (codes "SG3D"))
+  deep ← unless_deleted ruin (s.coords (codes "SG3D"))
+  Ok (flat ++ deep)
+
+-- VRID, ATTV, VRPC, VRPT, SGCC, SG2D and SG3D. A record has no ARCC.
+unfoldable pub vector_of : Bool → ℕ → Subfields → Result Change DatasetFault
+vector_of base n s = do
+  head ← vector_head base n s
+  attrs ← unless_deleted head.ruin (s.attrs (codes "ATTV"))
+  pointer_edit ← edit_of base head.ruin n s (codes "VRPC") (codes "VPUI") (codes "VPIX") (codes "NVPT")
+  pointers ← unless_deleted head.ruin (s.pointers (codes "VRPT"))
+  coord_edit ← edit_of base head.ruin n s (codes "SGCC") (codes "CCUI") (codes "CCIX") (codes "CCNC")
+  coords ← coords_of head.ruin s
+  _ ← ensure (not (s.has (codes "ARCC"))) (Profile (codes "ARCC"))
+  Ok (record {
+    target = head.target;
+    ruin = head.ruin;
+    version = head.version;
+    prim = 0;
+    grup = 0;
+    class = 0;
+    foid = None;
+    attrs = attrs;
+    pointer_edit = pointer_edit;
+    pointers = pointers;
+    coord_edit = coord_edit;
+    coords = coords;
+    related_edit = None;
+    related = [];
+  })
+
+-- a point, a line, an area or none of these
+abbrev pub is_prim : ℕ → Bool
+is_prim prim = is_in_range 1 3 prim || prim == 255
+
+-- whether the record inserts: each does in a base file
+abbrev pub inserts : Bool → Subfields → Bool
+inserts base s = base || reads_as (s.number (codes "FRID") (codes "RUIN") one_byte) 1
+
+-- the primitive of an insertion is one of the list
+abbrev pub checked_prim : Bool → ℕ → Subfields → ℕ → Result (Unit {0}) DatasetFault
+checked_prim base n s prim = ensure (not (inserts base s) || is_prim prim) (Value n (codes "PRIM"))
+
+-- FOID, which an insertion needs
+unfoldable pub foid_of : ℕ → ℕ → Subfields → Result (Option Foid) DatasetFault
+foid_of ruin n s =
+    if s.has (codes "FOID") then (do
+      foid ← s.foid
+      Ok (Some foid))
+    else (if ruin == 1 then Err (MissingField n (codes "FOID")) else Ok None)
+
+-- FRID
+unfoldable pub feature_head : Bool → ℕ → Subfields → Result FeatureHead DatasetFault
+feature_head base n s = do
+  rcnm ← s.number (codes "FRID") (codes "RCNM") one_byte
+  _ ← ensure (rcnm == 100) (Profile (codes "RCNM"))
+  rcid ← s.number (codes "FRID") (codes "RCID") four_bytes
+  prim ← s.number (codes "FRID") (codes "PRIM") one_byte
+  _ ← checked_prim base n s prim
+  grup ← s.number (codes "FRID") (codes "GRUP") one_byte
+  class ← s.number (codes "FRID") (codes "OBJL") two_bytes
+  version ← s.number (codes "FRID") (codes "RVER") two_bytes
+  ruin ← ruin_of base n s (codes "FRID")
+  Ok (record { target = record { rcnm = rcnm; rcid = rcid }; prim = prim; grup = grup; class = class; version = version; ruin = ruin })
+
+-- FRID, FOID, ATTF, FFPC, FFPT, FSPC and FSPT
+unfoldable pub feature_of : Bool → ℕ → Subfields → Result Change DatasetFault
+feature_of base n s = do
+  head ← feature_head base n s
+  foid ← foid_of head.ruin n s
+  attrs ← unless_deleted head.ruin (s.attrs (codes "ATTF"))
+  related_edit ← edit_of base head.ruin n s (codes "FFPC") (codes "FFUI") (codes "FFIX") (codes "NFPT")
+  related ← unless_deleted head.ruin (s.related (codes "FFPT"))
+  pointer_edit ← edit_of base head.ruin n s (codes "FSPC") (codes "FSUI") (codes "FSIX") (codes "NSPT")
+  pointers ← unless_deleted head.ruin (s.pointers (codes "FSPT"))
+  Ok (record {
+    target = head.target;
+    ruin = head.ruin;
+    version = head.version;
+    prim = head.prim;
+    grup = head.grup;
+    class = head.class;
+    foid = foid;
+    attrs = attrs;
+    pointer_edit = pointer_edit;
+    pointers = pointers;
+    coord_edit = None;
+    coords = [];
+    related_edit = related_edit;
+    related = related;
+  })

@@ -1,0 +1,177 @@
+//! What a record's identifier and its control fields say.
+
+ghost use Rattle.std.specs.Prelude.{◌≡◌};
+ghost use Rattle.s57_records.specs.Answers.{Gives};
+ghost use Rattle.s57_records.specs.Rows.{ruin_of, edit_of, vector_head, feature_head, checked_prim, foid_of};
+ghost use Rattle.s57_records.specs.Reading.{reading};
+
+use crate::fault::DatasetFault;
+use crate::reader::DataRecord;
+use chart_model::{Control, Foid, Name};
+use s57_fields::labels::{GRUP, OBJL, PRIM, RCID, RCNM, RUIN, RVER};
+use s57_fields::tags::{FOID, FRID, VRID};
+use std::alloc::Global;
+
+/// The identifier of a vector record.
+#[derive(Clone, Copy, Debug)]
+pub(crate) struct VectorHead {
+    pub target: Name,
+    pub version: u16,
+    pub ruin: u8,
+}
+
+/// The identifier of a feature.
+#[derive(Clone, Copy, Debug)]
+pub(crate) struct FeatureHead {
+    pub target: Name,
+    pub prim: u8,
+    pub grup: u8,
+    pub class: u16,
+    pub version: u16,
+    pub ruin: u8,
+}
+
+/// Where a control field's subfields stand.
+#[derive(Clone, Copy, Debug)]
+pub(crate) struct ControlField {
+    pub tag: [u8; 4],
+    pub instruction: [u8; 4],
+    pub index: [u8; 4],
+    pub count: [u8; 4],
+}
+
+/// The update instruction: insert in a base file.
+#[tactic(auto, unfolding(crate::specs::Rows::ruin_of))]
+fn read_ruin(alloc: Global, fields: &DataRecord<'_>, base: bool, tag: [u8; 4]) -> Result<u8, DatasetFault>
+    ensures { Gives result (ruin_of base fields.now.number (reading fields.now) tag) }
+{
+    if base {
+        return Ok(1);
+    }
+    let ruin = fields.byte(alloc, tag, RUIN)?;
+    if ruin < 1 || ruin > 3 {
+        return Err(DatasetFault::Value {
+            record: fields.number,
+            label: RUIN,
+        });
+    }
+    Ok(ruin)
+}
+
+/// How a list is edited. The control field is looked at in the modifications of an update alone.
+#[tactic(auto, unfolding(crate::specs::Rows::edit_of))]
+pub(crate) fn read_edit(
+    alloc: Global,
+    fields: &DataRecord<'_>,
+    base: bool,
+    ruin: u8,
+    control: ControlField,
+) -> Result<Option<Control>, DatasetFault>
+    ensures { Gives result (edit_of base ruin fields.now.number (reading fields.now) control.tag control.instruction control.index control.count) }
+{
+    if base || ruin != 3 || !fields.has(control.tag) {
+        return Ok(None);
+    }
+    let instruction = fields.byte(alloc, control.tag, control.instruction)?;
+    if instruction < 1 || instruction > 3 {
+        let label = control.instruction;
+        return Err(DatasetFault::Value {
+            record: fields.number,
+            label,
+        });
+    }
+    let index = fields.short(alloc, control.tag, control.index)?;
+    let count = fields.short(alloc, control.tag, control.count)?;
+    Ok(Some(Control {
+        instruction,
+        index,
+        count,
+    }))
+}
+
+/// The identifier of a vector record.
+#[tactic(auto, unfolding(crate::specs::Rows::vector_head))]
+pub(crate) fn read_vector_head(
+    alloc: Global,
+    fields: &DataRecord<'_>,
+    base: bool,
+) -> Result<VectorHead, DatasetFault>
+    ensures { Gives result (vector_head base fields.now.number (reading fields.now)) }
+{
+    let rcnm = fields.byte(alloc, VRID, RCNM)?;
+    if rcnm != 110 && rcnm != 120 && rcnm != 130 {
+        return Err(DatasetFault::Profile(RCNM));
+    }
+    let rcid = fields.long(alloc, VRID, RCID)?;
+    let version = fields.short(alloc, VRID, RVER)?;
+    let ruin = read_ruin(alloc, fields, base, VRID)?;
+    Ok(VectorHead {
+        target: Name { rcnm, rcid },
+        version,
+        ruin,
+    })
+}
+
+/// Refuses a primitive that isn't one of the list, in an insertion.
+fn check_prim(alloc: Global, fields: &DataRecord<'_>, base: bool, prim: u8) -> Result<(), DatasetFault>
+    ensures { Gives result (checked_prim base fields.now.number (reading fields.now) prim) }
+{
+    if (prim >= 1 && prim <= 3) || prim == 255 {
+        return Ok(());
+    }
+    if base || fields.reads_as(alloc, FRID, RUIN, 1)? {
+        return Err(DatasetFault::Value {
+            record: fields.number,
+            label: PRIM,
+        });
+    }
+    Ok(())
+}
+
+/// The identifier of a feature.
+#[tactic(auto, unfolding(crate::specs::Rows::feature_head))]
+pub(crate) fn read_feature_head(
+    alloc: Global,
+    fields: &DataRecord<'_>,
+    base: bool,
+) -> Result<FeatureHead, DatasetFault>
+    ensures { Gives result (feature_head base fields.now.number (reading fields.now)) }
+{
+    let rcnm = fields.byte(alloc, FRID, RCNM)?;
+    if rcnm != 100 {
+        return Err(DatasetFault::Profile(RCNM));
+    }
+    let rcid = fields.long(alloc, FRID, RCID)?;
+    let prim = fields.byte(alloc, FRID, PRIM)?;
+    check_prim(alloc, fields, base, prim)?;
+    let grup = fields.byte(alloc, FRID, GRUP)?;
+    let class = fields.short(alloc, FRID, OBJL)?;
+    let version = fields.short(alloc, FRID, RVER)?;
+    let ruin = read_ruin(alloc, fields, base, FRID)?;
+    Ok(FeatureHead {
+        target: Name { rcnm, rcid },
+        prim,
+        grup,
+        class,
+        version,
+        ruin,
+    })
+}
+
+/// The identifier of a feature object, which an insertion needs.
+#[tactic(auto, unfolding(crate::specs::Rows::foid_of))]
+pub(crate) fn read_foid(alloc: Global, fields: &DataRecord<'_>, ruin: u8) -> Result<Option<Foid>, DatasetFault>
+    ensures { Gives result (foid_of ruin fields.now.number (reading fields.now)) }
+{
+    if fields.has(FOID) {
+        let foid = fields.foid(alloc)?;
+        return Ok(Some(foid));
+    }
+    if ruin == 1 {
+        return Err(DatasetFault::MissingField {
+            record: fields.number,
+            tag: FOID,
+        });
+    }
+    Ok(None)
+}
