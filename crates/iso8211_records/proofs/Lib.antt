@@ -1,11 +1,6 @@
-mod Loops
+mod Tagged
 mod Options
 mod ValueLaws
 mod FieldLaws
+mod Loops
 mod FrameTests
-mod Directory
-mod Records
-mod Fields
-mod RecordLaws
-mod FileLaws
-mod Counts
