@@ -4,3 +4,9 @@ mod ValueLaws
 mod FieldLaws
 mod Loops
 mod FrameTests
+mod Places
+mod Directory
+mod Results
+mod Framing
+mod Described
+mod FieldsLoop

@@ -1,6 +1,9 @@
 -- Looking layouts up by tag, one after the other.
 use Rattle.std.proofs.Common.{◌≡◌, ℕ, suc, ◌+◌, ◌≤◌, ◌<◌, Bool, true, false, List, [], ◌∷◌, length, get_or, drop, Option, Some, None, refl, sym, ap, ◌∙◌, add-one, arith, drop-cons}
 use Rattle.std.proofs.Math.ListN.{drop_of_length-le}
+use Rattle.std.proofs.Common.{Bor}
+use Rattle.std.specs.Prelude.{is_some}
+use Rattle.std.specs.Option.{option_copied}
 use Rattle.std.specs.Str.{bytes_eq}
 use Rattle.iso8211_formats.specs.Layout.{Layout}
 use Rattle.iso8211_records.specs.Kinds.{layout_at}
@@ -23,3 +26,7 @@ pub layout_at-none : (pairs : List (List ℕ × Layout)) (i : ℕ) (tag : List �
 layout_at-none pairs i tag total done so_far =
     let step : layout_at (drop i pairs) tag ≡ None = rw (drop_of_length-le pairs done) refl in
     sym step ∙ so_far
+
+pub is_some-copied : {A : Type 0} (r : Option (Bor A)) → is_some r ≡ is_some (option_copied r)
+is_some-copied None = refl
+is_some-copied (Some x) = refl

@@ -48,6 +48,10 @@ place_without passes size place (entry ∷ entries) = if passes entry then place
 unfoldable pub leader_at : Bool → ℕ → List ℕ → Result Frame FileFault
 leader_at first at bytes = if is_leader first (take 24 bytes) then Ok (frame_of (take 24 bytes)) else Err (Leader at)
 
+-- whether the closing byte of a directory stands at the place
+abbrev pub has_closing : List ℕ → ℕ → Bool
+has_closing bytes place = nat_lt place (length bytes) && (slice_index bytes place == FIELD_TERMINATOR)
+
 -- the entries from a place of the record on, at most so many, up to the closing byte
 unfoldable pub entries_at : ℕ → ℕ → Frame → List ℕ → ℕ → Result (List Entry) FileFault
 entries_at zero at frame bytes place = Err (Directory (at + place))
@@ -57,7 +61,7 @@ entries_at (suc bound) at frame bytes place =
       entries ← entries_at bound at frame bytes (place + entry_size frame)
       Ok (entry_of frame (entry_text frame bytes place) ∷ entries))
     else Err (Directory (at + place)))
-    else (if nat_lt place (length bytes) && (slice_index bytes place == FIELD_TERMINATOR) then Ok [] else Err (Directory (at + place)))
+    else (if has_closing bytes place then Ok [] else Err (Directory (at + place)))
 
 -- the directory
 unfoldable pub directory_at : ℕ → Frame → List ℕ → Result (List Entry) FileFault

@@ -1,8 +1,7 @@
 //! The descriptors of a file's fields, by tag.
 
-ghost use Rattle.std.specs.Prelude.{◌≡◌, ◌++◌, ◌∷◌, [], IfSome, OnOk, OnErr};
+ghost use Rattle.std.specs.Prelude.{◌≡◌, ◌++◌, ◌∷◌, [], is_some, OnOk, OnErr};
 ghost use Rattle.std.specs.Option.{option_copied};
-ghost use Rattle.iso8211_formats.specs.Layout.{IsLayout};
 ghost use Rattle.iso8211_records.specs.Kinds.{layout_at};
 
 use iso8211_formats::Descriptor;
@@ -46,6 +45,13 @@ impl DescriptorMap {
             }
         }
         None
+    }
+
+    /// Whether there is a descriptor under a tag. It takes no memory.
+    pub fn contains(&self, tag: &[u8; 4]) -> bool
+        ensures { result ≡ is_some (layout_at self.now tag.now) }
+    {
+        self.get(tag).is_some()
     }
 
     /// Puts a descriptor behind the others. Where there is no memory nothing changes.

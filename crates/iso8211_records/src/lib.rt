@@ -3,9 +3,12 @@
 //! A file is a data descriptive record, which says how fields are spelled, and then data records.
 #![tactic(auto)]
 
+mod data;
+mod descriptive;
 mod descriptors;
 mod fault;
 mod file;
+mod frame;
 mod record;
 mod terminator;
 mod value;
