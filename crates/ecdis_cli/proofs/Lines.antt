@@ -8,7 +8,14 @@ use Rattle.std.proofs.lemmas.Bool.Decides.{nat_tests}
 use Rattle.std.proofs.lemmas.List.{append-nil}
 use Rattle.std.proofs.lemmas.List.Elements.{All-nil, All-cons, All-head, All-tail, All-append}
 use Rattle.std.proofs.lemmas.List.Splits.{slice_split_at, slice_split_none, length-slice_split}
-use Rattle.ecdis_cli.specs.declared.reply.Reply.TheVariants.{BadLine}
+use Rattle.ecdis_cli.specs.declared.reply.Reply.TheVariants.{Refused, Info}
+use Rattle.ecdis_cli.specs.declared.refusal.Refusal.{Refusal}
+use Rattle.ecdis_cli.specs.declared.refusal.Refusal.TheVariants.{BadLine, NoFile, ShelfFault, FileLong, File, NoGeneral}
+use Rattle.iso8211_records.specs.declared.fault.FileFault.{FileFault}
+use Rattle.iso8211_records.specs.declared.fault.FileFault.TheVariants.{Leader, Directory, Span, Terminator, Descriptor, Subfield, NoMemory}
+use Rattle.iso8211_records.specs.FileValue.{FileValue}
+use Rattle.iso8211_records.specs.Tags.{DSID}
+use Rattle.ecdis_cli.specs.Reply.{reply_to_records}
 use Rattle.ecdis_cli.specs.Line.{is_name, is_silent, name_on}
 use Rattle.ecdis_cli.specs.Reply.{Files, printed, reply_to_info, answer_to, reply_to}
 use Rattle.ecdis_cli.specs.Replies.{replies_from, joined, onto_ended, ended}
@@ -108,10 +115,10 @@ name_on-long line h =
 
 -- the reply to a long line depends on its first byte alone
 pub reply_to-long : (files : Files) (number : ℕ) (line : List ℕ) (mark : Bool) → 261 ≤ length line
-    → reply_to files number line mark ≡ cond (is_silent line) [] (printed (BadLine number))
+    → reply_to files number line mark ≡ cond (is_silent line) [] (printed (Refused (BadLine number)))
 unfolding reply_to answer_to
 reply_to-long files number line mark h =
-    ap (λ (o : Option (List ℕ)). cond (is_silent line) [] (printed (option_map_or (reply_to_info files mark) o (BadLine number)))) (name_on-long line h)
+    ap (λ (o : Option (List ℕ)). cond (is_silent line) [] (printed (option_map_or (reply_to_info files mark) o (Refused (BadLine number))))) (name_on-long line h)
 
 pub length-strip : (line : List ℕ) → length line ≤ length (strip_carriage_return line) + 1
 length-strip line =
@@ -138,16 +145,16 @@ is_silent-append (byte ∷ line) more h = refl
 
 -- the reply to a line that has begun with so many bytes, however it goes on
 pub reply_to-begun : (files : Files) (number : ℕ) (line more : List ℕ) (mark : Bool) → 262 ≤ length line
-    → reply_to files number (line ++ more) mark ≡ cond (is_silent line) [] (printed (BadLine number))
+    → reply_to files number (line ++ more) mark ≡ cond (is_silent line) [] (printed (Refused (BadLine number)))
 reply_to-begun files number line more mark h =
     reply_to-long files number (line ++ more) mark (omega (arith, length-append line more))
-    ∙ ap (λ (b : Bool). cond b [] (printed (BadLine number))) (is_silent-append line more (omega arith))
+    ∙ ap (λ (b : Bool). cond b [] (printed (Refused (BadLine number)))) (is_silent-append line more (omega arith))
 
 pub reply_to-begun_strip : (files : Files) (number : ℕ) (line more : List ℕ) (mark : Bool) → 262 ≤ length line
-    → reply_to files number (strip_carriage_return (line ++ more)) mark ≡ cond (is_silent line) [] (printed (BadLine number))
+    → reply_to files number (strip_carriage_return (line ++ more)) mark ≡ cond (is_silent line) [] (printed (Refused (BadLine number)))
 reply_to-begun_strip files number line more mark h =
     reply_to-long files number (strip_carriage_return (line ++ more)) mark (omega (arith, length-append line more, length-strip (line ++ more)))
-    ∙ ap (λ (b : Bool). cond b [] (printed (BadLine number)))
+    ∙ ap (λ (b : Bool). cond b [] (printed (Refused (BadLine number))))
     (is_silent-strip (line ++ more) (omega (arith, length-append line more)) ∙ is_silent-append line more (omega arith))
 
 -- the rest of a long line changes nothing
@@ -163,7 +170,7 @@ output-long files number line byte rest marks long h ne =
           ∙ reply_to-begun files number line rest (first_mark marks) long)
       | inr f ↦
           let tail : List ℕ = output_from files (number + 1) f.rest (other_marks marks) in
-          let begun : (more : List ℕ) → Unbroken more → output_from files number (line ++ (more ++ 10 ∷ f.rest)) marks ≡ cond (is_silent line) [] (printed (BadLine number)) ++ tail
+          let begun : (more : List ℕ) → Unbroken more → output_from files number (line ++ (more ++ 10 ∷ f.rest)) marks ≡ cond (is_silent line) [] (printed (Refused (BadLine number))) ++ tail
           = λ (more : List ℕ) (um : Unbroken more).
           ap (λ (l : List ℕ). output_from files number l marks) (sym (append_assoc line more (10 ∷ f.rest)))
           ∙ output-feed files number (line ++ more) f.rest marks (All-append (λ b. eqb b 10 ≡ false) line more h um)

@@ -14,7 +14,17 @@ use Rattle.chart_ports.specs.Said.{SaysFront}
 use Rattle.chart_ports.specs.declared.shelf.Fetched.{Fetched}
 use Rattle.chart_ports.specs.declared.shelf.Fetched.TheVariants.{Bytes, Absent, Long}
 use Rattle.ecdis_cli.specs.declared.reply.Reply.{Reply}
-use Rattle.ecdis_cli.specs.declared.reply.Reply.TheVariants.{BadLine, ShelfFault, Unread, Info}
+use Rattle.ecdis_cli.specs.declared.reply.Reply.TheVariants.{Refused, Info}
+use Rattle.std.specs.Fmt.{digits}
+use Rattle.std.proofs.lemmas.Result.{on_err_weaker}
+use Rattle.ecdis_cli.specs.Progress.{Chosen}
+use Rattle.ecdis_cli.specs.declared.refusal.Refusal.{Refusal}
+use Rattle.ecdis_cli.specs.declared.refusal.Refusal.TheVariants.{BadLine, NoFile, ShelfFault, FileLong, File, NoGeneral}
+use Rattle.iso8211_records.specs.declared.fault.FileFault.{FileFault}
+use Rattle.iso8211_records.specs.declared.fault.FileFault.TheVariants.{Leader, Directory, Span, Terminator, Descriptor, Subfield, NoMemory}
+use Rattle.iso8211_records.specs.FileValue.{FileValue}
+use Rattle.iso8211_records.specs.Tags.{DSID}
+use Rattle.ecdis_cli.specs.Reply.{reply_to_records}
 use Rattle.ecdis_cli.specs.General.{general_of}
 use Rattle.ecdis_cli.specs.Line.{is_silent, name_on}
 use Rattle.ecdis_cli.specs.Reply.{Files, printed, reading_of, reply_on, reply_to_info, answer_to, reply_to, reply_to_fetched}
@@ -70,35 +80,56 @@ pub rose-mark : (mark : Bool) (a b : ℕ) → a ≤ b → (IsTrue mark → Rose 
 rose-mark true a b h f = f refl
 rose-mark false a b h f = rose-none a b h
 
-pub reply-not_failed : (reply : Reply) → reply ≢ ShelfFault → is_fetch_failure (printed reply) ≡ false
-reply-not_failed (BadLine number) h = refl
-reply-not_failed ShelfFault h = absurd (h refl)
-reply-not_failed Unread h = refl
+file-not_failed : (fault : FileFault) → is_fetch_failure (printed (Refused (File fault))) ≡ false
+unfolding digits
+file-not_failed (Leader at) = refl
+file-not_failed (Directory at) = refl
+file-not_failed (Span at) = refl
+file-not_failed (Terminator at) = refl
+file-not_failed (Descriptor tag) = refl
+file-not_failed (Subfield number tag) = refl
+file-not_failed NoMemory = refl
+
+refusal-not_failed : (refusal : Refusal) → refusal ≢ ShelfFault → is_fetch_failure (printed (Refused refusal)) ≡ false
+unfolding digits
+refusal-not_failed (BadLine number) h = refl
+refusal-not_failed (NoFile name) h = refl
+refusal-not_failed ShelfFault h = absurd (h refl)
+refusal-not_failed (FileLong limit) h = refl
+refusal-not_failed (File fault) h = file-not_failed fault
+refusal-not_failed NoGeneral h = refl
+
+pub reply-not_failed : (reply : Reply) → reply ≢ Refused ShelfFault → is_fetch_failure (printed reply) ≡ false
+reply-not_failed (Refused refusal) h = refusal-not_failed refusal (λ e. h (ap Refused e))
 reply-not_failed (Info general) h = refl
 
-pub reading_of-not_fault : (bytes : List ℕ) → reading_of bytes ≢ ShelfFault
+records-not_fault : (read : Result FileValue FileFault) → reply_to_records read ≢ Refused ShelfFault
+records-not_fault (Err fault) = λ e. cc
+records-not_fault (Ok file) = elim (general_of file) as (λ o. option_map_or Info o (Refused NoGeneral) ≢ Refused ShelfFault) [ None ↦ λ e. cc | Some g ↦ λ e. cc ]
+
+pub reading_of-not_fault : (bytes : List ℕ) → reading_of bytes ≢ Refused ShelfFault
 unfolding reading_of
-reading_of-not_fault bytes = elim (option_and_then general_of (record_file_of bytes)) as (λ o. option_map_or Info o Unread ≢ ShelfFault) [ None ↦ λ e. cc | Some g ↦ λ e. cc ]
+reading_of-not_fault bytes = records-not_fault (record_file_of (DSID ∷ []) bytes)
 
-pub reply_on-not_fault : (file : Option (List ℕ)) → reply_on file ≢ ShelfFault
+pub reply_on-not_fault : (name : List ℕ) (file : Option (List ℕ)) → reply_on name file ≢ Refused ShelfFault
 unfolding reply_on
-reply_on-not_fault None = λ e. cc
-reply_on-not_fault (Some bytes) = elim (leb (length bytes) 8388608) as (λ v. cond v (reading_of bytes) Unread ≢ ShelfFault) [ true ↦ reading_of-not_fault bytes | false ↦ λ e. cc ]
+reply_on-not_fault name None = λ e. cc
+reply_on-not_fault name (Some bytes) = elim (leb (length bytes) 8388608) as (λ v. cond v (reading_of bytes) (Refused (FileLong 8388608)) ≢ Refused ShelfFault) [ true ↦ reading_of-not_fault bytes | false ↦ λ e. cc ]
 
-pub reply_to_fetched-not_fault : (fetched : Fetched) → reply_to_fetched fetched ≢ ShelfFault
-reply_to_fetched-not_fault (Bytes bytes) = reading_of-not_fault bytes
-reply_to_fetched-not_fault Absent = λ e. cc
-reply_to_fetched-not_fault Long = λ e. cc
+pub reply_to_fetched-not_fault : (name : List ℕ) (fetched : Fetched) → reply_to_fetched name fetched ≢ Refused ShelfFault
+reply_to_fetched-not_fault name (Bytes bytes) = reading_of-not_fault bytes
+reply_to_fetched-not_fault name Absent = λ e. cc
+reply_to_fetched-not_fault name Long = λ e. cc
 
 -- what is said of what was fetched is not that the shelf failed
-pub fetched-no_fault : {E : Type 0} (r : Result Reply E) (fetched : Fetched) (P : Type 0)
-    → IfOk r (λ reply. reply ≡ reply_to_fetched fetched) → IfOk r (λ reply. reply ≡ ShelfFault → P)
-fetched-no_fault (Ok reply) fetched P h = λ e. absurd (reply_to_fetched-not_fault fetched (sym h ∙ e))
-fetched-no_fault (Err e) fetched P h = tt
+pub fetched-no_fault : {E : Type 0} (r : Result Reply E) (name : List ℕ) (fetched : Fetched) (P : Type 0)
+    → IfOk r (λ reply. reply ≡ reply_to_fetched name fetched) → IfOk r (λ reply. reply ≡ Refused ShelfFault → P)
+fetched-no_fault (Ok reply) name fetched P h = λ e. absurd (reply_to_fetched-not_fault name fetched (sym h ∙ e))
+fetched-no_fault (Err e) name fetched P h = tt
 
-pub answer_to-not_fault : (files : Files) (number : ℕ) (line : List ℕ) → answer_to files number line false ≢ ShelfFault
+pub answer_to-not_fault : (files : Files) (number : ℕ) (line : List ℕ) → answer_to files number line false ≢ Refused ShelfFault
 unfolding answer_to
-answer_to-not_fault files number line = elim (name_on line) as (λ o. option_map_or (reply_to_info files false) o (BadLine number) ≢ ShelfFault) [ None ↦ λ e. cc | Some name ↦ reply_on-not_fault (files name) ]
+answer_to-not_fault files number line = elim (name_on line) as (λ o. option_map_or (reply_to_info files false) o (Refused (BadLine number)) ≢ Refused ShelfFault) [ None ↦ λ e. cc | Some name ↦ reply_on-not_fault name (files name) ]
 
 pub reply_to-not_failed : (files : Files) (number : ℕ) (line : List ℕ) → is_fetch_failure (reply_to files number line false) ≡ false
 unfolding reply_to
@@ -131,6 +162,19 @@ failures-le-marked files number (line ∷ more) (true ∷ marks) =
 failures-le-marked files number (line ∷ more) (false ∷ marks) =
     subst (λ (k : ℕ). fetch_failures (replies_from files number (line ∷ more) (false ∷ marks)) ≤ k) (sym (sum_by-cons (λ mark. cond mark 1 0) false marks ∙ zero-add (marked marks)))
     (failures-cons_not (reply_to files number line false) (replies_from files (number + 1) more marks) (marked marks) (reply_to-not_failed files number line) (failures-le-marked files (number + 1) more marks))
+
+reply_to-spoken : (files : Files) (number : ℕ) (line : List ℕ) (mark : Bool) → is_silent line ≡ false → reply_to files number line mark ≡ printed (answer_to files number line mark)
+unfolding reply_to
+reply_to-spoken files number line mark h = ap (λ (v : Bool). cond v [] (printed (answer_to files number line mark))) h
+
+-- a reply that was chosen was said, or a front of it
+pub Interrupted-chosen : {T E : Type 0} (r : Result T E) (files : Files) (number : ℕ) (line before now : List ℕ) (a b : ℕ) (reply : Reply) → is_silent line ≡ false
+    → Chosen files number line a b reply → OnErr r (SaysFront before (printed reply) now) → OnErr r (Interrupted files number line before now a b)
+Interrupted-chosen r files number line before now a b reply h x = on_err_weaker r (λ (f : SaysFront before (printed reply) now). record {
+  mark = x.mark;
+  front = front-same before (printed reply) (reply_to files number line x.mark) now (ap printed x.reply_is ∙ sym (reply_to-spoken files number line x.mark h)) f;
+  cause = x.cause;
+})
 
 -- Steps
 

@@ -3,4 +3,4 @@ use Rattle.ecdis_cli.proofs.Steps.{fetched-no_fault}
 use Rattle.ecdis_cli.proofs.info.inform.Goals as goal
 
 pub returns-in-Ok-clause-failed : goal.returns-in-Ok-clause-failed
-returns-in-Ok-clause-failed g c = fetched-no_fault c.reply_to_file.result _ _ c.reply_to_file.ensures
+returns-in-Ok-clause-failed g c = fetched-no_fault c.reply_to_fetched.result _ _ _ c.reply_to_fetched.ensures
