@@ -1,135 +1,123 @@
 -- Reading a directory, an entry at a time.
-use Rattle.std.proofs.Common.{◌≡◌, ℕ, zero, suc, ◌-◌, ◌+◌, ◌≤◌, ◌<◌, true, false, List, [], ◌∷◌, ◌++◌, length, take, drop, Option, Some, None, refl, sym, ap, ◌∙◌, append_assoc, eqb, arith}
-use Rattle.std.specs.Prelude.{slice_index}
-use Rattle.std.specs.List.{slice_range}
-use Rattle.std.proofs.lemmas.List.{append-nil, length-drop, length-take, drop-take, take-take, drop-drop}
+use Rattle.std.proofs.Common.{◌≡◌, ℕ, zero, suc, ◌-◌, ◌+◌, ◌*◌, ◌≤◌, ◌<◌, Bool, true, false, cond, List, [], ◌∷◌, ◌++◌, length, get_or, take, drop, Result, Ok, Err, refl, sym, ap, ◌∙◌, subst, append_assoc, add-one, ltb, leb, eqb, arith, inl, inr}
+use Rattle.std.specs.Prelude.{◌&&◌, slice_index}
+use Rattle.std.proofs.lemmas.List.{append-nil}
+use Rattle.std.proofs.lemmas.Bool.{cases_lt}
 use Rattle.std.proofs.lemmas.Bool.Decides.{nat_tests}
 use Rattle.iso8211_leader.specs.Leader.{Frame}
 use Rattle.iso8211_leader.specs.Entry.{IsEntry, HasEntry, entry_size, entry_of, entry_text}
 use Rattle.iso8211_leader.specs.declared.entry.Entry.{Entry}
+use Rattle.iso8211_records.specs.declared.fault.FileFault.{FileFault}
+use Rattle.iso8211_records.specs.declared.fault.FileFault.TheVariants.{Directory}
 use Rattle.iso8211_records.specs.Frames.{is_entry}
-use Rattle.iso8211_records.specs.Values.{◌>>=◌, before_all}
-use Rattle.iso8211_records.specs.Reading.{entries_of, directory_entries, directory_of}
+use Rattle.iso8211_records.specs.Reading.{◌>>=◌, entries_at, directory_at, has_closing}
+use Rattle.iso8211_records.proofs.Options.{both, both_parts}
 use Rattle.iso8211_records.proofs.FrameTests.{is_entry-is, is_entry-from}
 
--- an entry takes some byte
-entry-takes : (frame : Frame) (byte : ℕ) (text : List ℕ) → length (drop (entry_size frame) (byte ∷ text)) ≤ length text
-entry-takes frame byte text = omega (arith, length-drop (entry_size frame) (byte ∷ text))
+-- what was read, behind what was read before it
+abbrev pub behind : {A : Type 0} → List A → Result (List A) FileFault → Result (List A) FileFault
+behind front read = read >>= λ more. Ok (front ++ more)
 
--- a bound on the entries is enough where it is the text's length
-pub entries-bound : (bound other : ℕ) (frame : Frame) (text : List ℕ) → length text ≤ bound → length text ≤ other → entries_of bound frame text ≡ entries_of other frame text
-unfolding entries_of
-entries-bound zero zero frame [] enough enough_too = refl
-entries-bound zero (suc other) frame [] enough enough_too = refl
-entries-bound (suc bound) zero frame [] enough enough_too = refl
-entries-bound (suc bound) (suc other) frame [] enough enough_too = refl
-entries-bound zero other frame (byte ∷ text) enough enough_too = absurd (omega arith)
-entries-bound (suc bound) zero frame (byte ∷ text) enough enough_too = absurd (omega arith)
-entries-bound (suc bound) (suc other) frame (byte ∷ text) enough enough_too =
-    let less : length (drop (entry_size frame) (byte ∷ text)) ≤ length text = entry-takes frame byte text in
-    rw (entries-bound bound other frame (drop (entry_size frame) (byte ∷ text)) (omega arith) (omega arith)) refl
+pub join : {A : Type 0} (front : List A) (item : A) (read : Result (List A) FileFault) → behind front (read >>= λ items. Ok (item ∷ items)) ≡ behind (front ++ item ∷ []) read
+join front item (Err fault) = refl
+join {A} front item (Ok items) = ap (λ (all : List A). Ok all) (sym (append_assoc front (item ∷ []) items))
 
--- one entry read, in its text
-pub entries-step : (frame : Frame) (text : List ℕ) → 0 < length text → is_entry frame (take (entry_size frame) text) ≡ true
-    → directory_entries frame text ≡ (directory_entries frame (drop (entry_size frame) text) >>= λ entries. Some (entry_of frame (take (entry_size frame) text) ∷ entries))
-unfolding entries_of
-entries-step frame [] some is = absurd (omega arith)
-entries-step frame (byte ∷ text) some is =
-    rw (is, entries-bound (length text) (length (drop (entry_size frame) (byte ∷ text))) frame (drop (entry_size frame) (byte ∷ text)) (entry-takes frame byte text) (omega arith)) refl
+pub nothing-before : {A : Type 0} (read : Result (List A) FileFault) → behind [] read ≡ read
+nothing-before (Err fault) = refl
+nothing-before (Ok items) = refl
 
-pub entries-stop : (frame : Frame) (text : List ℕ) → 0 < length text → is_entry frame (take (entry_size frame) text) ≡ false → directory_entries frame text ≡ None
-unfolding entries_of
-entries-stop frame [] some is = absurd (omega arith)
-entries-stop frame (byte ∷ text) some is = rw is refl
+pub lt-test : (a b : ℕ) → a < b → ltb a b ≡ true
+lt-test a b h = grind (arith, nat_tests)
 
--- the text of a directory that ends before the closing byte, from a place on
-front-of-text : (bytes : List ℕ) (place closing size : ℕ) → place + size ≤ closing → take size (slice_range bytes place closing) ≡ take size (drop place bytes)
-front-of-text bytes place closing size inside =
-    take-take size (closing - place) (drop place bytes) (omega arith)
+pub ge-test : (a b : ℕ) → b ≤ a → ltb a b ≡ false
+ge-test a b h = grind (arith, nat_tests)
 
-rest-of-text : (bytes : List ℕ) (place closing size : ℕ) → place + size ≤ closing → drop size (slice_range bytes place closing) ≡ slice_range bytes (place + size) closing
-rest-of-text bytes place closing size inside =
-    let e : closing - place ≡ size + (closing - (place + size)) = omega arith in
-    rw e (drop-take size (closing - (place + size)) (drop place bytes) ∙ ap (λ (l : List ℕ). take (closing - (place + size)) l) (drop-drop size place bytes))
+pub le-test : (a b : ℕ) → a ≤ b → leb a b ≡ true
+le-test a b h = grind (arith, nat_tests)
 
--- what is left of a directory's text
-abbrev pub text_from : List ℕ → Frame → ℕ → List ℕ
-text_from bytes frame place = slice_range bytes place (frame.base - 1)
+pub le-is : (a b : ℕ) → leb a b ≡ true → a ≤ b
+le-is a b h = grind (arith, nat_tests)
 
-text_from-length : (bytes : List ℕ) (frame : Frame) (place : ℕ) → frame.base ≤ length bytes → length (text_from bytes frame place) ≡ frame.base - 1 - place
-text_from-length bytes frame place whole = omega (arith, length-take (frame.base - 1 - place) (drop place bytes), length-drop place bytes)
+pub eq-test : (a b : ℕ) → a ≡ b → eqb a b ≡ true
+eq-test a b h = grind (arith, nat_tests)
 
-join_entries : (front : List Entry) (entry : Entry) (read : Option (List Entry)) → before_all front (read >>= λ entries. Some (entry ∷ entries)) ≡ before_all (front ++ entry ∷ []) read
-join_entries front entry None = refl
-join_entries front entry (Some entries) = ap (λ (es : List Entry). Some es) (sym (append_assoc front (entry ∷ []) entries))
+-- a bound on the entries is enough where it is more than what is left of the directory
+pub entries_at-bound : (bound other at : ℕ) (frame : Frame) (bytes : List ℕ) (place : ℕ) → frame.base - 1 - place < bound → frame.base - 1 - place < other → entries_at bound at frame bytes place ≡ entries_at other at frame bytes place
+unfolding entries_at
+entries_at-bound zero other at frame bytes place enough enough_too = absurd (omega arith)
+entries_at-bound (suc bound) zero at frame bytes place enough enough_too = absurd (omega arith)
+entries_at-bound (suc bound) (suc other) at frame bytes place enough enough_too =
+    elim (cases_lt place (frame.base - 1)) [
+      | inl left ↦ rw (entries_at-bound bound other at frame bytes (place + entry_size frame) (omega arith) (omega arith)) refl
+      | inr done ↦ rw (ge-test place (frame.base - 1) done) refl
+    ]
 
--- an entry where the directory's text goes on
-pub entry-here : (bytes : List ℕ) (frame : Frame) (place : ℕ) → HasEntry frame bytes 0 place → is_entry frame (take (entry_size frame) (text_from bytes frame place)) ≡ true
-entry-here bytes frame place h =
-    let inside : place + entry_size frame ≤ frame.base - 1 = let b = h.before_closing in omega arith in
-    rw (front-of-text bytes place (frame.base - 1) (entry_size frame) inside) (is_entry-from frame (entry_text frame bytes place) h.entry)
+-- the tests of an entry
+pub entry-tests : (frame : Frame) (bytes : List ℕ) (place : ℕ) → HasEntry frame bytes 0 place → (leb (place + entry_size frame) (frame.base - 1) && is_entry frame (entry_text frame bytes place)) ≡ true
+entry-tests frame bytes place h =
+    both _ _ (le-test _ _ (let b = h.before_closing in omega arith)) (is_entry-from frame (entry_text frame bytes place) h.entry)
 
--- one entry more
-pub entries-more : (front : List Entry) (bytes : List ℕ) (frame : Frame) (place : ℕ) (entry : Entry) (total : Option (List Entry))
-    → place < frame.base - 1 → frame.base ≤ length bytes → HasEntry frame bytes 0 place → entry ≡ entry_of frame (entry_text frame bytes place)
-    → before_all front (directory_entries frame (text_from bytes frame place)) ≡ total
-    → before_all (front ++ entry ∷ []) (directory_entries frame (text_from bytes frame (place + entry_size frame))) ≡ total
-entries-more front bytes frame place entry total left whole h is so_far =
-    let inside : place + entry_size frame ≤ frame.base - 1 = let b = h.before_closing in omega arith in
-    let some : 0 < length (text_from bytes frame place) = let len = text_from-length bytes frame place whole in omega arith in
-    let one = entries-step frame (text_from bytes frame place) some (entry-here bytes frame place h) in
-    let cut : take (entry_size frame) (text_from bytes frame place) ≡ entry_text frame bytes place = front-of-text bytes place (frame.base - 1) (entry_size frame) inside in
-    let after : drop (entry_size frame) (text_from bytes frame place) ≡ text_from bytes frame (place + entry_size frame) = rest-of-text bytes place (frame.base - 1) (entry_size frame) inside in
-    let named : entry_of frame (take (entry_size frame) (text_from bytes frame place)) ≡ entry = ap (entry_of frame) cut ∙ sym is in
-    let step : directory_entries frame (text_from bytes frame place) ≡ (directory_entries frame (text_from bytes frame (place + entry_size frame)) >>= λ entries. Some (entry ∷ entries)) = one ∙ rw (after, named) refl in
-    sym (join_entries front entry (directory_entries frame (text_from bytes frame (place + entry_size frame)))) ∙ ap (before_all front) (sym step) ∙ so_far
+pub entry-from-tests : (frame : Frame) (bytes : List ℕ) (place : ℕ) → (leb (place + entry_size frame) (frame.base - 1) && is_entry frame (entry_text frame bytes place)) ≡ true → HasEntry frame bytes 0 place
+entry-from-tests frame bytes place h =
+    let p = both_parts (leb (place + entry_size frame) (frame.base - 1)) (is_entry frame (entry_text frame bytes place)) h in
+    let low : place + entry_size frame ≤ frame.base - 1 = le-is _ _ p.0 in
+    record { before_closing = omega arith; entry = is_entry-is frame (entry_text frame bytes place) p.1 }
+
+-- one entry
+pub entries_at-step : (bound at : ℕ) (frame : Frame) (bytes : List ℕ) (place : ℕ) → place < frame.base - 1 → frame.base - 1 - place < bound → HasEntry frame bytes 0 place
+    → entries_at bound at frame bytes place ≡ (entries_at bound at frame bytes (place + entry_size frame) >>= λ entries. Ok (entry_of frame (entry_text frame bytes place) ∷ entries))
+unfolding entries_at
+entries_at-step zero at frame bytes place left enough h = absurd (omega arith)
+entries_at-step (suc bound) at frame bytes place left enough h =
+    let same : entries_at bound at frame bytes (place + entry_size frame) ≡ entries_at (suc bound) at frame bytes (place + entry_size frame) =
+    entries_at-bound bound (suc bound) at frame bytes (place + entry_size frame) (omega arith) (omega arith) in
+    rw (lt-test place (frame.base - 1) left, entry-tests frame bytes place h)
+    (ap (λ (read : Result (List Entry) FileFault). read >>= λ entries. Ok (entry_of frame (entry_text frame bytes place) ∷ entries)) same)
 
 -- or none
-pub entries-none : (front : List Entry) (bytes : List ℕ) (frame : Frame) (place : ℕ) (total : Option (List Entry))
-    → place < frame.base - 1 → frame.base ≤ length bytes → (HasEntry frame bytes 0 place → ⊥)
-    → before_all front (directory_entries frame (text_from bytes frame place)) ≡ total → total ≡ None
-entries-none front bytes frame place total left whole none so_far =
-    let some : 0 < length (text_from bytes frame place) = let len = text_from-length bytes frame place whole in omega arith in
-    let stop : directory_entries frame (text_from bytes frame place) ≡ None =
-    elim (is_entry frame (take (entry_size frame) (text_from bytes frame place)))
-    as (λ b. is_entry frame (take (entry_size frame) (text_from bytes frame place)) ≡ b → directory_entries frame (text_from bytes frame place) ≡ None) [
-      | true ↦ λ e. absurd (none (entry-there bytes frame place whole (is_entry-is frame (take (entry_size frame) (text_from bytes frame place)) e)))
-      | false ↦ λ e. entries-stop frame (text_from bytes frame place) some e
+pub entries_at-stop : (bound at : ℕ) (frame : Frame) (bytes : List ℕ) (place : ℕ) → place < frame.base - 1 → (HasEntry frame bytes 0 place → ⊥) → entries_at bound at frame bytes place ≡ Err (Directory (at + place))
+unfolding entries_at
+entries_at-stop zero at frame bytes place left none = refl
+entries_at-stop (suc bound) at frame bytes place left none =
+    let test : (leb (place + entry_size frame) (frame.base - 1) && is_entry frame (entry_text frame bytes place)) ≡ false =
+    elim (leb (place + entry_size frame) (frame.base - 1) && is_entry frame (entry_text frame bytes place))
+    as (λ b. (leb (place + entry_size frame) (frame.base - 1) && is_entry frame (entry_text frame bytes place)) ≡ b → b ≡ false) [
+      | true ↦ λ e. absurd (none (entry-from-tests frame bytes place e))
+      | false ↦ λ e. refl
     ] refl in
-    sym so_far ∙ ap (before_all front) stop
-  where
-    entry-there : (bytes : List ℕ) (frame : Frame) (place : ℕ) → frame.base ≤ length bytes → IsEntry frame (take (entry_size frame) (text_from bytes frame place)) → HasEntry frame bytes 0 place
-    entry-there bytes frame place whole h =
-        let len = text_from-length bytes frame place whole in
-        let taken : entry_size frame ≤ length (text_from bytes frame place) = let w = h.whole in omega (arith, length-take (entry_size frame) (text_from bytes frame place)) in
-        let inside : place + entry_size frame ≤ frame.base - 1 = omega arith in
-        record {
-          before_closing = omega arith;
-          entry = rw (front-of-text bytes place (frame.base - 1) (entry_size frame) inside) at h;
-        }
+    rw (lt-test place (frame.base - 1) left, test) refl
 
--- and all of them
-pub entries-all : (front : List Entry) (bytes : List ℕ) (frame : Frame) (place : ℕ) (total : Option (List Entry))
-    → frame.base - 1 ≤ place → before_all front (directory_entries frame (text_from bytes frame place)) ≡ total → total ≡ Some front
-unfolding entries_of
-entries-all front bytes frame place total done so_far =
-    let none : frame.base - 1 - place ≡ 0 = omega arith in
-    let empty : text_from bytes frame place ≡ [] = rw none refl in
-    sym so_far ∙ rw empty (ap (λ (es : List Entry). Some es) (append-nil front))
+-- the closing byte
+pub entries_at-closed : (bound at : ℕ) (frame : Frame) (bytes : List ℕ) (place : ℕ) → frame.base - 1 ≤ place → 0 < bound → has_closing bytes place ≡ true → entries_at bound at frame bytes place ≡ Ok []
+unfolding entries_at
+entries_at-closed zero at frame bytes place done some is = absurd (omega arith)
+entries_at-closed (suc bound) at frame bytes place done some is =
+    rw (ge-test place (frame.base - 1) done, is) refl
 
--- with the closing byte
-pub directory-closed : (frame : Frame) (bytes : List ℕ) (total : Option (List Entry)) → slice_index bytes (frame.base - 1) ≡ 30 → directory_entries frame (text_from bytes frame 24) ≡ total → directory_of frame bytes ≡ total
-unfolding directory_of
-directory-closed frame bytes total is h = rw is h
+pub entries_at-open : (bound at : ℕ) (frame : Frame) (bytes : List ℕ) (place : ℕ) → frame.base - 1 ≤ place → has_closing bytes place ≡ false → entries_at bound at frame bytes place ≡ Err (Directory (at + place))
+unfolding entries_at
+entries_at-open zero at frame bytes place done open_there = refl
+entries_at-open (suc bound) at frame bytes place done open_there = rw (ge-test place (frame.base - 1) done, open_there) refl
 
-pub directory-open : (frame : Frame) (bytes : List ℕ) → (slice_index bytes (frame.base - 1) ≡ 30 → ⊥) → directory_of frame bytes ≡ None
-unfolding directory_of
-directory-open frame bytes other = let test : eqb (slice_index bytes (frame.base - 1)) 30 ≡ false = grind (arith, nat_tests) in rw test refl
+-- ---- the loop
 
--- nothing before the first entry
-pub entries-first : (frame : Frame) (bytes : List ℕ) → before_all [] (directory_entries frame (text_from bytes frame 24)) ≡ directory_entries frame (text_from bytes frame 24)
-entries-first frame bytes = nothing-before (directory_entries frame (text_from bytes frame 24))
-  where
-    nothing-before : (read : Option (List Entry)) → before_all [] read ≡ read
-    nothing-before None = refl
-    nothing-before (Some entries) = refl
+pub directory-more : (at : ℕ) (front : List Entry) (frame : Frame) (bytes : List ℕ) (place : ℕ) (entry : Entry) (total : Result (List Entry) FileFault)
+    → place < frame.base - 1 → HasEntry frame bytes 0 place → entry ≡ entry_of frame (entry_text frame bytes place)
+    → behind front (entries_at frame.base at frame bytes place) ≡ total → behind (front ++ entry ∷ []) (entries_at frame.base at frame bytes (place + entry_size frame)) ≡ total
+directory-more at front frame bytes place entry total left h is so_far =
+    let one = entries_at-step frame.base at frame bytes place left (omega arith) h in
+    let named : entries_at frame.base at frame bytes place ≡ (entries_at frame.base at frame bytes (place + entry_size frame) >>= λ entries. Ok (entry ∷ entries)) = one ∙ rw (← is) refl in
+    sym (join front entry (entries_at frame.base at frame bytes (place + entry_size frame))) ∙ ap (behind front) (sym named) ∙ so_far
+
+pub directory-none : (at : ℕ) (front : List Entry) (frame : Frame) (bytes : List ℕ) (place : ℕ) (total : Result (List Entry) FileFault)
+    → place < frame.base - 1 → (HasEntry frame bytes 0 place → ⊥) → behind front (entries_at frame.base at frame bytes place) ≡ total → total ≡ Err (Directory (at + place))
+directory-none at front frame bytes place total left none so_far = sym so_far ∙ ap (behind front) (entries_at-stop frame.base at frame bytes place left none)
+
+pub directory-closed : (at : ℕ) (front : List Entry) (frame : Frame) (bytes : List ℕ) (place : ℕ) (total : Result (List Entry) FileFault)
+    → frame.base - 1 ≤ place → 0 < frame.base → has_closing bytes place ≡ true → behind front (entries_at frame.base at frame bytes place) ≡ total → total ≡ Ok front
+directory-closed at front frame bytes place total done some is so_far =
+    sym so_far ∙ ap (behind front) (entries_at-closed frame.base at frame bytes place done some is) ∙ ap (λ (es : List Entry). Ok es) (append-nil front)
+
+pub directory-open : (at : ℕ) (front : List Entry) (frame : Frame) (bytes : List ℕ) (place : ℕ) (total : Result (List Entry) FileFault)
+    → frame.base - 1 ≤ place → has_closing bytes place ≡ false → behind front (entries_at frame.base at frame bytes place) ≡ total → total ≡ Err (Directory (at + place))
+directory-open at front frame bytes place total done open_there so_far = sym so_far ∙ ap (behind front) (entries_at-open frame.base at frame bytes place done open_there)

@@ -3,7 +3,7 @@ use Rattle.std.proofs.Common.{◌≡◌, ℕ, zero, suc, ◌+◌, ◌≤◌, Lis
 use Rattle.std.proofs.lemmas.List.{length-append}
 use Rattle.iso8211_formats.specs.declared.format.Format.{Format}
 use Rattle.iso8211_records.specs.declared.value.Value.{Value}
-use Rattle.iso8211_records.specs.Spelling.{AreSpelled, Layout, groups, IsFieldText}
+use Rattle.iso8211_records.specs.Spelling.{AreSpelled, FieldFormats, with_groups, groups, IsFieldText}
 use Rattle.iso8211_records.specs.Values.{◌>>=◌, value_at, values_at, groups_at, values_of}
 use Rattle.iso8211_records.proofs.Options.{bind_some}
 use Rattle.iso8211_records.proofs.ValueLaws.{value_at-sound, value_at-again, Spells-some}
@@ -132,23 +132,23 @@ groups_at-again (suc count) (f ∷ group) values (byte ∷ bytes) (suc bound) en
 
 -- ---- the text of a field
 
-pub values_of-sound : (layout : Layout) (text : List ℕ) (values : List Value) → values_of layout text ≡ Some values → IsFieldText layout values text
+pub values_of-sound : (formats : FieldFormats) (text : List ℕ) (values : List Value) → values_of formats text ≡ Some values → IsFieldText formats values text
 unfolding values_of
-values_of-sound layout text values h =
-    let p = bind_some (values_at layout.once text) (λ first. groups_at (length first.1) layout.group first.1 >>= λ more. Some (first.0 ++ more)) values h in
-    let q = bind_some (groups_at (length p.0.1) layout.group p.0.1) (λ more. Some (p.0.0 ++ more)) values p.2 in
+values_of-sound formats text values h =
+    let p = bind_some (values_at formats.once text) (λ first. groups_at (length first.1) formats.group first.1 >>= λ more. Some (first.0 ++ more)) values h in
+    let q = bind_some (groups_at (length p.0.1) formats.group p.0.1) (λ more. Some (p.0.0 ++ more)) values p.2 in
     let is : p.0.0 ++ q.0 ≡ values = grind arith in
-    let first = values_at-sound layout.once text p.0.0 p.0.1 p.1 in
-    let others = groups_at-sound (length p.0.1) layout.group p.0.1 q.0 q.1 in (
+    let first = values_at-sound formats.once text p.0.0 p.0.1 p.1 in
+    let others = groups_at-sound (length p.0.1) formats.group p.0.1 q.0 q.1 in (
       others.0,
-      subst (λ (vs : List Value). AreSpelled (layout.once ++ groups others.0 layout.group) vs text) is
-          (subst (λ (l : List ℕ). AreSpelled (layout.once ++ groups others.0 layout.group) (p.0.0 ++ q.0) l) (sym first.1)
-          (AreSpelled-append layout.once (groups others.0 layout.group) p.0.0 q.0 first.0 p.0.1 first.2 others.1)),
+      subst (λ (vs : List Value). AreSpelled (formats.once ++ groups others.0 formats.group) vs text) is
+          (subst (λ (l : List ℕ). AreSpelled (formats.once ++ groups others.0 formats.group) (p.0.0 ++ q.0) l) (sym first.1)
+          (AreSpelled-append formats.once (groups others.0 formats.group) p.0.0 q.0 first.0 p.0.1 first.2 others.1)),
     )
 
-pub values_of-again : (layout : Layout) (values : List Value) (text : List ℕ) → IsFieldText layout values text → values_of layout text ≡ Some values
+pub values_of-again : (formats : FieldFormats) (values : List Value) (text : List ℕ) → IsFieldText formats values text → values_of formats text ≡ Some values
 unfolding values_of
-values_of-again layout values text h =
-    let p = AreSpelled-split layout.once (groups h.0 layout.group) values text h.1 in
-    let first : values_at layout.once text ≡ Some (p.us, p.b) = ap (values_at layout.once) p.text_is ∙ values_at-again layout.once p.us p.a p.b p.front in
-    rw (first, groups_at-again h.0 layout.group p.ws p.b (length p.b) (omega arith) p.back) (ap (λ (vs : List Value). Some vs) (sym p.values_are))
+values_of-again formats values text h =
+    let p = AreSpelled-split formats.once (groups h.0 formats.group) values text h.1 in
+    let first : values_at formats.once text ≡ Some (p.us, p.b) = ap (values_at formats.once) p.text_is ∙ values_at-again formats.once p.us p.a p.b p.front in
+    rw (first, groups_at-again h.0 formats.group p.ws p.b (length p.b) (omega arith) p.back) (ap (λ (vs : List Value). Some vs) (sym p.values_are))

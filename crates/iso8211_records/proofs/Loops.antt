@@ -4,9 +4,9 @@ use Rattle.std.proofs.Math.ListN.{drop_of_length-le}
 use Rattle.std.proofs.lemmas.List.{append-nil, length-append}
 use Rattle.iso8211_formats.specs.declared.format.Format.{Format}
 use Rattle.iso8211_records.specs.declared.value.Value.{Value}
-use Rattle.iso8211_records.specs.declared.fault.FileFault.{FileFault}
-use Rattle.iso8211_records.specs.declared.fault.FileFault.TheVariants.{Unsupported, NoMemory}
-use Rattle.iso8211_records.specs.Values.{◌>>=◌, Fails, before, before_all, value_at, values_at, groups_at}
+use Rattle.iso8211_records.specs.declared.fault.FieldFault.{FieldFault}
+use Rattle.iso8211_records.specs.declared.fault.FieldFault.TheVariants.{Unspelled, NoMemory}
+use Rattle.iso8211_records.specs.Values.{◌>>=◌, Lacks, before, before_all, value_at, values_at, groups_at}
 use Rattle.iso8211_records.proofs.Options.{bind_some}
 use Rattle.iso8211_records.proofs.FieldLaws.{values_at-sound, AreSpelled-shorter, groups_at-nil}
 
@@ -25,12 +25,12 @@ values-more front formats i d bytes value after total inside one so_far =
     rw add-one (sym step ∙ so_far)
 
 -- or no value
-pub values-fail : (fault : FileFault) (front : List Value) (formats : List Format) (i : ℕ) (d : Format) (bytes : List ℕ) (total : Option (List Value × List ℕ))
-    → i < length formats → Fails fault (value_at (get_or formats i d) bytes)
-    → before front (values_at (drop i formats) bytes) ≡ total → Fails fault total
+pub values-fail : (fault : FieldFault) (front : List Value) (formats : List Format) (i : ℕ) (d : Format) (bytes : List ℕ) (total : Option (List Value × List ℕ))
+    → i < length formats → Lacks fault (value_at (get_or formats i d) bytes)
+    → before front (values_at (drop i formats) bytes) ≡ total → Lacks fault total
 unfolding values_at
 values-fail NoMemory front formats i d bytes total inside none so_far = tt
-values-fail Unsupported front formats i d bytes total inside none so_far =
+values-fail Unspelled front formats i d bytes total inside none so_far =
     let step : before front (values_at (drop i formats) bytes) ≡ None = rw (drop-cons formats i d inside, none) refl in
     sym so_far ∙ step
 
@@ -103,13 +103,13 @@ groups-more front values group (byte ∷ bytes) after total some left one so_far
     ap (before_all values) (sym bound) ∙ sym (join_groups front (values_at group (byte ∷ bytes)) values after (length bytes) group one) ∙ so_far
 
 -- or none
-pub groups-fail : (fault : FileFault) (front : List Value) (group : List Format) (bytes : List ℕ) (total : Option (List Value))
-    → 0 < length bytes → Fails fault (before front (values_at group bytes))
-    → before_all front (groups_at (length bytes) group bytes) ≡ total → Fails fault total
+pub groups-fail : (fault : FieldFault) (front : List Value) (group : List Format) (bytes : List ℕ) (total : Option (List Value))
+    → 0 < length bytes → Lacks fault (before front (values_at group bytes))
+    → before_all front (groups_at (length bytes) group bytes) ≡ total → Lacks fault total
 unfolding groups_at
 groups-fail NoMemory front group bytes total left none so_far = tt
-groups-fail Unsupported front group [] total left none so_far = absurd (omega arith)
-groups-fail Unsupported front group (byte ∷ bytes) total left none so_far =
+groups-fail Unspelled front group [] total left none so_far = absurd (omega arith)
+groups-fail Unspelled front group (byte ∷ bytes) total left none so_far =
     sym so_far ∙ no_group front (values_at group (byte ∷ bytes)) (length bytes) group none
   where
     no_group : (front : List Value) (read : Option (List Value × List ℕ)) (bound : ℕ) (group : List Format) → before front read ≡ None

@@ -1,7 +1,11 @@
 pub mod Tags
 pub mod Spelling
-pub mod DataRecord
+pub mod Kinds
+pub mod FileValue
+pub mod Answers
+pub mod Record
 pub mod Frames
 pub mod Values
 pub mod Reading
 pub mod RecordFile
+pub mod Fault

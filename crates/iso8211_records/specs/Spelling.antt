@@ -1,11 +1,12 @@
 -- The values of a field and how they are spelled (ISO/IEC 8211, user data).
-use Rattle.std.specs.Prelude.{◌≡◌, ◌≢◌, ℕ, zero, suc, ◌+◌, ◌*◌, ◌/◌, ◌^◌, ◌<◌, List, [], ◌∷◌, ◌++◌, length, ℤ, pos, ◌-ℤ◌, nat_lt, if◌then◌else◌, ◌⊎◌}
+use Rattle.std.specs.Prelude.{◌≡◌, ◌≢◌, ℕ, zero, suc, ◌+◌, ◌-◌, ◌*◌, ◌/◌, ◌^◌, ◌<◌, List, [], ◌∷◌, ◌++◌, length, take, drop, Option, Some, None, ℤ, pos, ◌-ℤ◌, nat_lt, if◌then◌else◌, ◌⊎◌}
 use Rattle.std.specs.List.{AllByRecursion}
+use Rattle.iso8211_formats.specs.Layout.{Layout}
 use Rattle.iso8211_formats.specs.declared.format.Format.{Format}
 use Rattle.iso8211_formats.specs.declared.format.Format.TheVariants.{TextOpen, Text as TextOf, Unsigned, Signed, Bits as BitsOf}
 use Rattle.iso8211_records.specs.declared.value.Value.{Value}
 use Rattle.iso8211_records.specs.declared.value.Value.TheVariants.{Number, Text, Bits}
-use Rattle.iso8211_records.specs.declared.known.TheConstants.{FIELD_TERMINATOR, UNIT_TERMINATOR}
+use Rattle.iso8211_records.specs.declared.terminator.TheConstants.{FIELD_TERMINATOR, UNIT_TERMINATOR}
 
 -- the number that bytes are, the least significant first
 unfoldable pub unsigned : List ℕ → ℕ
@@ -42,21 +43,33 @@ AreSpelled (format ∷ formats) (value ∷ values) bytes =
     (front rest : List ℕ) × (bytes ≡ front ++ rest) × Spells format value front × AreSpelled formats values rest
 AreSpelled _ _ bytes = ⊥
 
--- how a field is laid out: the formats of the subfields that stand once, and then those of a group
--- that is repeated
-pub record Layout : Type 0 where
+-- how the subfields of a field are spelled: those that stand once, and those of a group that is repeated
+pub record FieldFormats : Type 0 where
   pub once : List Format
   pub group : List Format
+
+-- the formats before the place, from 1, at which a group begins, and those from there on
+abbrev pub formats_from : Option ℕ → List Format → FieldFormats
+formats_from None formats = record { once = formats; group = [] }
+formats_from (Some first) formats = record { once = take (first - 1) formats; group = drop (first - 1) formats }
+
+-- the formats of a layout
+abbrev pub formats_in : Layout → FieldFormats
+formats_in layout = formats_from layout.repeats_from layout.formats
 
 -- the formats of so many groups
 abbrev pub groups : ℕ → List Format → List Format
 groups zero group = []
 groups (suc count) group = group ++ groups count group
 
--- the text is that of a field: each subfield once up to the group, and then any number of whole groups
-abbrev pub IsFieldText : Layout → List Value → List ℕ → Type 0
-IsFieldText layout values text = (count : ℕ) × AreSpelled (layout.once ++ groups count layout.group) values text
+-- the formats of a field that has so many groups
+abbrev pub with_groups : ℕ → FieldFormats → List Format
+with_groups count formats = formats.once ++ groups count formats.group
 
--- the bytes are a field of this layout: its text and a field terminator
-abbrev pub IsField : Layout → List Value → List ℕ → Type 0
-IsField layout values bytes = (text : List ℕ) × (bytes ≡ text ++ FIELD_TERMINATOR ∷ []) × IsFieldText layout values text
+-- the text is that of a field: each subfield once up to the group, and then any number of whole groups
+abbrev pub IsFieldText : FieldFormats → List Value → List ℕ → Type 0
+IsFieldText formats values text = (count : ℕ) × AreSpelled (with_groups count formats) values text
+
+-- the bytes are a field: its text and a field terminator
+abbrev pub IsField : FieldFormats → List Value → List ℕ → Type 0
+IsField formats values bytes = (text : List ℕ) × (bytes ≡ text ++ FIELD_TERMINATOR ∷ []) × IsFieldText formats values text

@@ -4,25 +4,25 @@ use Rattle.iso8211_formats.specs.declared.format.Format.{Format}
 use Rattle.iso8211_formats.specs.declared.format.Format.TheVariants.{TextOpen, Text as TextOf, Unsigned, Signed, Bits as BitsOf}
 use Rattle.iso8211_records.specs.declared.value.Value.{Value}
 use Rattle.iso8211_records.specs.declared.value.Value.TheVariants.{Number, Text, Bits}
-use Rattle.iso8211_records.specs.declared.fault.FileFault.{FileFault}
-use Rattle.iso8211_records.specs.declared.fault.FileFault.TheVariants.{Unsupported, NoMemory}
-use Rattle.iso8211_records.specs.declared.known.TheConstants.{FIELD_TERMINATOR, UNIT_TERMINATOR}
-use Rattle.iso8211_records.specs.Spelling.{unsigned, signed, Layout}
+use Rattle.iso8211_records.specs.declared.fault.FieldFault.{FieldFault}
+use Rattle.iso8211_records.specs.declared.fault.FieldFault.TheVariants.{Unspelled, NoMemory}
+use Rattle.iso8211_records.specs.declared.terminator.TheConstants.{FIELD_TERMINATOR, UNIT_TERMINATOR}
+use Rattle.iso8211_records.specs.Spelling.{unsigned, signed, FieldFormats}
 
 infixl 10 ◌>>=◌
 abbrev pub ◌>>=◌ : {A B : Type 0} → Option A → (A → Option B) → Option B
 None >>= f = None
 (Some x) >>= f = f x
 
--- A function failed so: reading gives nothing, unless memory ran out.
-abbrev pub Fails : {Y : Type 0} → FileFault → Option Y → Type 0
-Fails Unsupported read = read ≡ None
-Fails NoMemory read = Unit {0}
+-- A reader of a field failed so: there is nothing to be read, unless memory ran out.
+abbrev pub Lacks : {Y : Type 0} → FieldFault → Option Y → Type 0
+Lacks Unspelled read = read ≡ None
+Lacks NoMemory read = Unit {0}
 
--- What a function returned, seen by view, is what reading gives, unless memory ran out.
-abbrev pub Gives : {X Y : Type 0} → (X → Y) → Result X FileFault → Option Y → Type 0
-Gives view (Ok x) read = read ≡ Some (view x)
-Gives view (Err fault) read = Fails fault read
+-- What a reader of a field returned, seen by view, is what there is to be read, unless memory ran out.
+abbrev pub Finds : {X Y : Type 0} → (X → Y) → Result X FieldFault → Option Y → Type 0
+Finds view (Ok x) read = read ≡ Some (view x)
+Finds view (Err fault) read = Lacks fault read
 
 -- what was read, behind what was read before it
 abbrev pub before_all : {A : Type 0} → List A → Option (List A) → Option (List A)
@@ -85,8 +85,8 @@ groups_at (suc bound) group (byte ∷ bytes) = do
   Some (values.0 ++ more)
 
 -- the values of a field's text
-unfoldable pub values_of : Layout → List ℕ → Option (List Value)
-values_of layout text = do
-  values ← values_at layout.once text
-  more ← groups_at (length values.1) layout.group values.1
+unfoldable pub values_of : FieldFormats → List ℕ → Option (List Value)
+values_of formats text = do
+  values ← values_at formats.once text
+  more ← groups_at (length values.1) formats.group values.1
   Some (values.0 ++ more)

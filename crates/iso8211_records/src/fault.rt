@@ -2,15 +2,31 @@
 
 ghost use Rattle.std.specs.Prelude.{◌≡◌};
 ghost use Rattle.iso8211_records.specs.declared.fault.FileFault.TheVariants.{NoMemory};
+ghost use Rattle.iso8211_records.specs.declared.fault.FieldFault.TheVariants.{NoMemory as NoMemoryForField};
 
 use std::alloc::{AllocError, AllocFailed};
 
-/// Why a file was not read.
+/// Why a file was not read (ISO/IEC 8211): the first fault by record, and in a record the first in the
+/// order of the variants.
+///
+/// An offset is a place in the file, counted from 0. Data records are counted from 1.
 #[derive(Clone, Copy, Debug, PartialEq, Eq)]
 pub enum FileFault {
-    /// It isn't a file of the one form that is read so far.
-    Unsupported,
-    /// There was no memory for its records.
+    /// No leader of the kind that is read begins at this offset.
+    Leader(usize),
+    /// No entry of the directory, or no closing byte of it, stands at this offset.
+    Directory(usize),
+    /// The record at this offset passes the file's end; or the field of the entry at this offset
+    /// passes its record's end.
+    Span(usize),
+    /// The field of the entry at this offset is empty or doesn't end with a field terminator.
+    Terminator(usize),
+    /// The field with this tag of the data descriptive record describes no field; or a data record has
+    /// a field with this tag, and the data descriptive record has none.
+    Descriptor([u8; 4]),
+    /// A field with this tag of this data record has no reading by its descriptor.
+    Subfield(usize, [u8; 4]),
+    /// There was no memory for the records.
     NoMemory,
 }
 
@@ -27,5 +43,30 @@ impl<T: Drop> From<AllocFailed<T>> for FileFault {
 
     fn from(_: AllocFailed<T>) -> FileFault {
         FileFault::NoMemory
+    }
+}
+
+/// Why a field was not read.
+#[derive(Clone, Copy, Debug, PartialEq, Eq)]
+pub(crate) enum FieldFault {
+    /// Its bytes are no spelling of values by its formats.
+    Unspelled,
+    /// There was no memory for its values.
+    NoMemory,
+}
+
+impl From<AllocError> for FieldFault {
+    ghost from_gives = { λ _ e. e ≡ NoMemoryForField };
+
+    fn from(_: AllocError) -> FieldFault {
+        FieldFault::NoMemory
+    }
+}
+
+impl<T: Drop> From<AllocFailed<T>> for FieldFault {
+    ghost from_gives = { λ _ e. e ≡ NoMemoryForField };
+
+    fn from(_: AllocFailed<T>) -> FieldFault {
+        FieldFault::NoMemory
     }
 }

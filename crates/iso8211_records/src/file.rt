@@ -1,87 +1,100 @@
 //! A file of records.
 
-ghost use Rattle.std.specs.Prelude.{◌≡◌, ◌≢◌, ◌⊎◌, ◌∷◌, [], ◌+◌, ◌≤◌, Ok, Err, Some, None, IfOk, length};
-ghost use Rattle.iso8211_records.specs.Tags.{DSID};
-ghost use Rattle.iso8211_records.specs.declared.record.RecordFile.{RecordFile as FileOfRecords};
-ghost use Rattle.iso8211_records.specs.Values.{Gives};
-ghost use Rattle.iso8211_records.specs.Reading.{data_records_of, come_to};
-ghost use Rattle.iso8211_records.specs.RecordFile.{record_file_of, known_layouts, IsRecordFile, data_records_in};
+ghost use Rattle.std.specs.Prelude.{◌≡◌, ◌≢◌, ◌⊎◌, ◌+◌, ◌≤◌, ◌^◌, ℕ, Ok, Err, IfOk, IfErr, length};
+ghost use Rattle.iso8211_records.specs.declared.fault.FileFault.{FileFault as FaultOfFile};
+ghost use Rattle.iso8211_records.specs.FileValue.{FileValue};
+ghost use Rattle.iso8211_records.specs.Answers.{Gives};
+ghost use Rattle.iso8211_records.specs.Reading.{data_records_at, come_to};
+ghost use Rattle.iso8211_records.specs.RecordFile.{IsRecordFile, record_file_of, data_records_in};
+ghost use Rattle.iso8211_records.specs.Fault.{HasFault};
 
+use crate::data::read_data_record;
+use crate::descriptive::read_descriptive_record;
+use crate::descriptors::DescriptorMap;
 use crate::fault::FileFault;
-use crate::field::read_data_record;
-use crate::known::DATA_DESCRIPTIVE_RECORD;
+use crate::laws::{faults_each, reads_each};
 use crate::record::{RawList, RecordFile};
 use chart_ports::Steps;
 use std::alloc::Global;
 use std::sync::ledger::Ledger;
 
-/// Reads a file: its data records in order, of each its fields, and of a field with a tag of the list
-/// its values. It counts a step for each data record that it comes to.
-///
-/// So far the list has DSID alone, and the file begins with the one known data descriptive record.
+/// Reads a file: the descriptors of the tags of the list, its data records in order, of each its
+/// fields, and of a field with a tag of the list its values. It counts a step for each data record that
+/// it comes to.
 ///
 /// # Errors
 ///
-/// `Unsupported` exactly where the bytes are no such file; `NoMemory`.
+/// The first fault by record, and in a record in the order of `FileFault`; `NoMemory`.
 pub fn read_file<C: Ledger>(
     alloc: Global,
     bytes: &[u8],
     tags: &[[u8; 4]],
     steps: &mut Steps<C>,
 ) -> Result<RecordFile, FileFault>
-    requires { tags.now ≡ DSID ∷ [] }
-    ensures file { IfOk result (λ file. record_file_of bytes.now ≡ Some file) }
-    ensures unsupported { result ≡ Err FileFault.Unsupported → record_file_of bytes.now ≡ None }
     // What is read is what the bytes are.
-    ensures reading { IfOk result (λ file. IsRecordFile bytes.now file) }
+    ensures reading { IfOk result (λ file. IsRecordFile tags.now bytes.now file) }
     // What the bytes are is read, unless memory runs out.
-    ensures read { (file : FileOfRecords) → IsRecordFile bytes.now file → (result ≡ Ok file) ⊎ (result ≡ Err FileFault.NoMemory) }
+    ensures read { (file : FileValue) → IsRecordFile tags.now bytes.now file → (result ≡ Ok file) ⊎ (result ≡ Err FileFault.NoMemory) }
+    // What is refused has this first fault, and as many data records were come to.
+    ensures fault { IfErr result (λ fault. fault ≢ FileFault.NoMemory → HasFault tags.now bytes.now (data_records_in tags.now bytes.now) fault) }
+    // What has a first fault is refused with it, unless memory runs out.
+    ensures refused { (number : ℕ) (fault : FaultOfFile) → HasFault tags.now bytes.now number fault → (result ≡ Err fault) ⊎ (result ≡ Err FileFault.NoMemory) }
+    ensures exact { Gives result (record_file_of tags.now bytes.now) }
     ensures counted { IfOk result (λ file. steps.new ≡ steps.old + length file.records) }
-    ensures come_to { result ≡ Err FileFault.Unsupported → steps.new ≡ steps.old + data_records_in bytes.now }
-    ensures at_most { steps.new ≤ steps.old + data_records_in bytes.now }
+    ensures come_to { result ≢ Err FileFault.NoMemory → steps.new ≡ steps.old + data_records_in tags.now bytes.now }
+    ensures at_most { steps.new ≤ steps.old + data_records_in tags.now bytes.now }
 {
-    read_known(alloc, bytes, tags, steps)
+    reads_each();
+    faults_each();
+    read_all(alloc, bytes, tags, steps)
 }
 
-/// Reads a file that begins with the known data descriptive record.
+/// Reads a file, as the function on lists has it.
 #[tactic(auto, unfolding(crate::specs::RecordFile::record_file_of, crate::specs::RecordFile::data_records_in))]
-fn read_known<C: Ledger>(
+fn read_all<C: Ledger>(
     alloc: Global,
     bytes: &[u8],
     tags: &[[u8; 4]],
     steps: &mut Steps<C>,
 ) -> Result<RecordFile, FileFault>
-    requires { tags.now ≡ DSID ∷ [] }
-    ensures read { Gives (λ file. file) result (record_file_of bytes.now) }
-    ensures come_to { result ≢ Err FileFault.NoMemory → steps.new ≡ steps.old + data_records_in bytes.now }
-    ensures at_most { steps.new ≤ steps.old + data_records_in bytes.now }
+    ensures read { Gives result (record_file_of tags.now bytes.now) }
+    ensures come_to { result ≢ Err FileFault.NoMemory → steps.new ≡ steps.old + data_records_in tags.now bytes.now }
+    ensures at_most { steps.new ≤ steps.old + data_records_in tags.now bytes.now }
 {
-    let Some(rest) = bytes.strip_prefix(&DATA_DESCRIPTIVE_RECORD) else {
-        return Err(FileFault::Unsupported);
-    };
-    let records = read_data_records(alloc, rest, tags, steps)?;
-    Ok(RecordFile { records })
+    let (descriptors, rest) = read_descriptive_record(alloc, bytes, tags)?;
+    let at = bytes.len() - rest.len();
+    let records = read_data_records(alloc, rest, at, tags, &descriptors, steps)?;
+    Ok(RecordFile {
+        descriptors,
+        records,
+    })
 }
 
-/// Reads data records up to the end of the bytes, and counts a step for each.
+/// Reads data records up to the end of the bytes, which begin at the place `at` of the file, and counts
+/// a step for each.
 fn read_data_records<C: Ledger>(
     alloc: Global,
     bytes: &[u8],
+    at: usize,
     tags: &[[u8; 4]],
+    descriptors: &DescriptorMap,
     steps: &mut Steps<C>,
 ) -> Result<RawList, FileFault>
-    requires { tags.now ≡ DSID ∷ [] }
-    ensures read { Gives (λ records. records) result (data_records_of known_layouts (length bytes.now) bytes.now) }
-    ensures come_to { result ≢ Err FileFault.NoMemory → steps.new ≡ steps.old + come_to known_layouts (length bytes.now) bytes.now }
-    ensures at_most { steps.new ≤ steps.old + come_to known_layouts (length bytes.now) bytes.now }
+    requires { at + length bytes.now ≤ 2 ^ 63 }
+    ensures read { Gives result (data_records_at (length bytes.now) tags.now descriptors.now 1 at bytes.now) }
+    ensures come_to { result ≢ Err FileFault.NoMemory → steps.new ≡ steps.old + come_to (length bytes.now) tags.now descriptors.now 1 at bytes.now }
+    ensures at_most { steps.new ≤ steps.old + come_to (length bytes.now) tags.now descriptors.now 1 at bytes.now }
 {
     let mut records = RawList::new(alloc);
+    let mut place = at;
     let mut rest = bytes;
     while !rest.is_empty() {
         steps.tick();
-        let (record, after) = read_data_record(alloc, rest, tags)?;
+        let number = records.as_slice().len() + 1;
+        let (record, length) = read_data_record(alloc, rest, place, number, tags, descriptors)?;
         records.push(record)?;
-        rest = after;
+        place += length;
+        rest = rest.split_at(length).1;
     }
     Ok(records)
 }

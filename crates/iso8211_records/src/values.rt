@@ -2,11 +2,11 @@
 
 ghost use Rattle.std.specs.Prelude.{◌≡◌, ◌⊎◌, ◌<◌, length, position, Ok, Err, Some, None, IfOk, IfSome};
 ghost use Rattle.iso8211_records.specs.declared.value.Value.{Value as ValueOf};
-ghost use Rattle.iso8211_records.specs.Spelling.{unsigned, signed, IsNumberSize, Layout};
-ghost use Rattle.iso8211_records.specs.Values.{Gives, front_at, open_text_at, value_at, values_at, groups_at, values_of, number_size, is_terminator, before, before_all};
+ghost use Rattle.iso8211_records.specs.Spelling.{unsigned, signed, IsNumberSize, FieldFormats};
+ghost use Rattle.iso8211_records.specs.Values.{Finds, front_at, open_text_at, value_at, values_at, groups_at, values_of, number_size, is_terminator, before, before_all};
 
-use crate::fault::FileFault;
-use crate::known::{FIELD_TERMINATOR, UNIT_TERMINATOR};
+use crate::fault::FieldFault;
+use crate::terminator::{FIELD_TERMINATOR, UNIT_TERMINATOR};
 use crate::value::{Value, ValueList};
 use chart_model::Octets;
 use iso8211_formats::Format;
@@ -17,15 +17,15 @@ use std::alloc::{AllocError, Global};
 ///
 /// # Errors
 ///
-/// `Unsupported` exactly where the text has no such reading; `NoMemory`.
+/// `Unspelled` exactly where the text has no such reading; `NoMemory`.
 #[tactic(auto, unfolding(crate::specs::Values::values_of))]
 pub(crate) fn read_values(
     alloc: Global,
     text: &[u8],
     once: &[Format],
     group: &[Format],
-) -> Result<ValueList, FileFault>
-    ensures { Gives (λ values. values) result (values_of (record { once = once.now; group = group.now }) text.now) }
+) -> Result<ValueList, FieldFault>
+    ensures { Finds (λ values. values) result (values_of (record { once = once.now; group = group.now }) text.now) }
 {
     let (values, rest) = read_each(alloc, text, once, Vec::new(alloc))?;
     let values = read_groups(alloc, rest, group, values)?;
@@ -38,14 +38,14 @@ fn read_groups(
     bytes: &[u8],
     group: &[Format],
     mut values: Vec<Value>,
-) -> Result<Vec<Value>, FileFault>
-    ensures { Gives (λ all. all.items) result (before_all values.items (groups_at (length bytes.now) group.now bytes.now)) }
+) -> Result<Vec<Value>, FieldFault>
+    ensures { Finds (λ all. all.items) result (before_all values.items (groups_at (length bytes.now) group.now bytes.now)) }
 {
     if group.is_empty() {
         return if bytes.is_empty() {
             Ok(values)
         } else {
-            Err(FileFault::Unsupported)
+            Err(FieldFault::Unspelled)
         };
     }
     let mut rest = bytes;
@@ -61,8 +61,8 @@ fn read_each<'a>(
     bytes: &'a [u8],
     formats: &[Format],
     mut values: Vec<Value>,
-) -> Result<(Vec<Value>, &'a [u8]), FileFault>
-    ensures { Gives (λ read. (read.0.items, read.1.now)) result (before values.items (values_at formats.now bytes.now)) }
+) -> Result<(Vec<Value>, &'a [u8]), FieldFault>
+    ensures { Finds (λ read. (read.0.items, read.1.now)) result (before values.items (values_at formats.now bytes.now)) }
 {
     let mut rest = bytes;
     for format in formats {
@@ -75,8 +75,8 @@ fn read_each<'a>(
 
 /// Reads the value at the front of the bytes, and gives the bytes after it.
 #[tactic(auto, unfolding(crate::specs::Values::value_at))]
-fn read_value(alloc: Global, bytes: &[u8], format: Format) -> Result<(Value, &[u8]), FileFault>
-    ensures { Gives (λ read. (read.0, read.1.now)) result (value_at format bytes.now) }
+fn read_value(alloc: Global, bytes: &[u8], format: Format) -> Result<(Value, &[u8]), FieldFault>
+    ensures { Finds (λ read. (read.0, read.1.now)) result (value_at format bytes.now) }
 {
     match format {
         Format::TextOpen => {
@@ -104,14 +104,14 @@ fn read_value(alloc: Global, bytes: &[u8], format: Format) -> Result<(Value, &[u
 
 /// The text up to a unit terminator, and the bytes after that.
 #[tactic(auto, unfolding(crate::specs::Values::open_text_at))]
-fn open_text(bytes: &[u8]) -> Result<(&[u8], &[u8]), FileFault>
-    ensures { Gives (λ read. (read.0.now, read.1.now)) result (open_text_at bytes.now) }
+fn open_text(bytes: &[u8]) -> Result<(&[u8], &[u8]), FieldFault>
+    ensures { Finds (λ read. (read.0.now, read.1.now)) result (open_text_at bytes.now) }
 {
     let Some(end) = terminator_of(bytes) else {
-        return Err(FileFault::Unsupported);
+        return Err(FieldFault::Unspelled);
     };
     if bytes[end] != UNIT_TERMINATOR {
-        return Err(FileFault::Unsupported);
+        return Err(FieldFault::Unspelled);
     }
     let (_, rest) = bytes.split_at(end + 1);
     let (text, _) = bytes.split_at(end);
@@ -128,25 +128,25 @@ fn terminator_of(bytes: &[u8]) -> Option<usize>
 
 /// So many bytes from the front, at least one, and the bytes after them.
 #[tactic(auto, unfolding(crate::specs::Values::front_at))]
-fn front(bytes: &[u8], size: usize) -> Result<(&[u8], &[u8]), FileFault>
-    ensures read { Gives (λ read. (read.0.now, read.1.now)) result (front_at size bytes.now) }
+fn front(bytes: &[u8], size: usize) -> Result<(&[u8], &[u8]), FieldFault>
+    ensures read { Finds (λ read. (read.0.now, read.1.now)) result (front_at size bytes.now) }
     ensures size { IfOk result (λ read. length read.0.now ≡ size) }
 {
     if size == 0 || bytes.len() < size {
-        return Err(FileFault::Unsupported);
+        return Err(FieldFault::Unspelled);
     }
     Ok(bytes.split_at(size))
 }
 
 /// The bytes of a binary number, and the bytes after them.
 #[tactic(auto, unfolding(crate::specs::Values::front_at))]
-fn number_front(bytes: &[u8], size: u8) -> Result<(&[u8], &[u8]), FileFault>
-    ensures read { Gives (λ read. (read.0.now, read.1.now)) result (front_at (number_size size) bytes.now) }
+fn number_front(bytes: &[u8], size: u8) -> Result<(&[u8], &[u8]), FieldFault>
+    ensures read { Finds (λ read. (read.0.now, read.1.now)) result (front_at (number_size size) bytes.now) }
     ensures size { IfOk result (λ read. IsNumberSize (length read.0.now)) }
 {
     match size {
         1 | 2 | 4 => front(bytes, size as usize),
-        _ => Err(FileFault::Unsupported),
+        _ => Err(FieldFault::Unspelled),
     }
 }
 

@@ -1,0 +1,151 @@
+//! Data records: what their fields hold.
+
+ghost use Rattle.std.specs.Prelude.{◌≡◌, ◌≤◌, ◌<◌, ◌^◌, length, IfOk};
+ghost use Rattle.std.specs.List.{AllByRecursion};
+ghost use Rattle.std.specs.Option.{option_copied};
+ghost use Rattle.iso8211_leader.specs.Leader.{frame};
+ghost use Rattle.iso8211_records.specs.Answers.{Gives, GivesBy};
+ghost use Rattle.iso8211_records.specs.Spelling.{formats_in};
+ghost use Rattle.iso8211_records.specs.Kinds.{layout_at};
+ghost use Rattle.iso8211_records.specs.Record.{IsInside, field_bytes};
+ghost use Rattle.iso8211_records.specs.Values.{Finds};
+ghost use Rattle.iso8211_records.specs.Reading.{data_record_at, fields_of, field_by, values_by, first_without, is_described, unless_undescribed};
+
+use crate::descriptors::DescriptorMap;
+use crate::fault::{FieldFault, FileFault};
+use crate::frame::{field_in, is_in_list, read_frame};
+use crate::record::{RawField, RawRecord};
+use crate::value::ValueList;
+use crate::values::read_values;
+use iso8211_formats::{Descriptor, Format};
+use iso8211_leader::{Entry, Leader};
+use std::alloc::Global;
+
+/// Reads the data record of this number that begins the bytes, which stand at the place `at` of the
+/// file, and gives how many bytes it has.
+#[tactic(auto, unfolding(crate::specs::Reading::data_record_at))]
+pub(crate) fn read_data_record(
+    alloc: Global,
+    bytes: &[u8],
+    at: usize,
+    number: usize,
+    tags: &[[u8; 4]],
+    descriptors: &DescriptorMap,
+) -> Result<(RawRecord, usize), FileFault>
+    requires { at ≤ 2 ^ 63 }
+    ensures read { Gives result (data_record_at tags.now descriptors.now number at bytes.now) }
+    ensures within { IfOk result (λ read. read.1 ≤ length bytes.now) }
+    ensures some { IfOk result (λ read. 0 < read.1) }
+{
+    let (leader, entries) = read_frame(alloc, bytes, at, tags, false)?;
+    check_described(tags, descriptors, entries.as_slice())?;
+    let fields = read_fields(
+        alloc,
+        bytes,
+        number,
+        tags,
+        descriptors,
+        &leader,
+        entries.as_slice(),
+    )?;
+    Ok((RawRecord::from_vec(fields), leader.length as usize))
+}
+
+/// Checks that each field with a tag of the list has a descriptor.
+fn check_described(
+    tags: &[[u8; 4]],
+    descriptors: &DescriptorMap,
+    entries: &[Entry],
+) -> Result<(), FileFault>
+    ensures { Gives result (unless_undescribed (first_without (is_described tags.now descriptors.now) entries.now)) }
+{
+    for entry in entries {
+        if !has_descriptor(tags, descriptors, entry) {
+            return Err(FileFault::Descriptor(entry.tag));
+        }
+    }
+    Ok(())
+}
+
+/// Whether a field has a descriptor, where its tag is one of the list.
+fn has_descriptor(tags: &[[u8; 4]], descriptors: &DescriptorMap, entry: &Entry) -> bool
+    ensures { result ≡ is_described tags.now descriptors.now entry.now }
+{
+    !is_in_list(tags, &entry.tag) || descriptors.contains(&entry.tag)
+}
+
+/// Reads the fields that the entries name in the data record of this number, which begins the bytes.
+fn read_fields(
+    alloc: Global,
+    bytes: &[u8],
+    number: usize,
+    tags: &[[u8; 4]],
+    descriptors: &DescriptorMap,
+    leader: &Leader,
+    entries: &[Entry],
+) -> Result<Vec<RawField>, FileFault>
+    requires whole { leader.now.length ≤ length bytes.now }
+    requires inside { AllByRecursion (IsInside (frame leader.now)) entries.now }
+    ensures { GivesBy (λ fields. fields.items) result (fields_of tags.now descriptors.now number (frame leader.now) bytes.now entries.now) }
+{
+    let mut fields = Vec::new(alloc);
+    for entry in entries {
+        let field = field_in(bytes, leader, entry);
+        fields.push(read_field(alloc, field, number, tags, descriptors, entry.tag)?)?;
+    }
+    Ok(fields)
+}
+
+/// Reads the field with this tag of the data record of this number.
+#[tactic(auto, unfolding(crate::specs::Reading::field_by))]
+fn read_field(
+    alloc: Global,
+    field: &[u8],
+    number: usize,
+    tags: &[[u8; 4]],
+    descriptors: &DescriptorMap,
+    tag: [u8; 4],
+) -> Result<RawField, FileFault>
+    ensures { Gives result (field_by tags.now descriptors.now number tag field.now) }
+{
+    if !is_in_list(tags, &tag) {
+        let values = ValueList::new(alloc);
+        return Ok(RawField { tag, values });
+    }
+    match read_by(alloc, field, descriptors.get(&tag)) {
+        Ok(values) => Ok(RawField { tag, values }),
+        Err(FieldFault::Unspelled) => Err(FileFault::Subfield(number, tag)),
+        Err(FieldFault::NoMemory) => Err(FileFault::NoMemory),
+    }
+}
+
+/// Reads the values of a field by its descriptor.
+#[tactic(auto, unfolding(crate::specs::Reading::values_by))]
+fn read_by(
+    alloc: Global,
+    field: &[u8],
+    descriptor: Option<&Descriptor>,
+) -> Result<ValueList, FieldFault>
+    ensures { Finds (λ values. values) result (values_by (option_copied descriptor.entry) field.now) }
+{
+    let Some(descriptor) = descriptor else {
+        return Err(FieldFault::Unspelled);
+    };
+    let text = match field {
+        [text @ .., _] => text,
+        [] => field,
+    };
+    let (once, group) = formats_of(descriptor);
+    read_values(alloc, text, once, group)
+}
+
+/// The formats of the subfields that stand once, and those of the group.
+fn formats_of(descriptor: &Descriptor) -> (&[Format], &[Format])
+    ensures { record { once = result.0.now; group = result.1.now } ≡ formats_in descriptor.now }
+{
+    let formats = descriptor.formats.as_slice();
+    match descriptor.repeats_from {
+        Some(first) => formats.split_at(first as usize - 1),
+        None => (formats, &[]),
+    }
+}
