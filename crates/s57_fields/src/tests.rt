@@ -1,11 +1,16 @@
 //! What subfields and rows are read as, by values worked out by hand.
 
+ghost use Rattle.std.specs.Prelude.{◌≡◌, ◌<◌};
+
 use super::*;
-use crate::tags::{ATTV, SG3D, VRID};
+use crate::tags::{ATTV, DSID, SG3D, VRID};
 use chart_model::Octets;
+use chart_ports::Steps;
 use iso8211_formats::{Descriptor, read_descriptor};
-use iso8211_records::{RawField, Value, ValueList};
+use iso8211_records::{FileFault, RawField, RecordFile, Value, ValueList, read_file};
 use std::alloc::{AllocError, Global};
+use std::marker::Brand;
+use std::sync::ledger::{Blank, Ledger};
 use std::test::Fail;
 
 fn text(alloc: Global, bytes: &[u8]) -> Result<Value, AllocError> {
@@ -218,5 +223,51 @@ fn soundings_are_in_centimetres(rt: HostRuntime) -> Result<(), Fail> {
     for (coord, wanted) in coords.as_slice().iter().zip(wanted) {
         assert_eq!(rt; (coord.x, coord.y, coord.z), wanted);
     }
+    Ok(())
+}
+
+/// A file with the general information of a data set alone.
+const FILE: &[u8] = b"002013LE1 0900036 ! 3404DSID1650000\x1e1600;&   \
+    Data set identification field\x1fRCNM!RCID!EXPP!INTU!DSNM!EDTN!UPDN!UADT!ISDT!STED!PRSP!PSDN!\
+    PRED!PROF!AGEN!COMT\x1f(b11,b14,2b11,3A,2A(8),R(4),b11,2A,b11,b12,A)\x1e\
+    00091 D     00036   3404DSID0550000\x1e\
+    \x0a\x01\x00\x00\x00\x01\x05AA5TEST1.000\x1f1\x1f0\x1f202401012024010203.1\x01\x1f2.0\x1f\x01\x26\x02\x1f\x1e";
+
+fn read_with<C: Ledger>(alloc: Global, blank: Blank) -> Result<RecordFile, FileFault>
+    requires name { blank.name ≡ C.name }
+    requires parts { blank.parts ≡ C.parts }
+    requires share { 0 < C.parts }
+{
+    let mut steps = Steps::<C>::new(blank);
+    read_file(alloc, FILE, &[DSID], &mut steps)
+}
+
+fn file(alloc: Global) -> Result<RecordFile, FileFault> {
+    read_with::<Brand>(alloc, Blank::new(1))
+}
+
+#[test]
+fn the_general_information_of_a_file(rt: HostRuntime) -> Result<(), Fail> {
+    let alloc = rt.alloc();
+    let file = file(alloc)?;
+    let dsid = read_dsid(alloc, &file, 1)?;
+    assert_eq!(rt; dsid.dsnm.as_slice(), b"AA5TEST1.000".as_slice());
+    assert_eq!(rt;
+        (dsid.edtn, dsid.updn, dsid.prof, dsid.agen),
+        (1, 0, 1, 550)
+    );
+    assert_eq!(rt; dsid.isdt, *b"20240102");
+    // There is no second record, and no other row.
+    let missing = FieldFault::MissingField {
+        record: 2,
+        tag: DSID,
+    };
+    assert!(rt; matches!(read_dsid(alloc, &file, 2), Err(fault) if fault == missing));
+    let missing = FieldFault::MissingField {
+        record: 1,
+        tag: VRID,
+    };
+    assert!(rt; matches!(read_vrid(alloc, &file, 1, true), Err(fault) if fault == missing));
+    assert_eq!(rt; read_attv(alloc, &file, 1)?.as_slice().len(), 0);
     Ok(())
 }
