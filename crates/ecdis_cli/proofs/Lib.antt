@@ -1,2 +1,4 @@
 pub mod Texts
-pub mod Scripts
+pub mod Lines
+pub mod Steps
+pub mod Runs

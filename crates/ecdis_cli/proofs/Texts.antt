@@ -1,6 +1,6 @@
 -- Lemmas on names, keys and numbers.
-use Rattle.std.proofs.Common.{◌≡◌, ℕ, ◌+◌, ◌-◌, ◌*◌, ◌^◌, ◌<◌, ◌≤◌, Bool, true, false, cond, not, ◌&&◌, List, [], ◌∷◌, length, take, get_or, eqb, leb, ltb, refl, sym, ◌∙◌, ap, arith, add-one, lit<}
-use Rattle.std.specs.Prelude.{Option, Some, None, SomeIff, All}
+use Rattle.std.proofs.Common.{◌≡◌, ℕ, ◌+◌, ◌-◌, ◌*◌, ◌^◌, ◌<◌, ◌≤◌, Bool, true, false, cond, not, ◌&&◌, List, length, take, get_or, eqb, leb, refl, sym, ◌∙◌, ap, arith, add-one, lit<}
+use Rattle.std.specs.Prelude.{Option, Some, None, SomeIff}
 use Rattle.std.specs.List.{list_all, list_any, suffix_len, before_last}
 use Rattle.std.specs.Char.{digit_value}
 use Rattle.std.specs.Str.{IsUtf8}

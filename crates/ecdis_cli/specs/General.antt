@@ -6,7 +6,7 @@ use Rattle.std.specs.Str.{bytes_eq}
 use Rattle.std.specs.Str.Parse.{digits_value}
 use Rattle.iso8211_records.specs.Tags.{DSID}
 use Rattle.iso8211_records.specs.declared.record.RawField.{RawField}
-use Rattle.iso8211_records.specs.declared.record.RecordFile.{RecordFile}
+use Rattle.iso8211_records.specs.FileValue.{FileValue}
 use Rattle.iso8211_records.specs.declared.value.Value.{Value}
 use Rattle.iso8211_records.specs.declared.value.Value.TheVariants.{Number, Text, Bits}
 use Rattle.ecdis_cli.specs.declared.general.General.{General}
@@ -49,7 +49,7 @@ key_of bytes = if nat_le 1 (length bytes) && nat_le (length bytes) 32 && list_al
 
 -- Of the DSID field's values, in the order RCNM RCID EXPP INTU DSNM EDTN UPDN .., DSNM is at place 4,
 -- EDTN at 5 and UPDN at 6 (S-57 Part 3, 7.3.1.1).
-unfoldable pub general_of : RecordFile → Option General
+unfoldable pub general_of : FileValue → Option General
 general_of file =
     option_and_then (λ (values : List Value).
     option_and_then (λ (key : List ℕ).

@@ -1,5 +1,6 @@
 pub mod Line
 pub mod General
+pub mod Refusal
 pub mod Reply
 pub mod Replies
 pub mod Progress

@@ -1,11 +1,11 @@
 -- How far the answering of a script has come.
-use Rattle.std.specs.Prelude.{◌≡◌, ℕ, ◌+◌, Bool, List, [], ◌∷◌, ◌++◌, IsTrue, count_by}
+use Rattle.std.specs.Prelude.{◌≡◌, ℕ, Bool, List, ◌++◌, IsTrue, All, ◌==◌, false, count_by, []}
 use Rattle.std.specs.Str.Lines.{lines}
 use Rattle.chart_ports.specs.Count.{Rose, RoseBy}
 use Rattle.chart_ports.specs.Said.{SaysFront}
 use Rattle.ecdis_cli.specs.declared.reply.Reply.{Reply}
 use Rattle.ecdis_cli.specs.Reply.{Files, answer_to, reply_to}
-use Rattle.ecdis_cli.specs.Replies.{replies_from, joined}
+use Rattle.ecdis_cli.specs.Replies.{replies_from, joined, ended}
 
 -- the line was answered
 pub record Answered (files : Files) (number : ℕ) (line before now : List ℕ) (faults_before faults_now : ℕ) : Type 0 where
@@ -27,14 +27,21 @@ output_from files number bytes marks = joined (replies_from files number (lines 
 abbrev pub marked : List Bool → ℕ
 marked marks = count_by (λ mark. mark) marks
 
+-- no line feed is among the bytes
+abbrev pub Unbroken : List ℕ → Type 0
+Unbroken bytes = All (λ byte. (byte == 10) ≡ false) bytes
+
 -- Further bytes were taken. Before them the line of this number had begun as `line`, after them the
 -- line `number'` has begun as `line'`; what was said is what goes before the replies to the rest,
--- however the script goes on.
+-- however the script goes on, and the replies to the lines that have ended.
 pub record Advanced (files : Files) (number : ℕ) (line bytes : List ℕ) (number' : ℕ) (line' before now : List ℕ) (faults_before faults_now : ℕ) : Type 0 where
   pub marks : List Bool
   pub replies : List ℕ
   pub said : now ≡ before ++ replies
   pub ahead : (rest : List ℕ) (more : List Bool) → output_from files number (line ++ (bytes ++ rest)) (marks ++ more) ≡ replies ++ output_from files number' (line' ++ rest) more
+  pub ended_lines : Unbroken line → replies ≡ output_from files number (ended (line ++ bytes)) marks
+  pub unended : Unbroken bytes → marks ≡ []
+  pub open_line : Unbroken line → Unbroken line'
   pub failed : RoseBy (marked marks) faults_before faults_now
 
 -- The run ended within these bytes: a front of the replies was said, however the script goes on.

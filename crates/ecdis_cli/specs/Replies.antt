@@ -1,5 +1,5 @@
 -- The replies to a script.
-use Rattle.std.specs.Prelude.{ℕ, ◌+◌, Bool, false, List, [], ◌∷◌, codes, nat_eq, count_by}
+use Rattle.std.specs.Prelude.{ℕ, ◌+◌, ◌==◌, if◌then◌else◌, Bool, false, List, [], ◌∷◌, codes, nat_eq, count_by}
 use Rattle.std.specs.List.{flat_map, starts_with}
 use Rattle.std.specs.Str.Lines.{lines}
 use Rattle.ecdis_cli.specs.Reply.{Files, reply_to}
@@ -14,6 +14,16 @@ replies_from files number (line ∷ more) (mark ∷ marks) = reply_to files numb
 -- one for each line of the script, where lines count from 1
 unfoldable pub replies_of : Files → List ℕ → List Bool → List (List ℕ)
 replies_of files script marks = replies_from files 1 (lines script) marks
+
+-- a byte before the ended part of what follows it: the part stays empty up to the first line feed from the back
+abbrev pub onto_ended : ℕ → List ℕ → List ℕ
+onto_ended byte [] = if byte == 10 then byte ∷ [] else []
+onto_ended byte (next ∷ more) = byte ∷ next ∷ more
+
+-- the bytes up to the last line feed, and with it: the lines that have ended
+abbrev pub ended : List ℕ → List ℕ
+ended [] = []
+ended (byte ∷ bytes) = onto_ended byte (ended bytes)
 
 -- the bytes of the replies, one after the other
 abbrev pub joined : List (List ℕ) → List ℕ

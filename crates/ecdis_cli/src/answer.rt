@@ -8,6 +8,7 @@ ghost use Rattle.ecdis_cli.specs.Progress.{Answered, Interrupted, Chosen};
 
 use crate::info::inform;
 use crate::line::{is_silent, name_on};
+use crate::refusal::Refusal;
 use crate::reply::{Reply, print};
 use crate::stop::Stop;
 use chart_ports::{Desk, Shelf, Steps};
@@ -29,7 +30,7 @@ fn reply_to<L: Shelf, C: Ledger>(
 {
     match name_on(line) {
         Some(name) => inform(alloc, name, shelf, steps),
-        None => Ok(Reply::BadLine(number)),
+        None => Ok(Reply::Refused(Refusal::BadLine(number))),
     }
 }
 

@@ -1,18 +1,30 @@
 //! The command `info`.
 
-ghost use Rattle.std.specs.Prelude.{◌≡◌, ◌≤◌, ◌⊎◌, IsTrue, IfOk};
+ghost use Rattle.std.specs.Prelude.{◌≡◌, ◌≤◌, ◌⊎◌, Ok, IsTrue, IfOk};
 ghost use Rattle.chart_ports.specs.Count.{Rose};
-ghost use Rattle.ecdis_cli.specs.Reply.{reading_of, reply_on, reply_to_fetched};
+ghost use Rattle.ecdis_cli.specs.Reply.{reading_of, reply_on, reply_to_fetched, reply_to_records};
 
 use crate::general::general_of;
+use crate::refusal::Refusal;
 use crate::reply::Reply;
+use chart_model::Octets;
 use chart_ports::{Fetched, Shelf, ShelfError, Steps};
-use iso8211_records::{FileFault, read_file};
+use iso8211_records::{FileFault, RecordFile, read_file};
 use std::alloc::{AllocError, Global};
 use std::sync::ledger::Ledger;
 
 /// The most bytes of a file that is read.
 const FILE_LIMIT: u64 = 8_388_608;
+
+/// What is said of a file of records.
+fn reply_to_records(file: &RecordFile) -> Reply
+    ensures { result ≡ reply_to_records (Ok file.now) }
+{
+    match general_of(file) {
+        Some(general) => Reply::Info(general),
+        None => Reply::Refused(Refusal::NoGeneral),
+    }
+}
 
 /// What is said of a file with these bytes.
 #[tactic(auto, unfolding(crate::specs::Reply::reading_of))]
@@ -20,26 +32,28 @@ fn read<C: Ledger>(alloc: Global, bytes: &[u8], steps: &mut Steps<C>) -> Result<
     ensures { IfOk result (λ reply. reply ≡ reading_of bytes.now) }
 {
     match read_file(alloc, bytes, &[*b"DSID"], steps) {
-        Ok(file) => match general_of(&file) {
-            Some(general) => Ok(Reply::Info(general)),
-            None => Ok(Reply::Unread),
-        },
-        Err(FileFault::Unsupported) => Ok(Reply::Unread),
+        Ok(file) => Ok(reply_to_records(&file)),
         Err(FileFault::NoMemory) => Err(AllocError),
+        Err(fault) => Ok(Reply::Refused(Refusal::File(fault))),
     }
 }
 
-/// What is said of a file that the shelf has under a name, or of none.
-fn reply_to_file<C: Ledger>(
+/// What is said of what the shelf has under a name.
+fn reply_to_fetched<C: Ledger>(
     alloc: Global,
+    name: &str,
     fetched: &Fetched,
     steps: &mut Steps<C>,
 ) -> Result<Reply, AllocError>
-    ensures { IfOk result (λ reply. reply ≡ reply_to_fetched fetched.now) }
+    ensures { IfOk result (λ reply. reply ≡ reply_to_fetched name.now fetched.now) }
 {
     match fetched {
         Fetched::Bytes(bytes) => read(alloc, bytes.as_slice(), steps),
-        Fetched::Absent | Fetched::Long => Ok(Reply::Unread),
+        Fetched::Absent => {
+            let name = Vec::from_slice(alloc, name.as_bytes())?;
+            Ok(Reply::Refused(Refusal::NoFile(Octets::from_vec(name))))
+        }
+        Fetched::Long => Ok(Reply::Refused(Refusal::FileLong(FILE_LIMIT))),
     }
 }
 
@@ -51,14 +65,14 @@ pub fn inform<L: Shelf, C: Ledger>(
     shelf: &mut L,
     steps: &mut Steps<C>,
 ) -> Result<Reply, AllocError>
-    ensures found { IsTrue L.tells → IfOk result (λ reply. (reply ≡ Reply.ShelfFault) ⊎ (reply ≡ reply_on (L.files shelf.old name.now))) }
-    ensures failed { IfOk result (λ reply. reply ≡ Reply.ShelfFault → Rose (L.faults shelf.old) (L.faults shelf.new)) }
+    ensures found { IsTrue L.tells → IfOk result (λ reply. (reply ≡ Reply.Refused Refusal.ShelfFault) ⊎ (reply ≡ reply_on name.now (L.files shelf.old name.now))) }
+    ensures failed { IfOk result (λ reply. reply ≡ Reply.Refused Refusal.ShelfFault → Rose (L.faults shelf.old) (L.faults shelf.new)) }
     ensures same { IsTrue L.tells → L.files shelf.new ≡ L.files shelf.old }
     ensures later { L.faults shelf.old ≤ L.faults shelf.new }
 {
     match shelf.fetch(alloc, name, FILE_LIMIT) {
-        Ok(fetched) => reply_to_file(alloc, &fetched, steps),
-        Err(ShelfError::Failed) => Ok(Reply::ShelfFault),
+        Ok(fetched) => reply_to_fetched(alloc, name, &fetched, steps),
+        Err(ShelfError::Failed) => Ok(Reply::Refused(Refusal::ShelfFault)),
         Err(ShelfError::NoMemory) => Err(AllocError),
     }
 }

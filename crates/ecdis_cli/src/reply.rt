@@ -4,17 +4,14 @@ ghost use Rattle.std.specs.Prelude.{◌≡◌, IfOk};
 ghost use Rattle.ecdis_cli.specs.Reply.{printed};
 
 use crate::general::General;
+use crate::refusal::Refusal;
 use std::alloc::{AllocError, Global};
 
 /// What is replied to a line.
-#[derive(Clone, Copy, Debug)]
+#[derive(Debug, Drop)]
 pub enum Reply {
-    /// The line of this number has no meaning.
-    BadLine(u64),
-    /// The shelf failed.
-    ShelfFault,
-    /// The file is absent, too long or not of the form that is read.
-    Unread,
+    /// The line is refused.
+    Refused(Refusal),
     /// What the file says of itself.
     Info(General),
 }
@@ -34,12 +31,14 @@ fn print_info(alloc: Global, general: &General) -> Result<Vec<u8>, AllocError>
     Ok(bytes)
 }
 
-/// The bytes of `no 70 N`.
-fn print_bad_line(alloc: Global, number: u64) -> Result<Vec<u8>, AllocError>
-    ensures { IfOk result (λ bytes. bytes.items ≡ printed (Reply.BadLine number)) }
+/// The bytes of `no`, the refusal's code and what it names.
+fn print_refusal(alloc: Global, refusal: &Refusal) -> Result<Vec<u8>, AllocError>
+    ensures { IfOk result (λ bytes. bytes.items ≡ printed (Reply.Refused refusal.now)) }
 {
-    let text = format!(in alloc; "no 70 {number}\n")?;
-    Ok(text.into_bytes())
+    let mut bytes = format!(in alloc; "no {}", refusal.code())?.into_bytes();
+    refusal.push_values(alloc, &mut bytes)?;
+    bytes.push(b'\n')?;
+    Ok(bytes)
 }
 
 /// The bytes of the reply.
@@ -47,9 +46,7 @@ pub fn print(alloc: Global, reply: &Reply) -> Result<Vec<u8>, AllocError>
     ensures { IfOk result (λ bytes. bytes.items ≡ printed reply.now) }
 {
     match reply {
-        Reply::BadLine(number) => print_bad_line(alloc, *number),
-        Reply::ShelfFault => Vec::from_slice(alloc, b"no 72\n"),
-        Reply::Unread => Vec::from_slice(alloc, b"no 99\n"),
+        Reply::Refused(refusal) => print_refusal(alloc, refusal),
         Reply::Info(general) => print_info(alloc, general),
     }
 }

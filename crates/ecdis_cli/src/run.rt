@@ -31,7 +31,7 @@ pub fn run_ecdis<S: Source, L: Shelf, D: Desk, C: Ledger>(
     ensures unsaid { result ≡ Status.Words → desk.new ≡ desk.old }
 
     // What is said is the replies to the lines, or a front of them.
-    ensures output { IsTrue S.tells → IsTrue L.tells → IsTrue D.tells → Replied (S.left script.old) (L.files shelf.old) result (D.said desk.old) (D.said desk.new) (L.faults shelf.old) (L.faults shelf.new) }
+    ensures output { IsTrue S.tells → IsTrue L.tells → IsTrue D.tells → Replied (S.left script.old) (S.left script.new) (L.files shelf.old) result (D.said desk.old) (D.said desk.new) (L.faults shelf.old) (L.faults shelf.new) }
     ensures done { result ≡ Status.Done → IsTrue (S.is_at_end script.new) }
     ensures read { IsTrue S.tells → result ≡ Status.Done → S.left script.new ≡ [] }
     ensures same { IsTrue L.tells → L.files shelf.new ≡ L.files shelf.old }

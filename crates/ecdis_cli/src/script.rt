@@ -23,7 +23,7 @@ pub fn run_script<S: Source, L: Shelf, D: Desk, C: Ledger>(
     steps: &mut Steps<C>,
 ) -> Status
     requires { 0 < length buffer.old }
-    ensures output { IsTrue S.tells → IsTrue L.tells → IsTrue D.tells → Replied (S.left script.old) (L.files shelf.old) result (D.said desk.old) (D.said desk.new) (L.faults shelf.old) (L.faults shelf.new) }
+    ensures output { IsTrue S.tells → IsTrue L.tells → IsTrue D.tells → Replied (S.left script.old) (S.left script.new) (L.files shelf.old) result (D.said desk.old) (D.said desk.new) (L.faults shelf.old) (L.faults shelf.new) }
     ensures words { result ≢ Status.Words }
     ensures done { result ≡ Status.Done → IsTrue (S.is_at_end script.new) }
     ensures read { IsTrue S.tells → result ≡ Status.Done → S.left script.new ≡ [] }

@@ -45,11 +45,19 @@ fn failing(alloc: Global, number: u64) -> Result<FailingCalls, AllocError> {
     Ok(FailingCalls::from_vec([number].to_vec(alloc)?))
 }
 
-/// A shelf with the cell and an empty file.
+/// A shelf with the cell, the cell with a fault in its descriptor's labels, and an empty file.
 fn shelf(alloc: Global, fetch: u64) -> Result<MemoryShelf, AllocError> {
     let mut shelf = MemoryShelf::new(alloc, failing(alloc, fetch)?);
     let cell = FileBytes::from_vec(CELL.to_vec(alloc)?);
     shelf.insert(String::from_str(alloc, "AA5TEST1.000")?, cell)?;
+    let mut labels = CELL.to_vec(alloc)?;
+    if labels.len() > 79 {
+        labels[79] = b'?';
+    }
+    shelf.insert(
+        String::from_str(alloc, "LABELS")?,
+        FileBytes::from_vec(labels),
+    )?;
     let empty = FileBytes::from_vec(Vec::new(alloc));
     shelf.insert(String::from_str(alloc, "EMPTY")?, empty)?;
     Ok(shelf)
@@ -107,12 +115,15 @@ fn answers_lines(rt: HostRuntime) -> Result<(), Fail> {
         (b"info AA5TEST1.000", b"ok info AA5TEST1 1 0 1\n"),
         // A carriage return is removed only before a line feed, and only one.
         (b"info EMPTY\r\r\ninfo EMPTY\r", b"no 70 1\nno 70 2\n"),
-        (b"info EMPTY\ninfo NONE\n", b"no 99\nno 99\n"),
+        (
+            b"info EMPTY\ninfo NONE\ninfo LABELS\n",
+            b"no 10 0\nno 71 NONE\nno 14 DSID\n",
+        ),
         (b"", b""),
         (b"\n\r\n#info\n#\n \n", b"no 70 5\n"),
         (
             b"info\ninfo \ninfo  A\ninfo A \ninfo A B\nINFO A\ninfo A\x7F\ninfo \x80\ninfo !~\n",
-            b"no 70 1\nno 70 2\nno 70 3\nno 70 4\nno 70 5\nno 70 6\nno 70 7\nno 70 8\nno 99\n",
+            b"no 70 1\nno 70 2\nno 70 3\nno 70 4\nno 70 5\nno 70 6\nno 70 7\nno 70 8\nno 71 !~\n",
         ),
     ];
     for (script, said) in cases {
@@ -133,8 +144,7 @@ fn answers_lines(rt: HostRuntime) -> Result<(), Fail> {
 fn answers_long_lines(rt: HostRuntime) -> Result<(), Fail> {
     let alloc = rt.alloc();
     let words = name(alloc)?;
-    let cases: [(&[u8], usize, &[u8]); 7] = [
-        (b"info ", 255, b"no 99\n"),
+    let cases: [(&[u8], usize, &[u8]); 6] = [
         (b"info ", 256, b"no 70 1\n"),
         (b"", 1024, b"no 70 1\n"),
         (b"", 1025, b"no 70 1\n"),
@@ -142,6 +152,11 @@ fn answers_long_lines(rt: HostRuntime) -> Result<(), Fail> {
         (b"#", 1023, b""),
         (b"#", 2000, b""),
     ];
+    let name = line(alloc, b"info ", 255)?;
+    let reply = line(alloc, b"no 71 ", 255)?;
+    let longest = outcome(alloc, &words, &Case::of(name.as_slice()))?;
+    assert_eq!(rt; longest.0, Status::Done);
+    assert_eq!(rt; longest.1.as_slice(), reply.as_slice());
     for (front, count, said) in cases {
         let script = line(alloc, front, count)?;
         let outcome = outcome(alloc, &words, &Case::of(script.as_slice()))?;
@@ -165,7 +180,7 @@ fn ends_where_a_device_fails(rt: HostRuntime) -> Result<(), Fail> {
         (
             Case { fetch: 1, ..whole },
             Status::Done,
-            b"no 72\nno 99\nno 70 3\n",
+            b"no 72\nno 71 NONE\nno 70 3\n",
         ),
         (
             Case { fetch: 2, ..whole },
@@ -183,19 +198,19 @@ fn ends_where_a_device_fails(rt: HostRuntime) -> Result<(), Fail> {
         (
             Case { pull: 2, ..whole },
             Status::ScriptFault,
-            b"ok info AA5TEST1 1 0 1\nno 99\nno 70 3\n",
+            b"ok info AA5TEST1 1 0 1\nno 71 NONE\nno 70 3\n",
         ),
         // The desk fails at each reply, of which it says a half.
         (Case { say: 1, ..whole }, Status::DeskFault, b"ok info AA5"),
         (
             Case { say: 2, ..whole },
             Status::DeskFault,
-            b"ok info AA5TEST1 1 0 1\nno ",
+            b"ok info AA5TEST1 1 0 1\nno 71",
         ),
         (
             Case { say: 3, ..whole },
             Status::DeskFault,
-            b"ok info AA5TEST1 1 0 1\nno 99\nno 7",
+            b"ok info AA5TEST1 1 0 1\nno 71 NONE\nno 7",
         ),
     ];
     for (case, status, said) in cases {

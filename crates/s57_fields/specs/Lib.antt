@@ -1,5 +1,6 @@
 pub mod Answers
 pub mod Columns
+pub mod Files
 pub mod General
 pub mod Identifiers
 pub mod Lists

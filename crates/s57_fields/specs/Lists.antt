@@ -1,5 +1,5 @@
 -- The rows of the table of fields: the lists of a record, and the control fields that edit them.
-use Rattle.std.specs.Prelude.{ℕ, Bool, true, false, List, Option, Result, Ok, Err, Some, None, map, ℤ, pos, ◌*ℤ◌}
+use Rattle.std.specs.Prelude.{ℕ, Bool, true, false, List, Option, Result, Ok, Err, Some, None, map, ℤ}
 use Rattle.iso8211_formats.specs.Layout.{Layout}
 use Rattle.s57_fields.specs.declared.fault.FieldFault.{FieldFault}
 use Rattle.s57_fields.specs.Answers.{◌>>=◌}
@@ -8,7 +8,7 @@ use Rattle.std.specs.List.{zip}
 use Rattle.s57_fields.specs.Number.{number_up_to}
 use Rattle.s57_fields.specs.Places.{subfield_of}
 use Rattle.s57_fields.specs.RowValues.{RowValues}
-use Rattle.s57_fields.specs.Signed.{number_within}
+use Rattle.s57_fields.specs.Signed.{number_within, depth_in}
 use Rattle.s57_fields.specs.Texts.{plain_text}
 use Rattle.s57_fields.specs.Names.{record_name, object_name}
 use Rattle.chart_model.specs.declared.record.Attr.{Attr}
@@ -77,7 +77,7 @@ fspt_row layout = record { name = subfield_of layout NAME; ornt = subfield_of la
 
 abbrev pub vector_pointers : List Name → List ℕ → List ℕ → List ℕ → List ℕ → List Pointer
 vector_pointers names ornts usags topis masks =
-    map (λ it. record { target = it.0; ornt = it.1.0; usag = it.1.1.0; topi = it.1.1.1.0; mask = it.1.1.1.1 }) (zip names (zip ornts (zip usags (zip topis masks))))
+    map (λ it. record { target = it.0.0.0.0; ornt = it.0.0.0.1; usag = it.0.0.1; topi = it.0.1; mask = it.1 }) (zip (zip (zip (zip names ornts) usags) topis) masks)
 
 unfoldable pub vector_pointer_columns : VectorPointerRow → RowValues → Result (List Pointer) FieldFault
 vector_pointer_columns row values = do
@@ -94,7 +94,7 @@ vector_pointers_in row values = listed values.fields (vector_pointer_columns row
 -- a feature's pointers have no topology: 255
 abbrev pub feature_pointers : List Name → List ℕ → List ℕ → List ℕ → List Pointer
 feature_pointers names ornts usags masks =
-    map (λ it. record { target = it.0; ornt = it.1.0; usag = it.1.1.0; topi = 255; mask = it.1.1.1 }) (zip names (zip ornts (zip usags masks)))
+    map (λ it. record { target = it.0.0.0; ornt = it.0.0.1; usag = it.0.1; topi = 255; mask = it.1 }) (zip (zip (zip names ornts) usags) masks)
 
 unfoldable pub feature_pointer_columns : FeaturePointerRow → RowValues → Result (List Pointer) FieldFault
 feature_pointer_columns row values = do
@@ -122,10 +122,6 @@ LATITUDE = 900000000
 abbrev pub LONGITUDE : ℕ
 LONGITUDE = 1800000000
 
--- a depth of decimetres in centimetres
-abbrev pub centimetres : ℤ → ℤ
-centimetres decimetres = decimetres *ℤ pos 10
-
 abbrev pub coordinates : List ℤ → List ℤ → List Coord
 coordinates ys xs = map (λ it. record { x = it.1; y = it.0; z = None }) (zip ys xs)
 
@@ -139,14 +135,13 @@ abbrev pub coordinates_in : CoordinateRow → RowValues → Result (List Coord) 
 coordinates_in row values = listed values.fields (coordinate_columns row values)
 
 abbrev pub soundings : List ℤ → List ℤ → List ℤ → List Coord
-soundings ys xs depths = map (λ it. record { x = it.1.0; y = it.0; z = Some (centimetres it.1.1) }) (zip ys (zip xs depths))
+soundings ys xs depths = map (λ it. record { x = it.0.1; y = it.0.0; z = Some it.1 }) (zip (zip ys xs) depths)
 
--- depths are whole decimetres
 unfoldable pub sounding_columns : SoundingRow → RowValues → Result (List Coord) FieldFault
 sounding_columns row values = do
   ys ← column_in (number_within LATITUDE) values row.ycoo
   xs ← column_in (number_within LONGITUDE) values row.xcoo
-  depths ← column_in (number_within 999999) values row.ve3d
+  depths ← column_in depth_in values row.ve3d
   Ok (soundings ys xs depths)
 
 abbrev pub soundings_in : SoundingRow → RowValues → Result (List Coord) FieldFault

@@ -14,10 +14,13 @@ pub mod labels;
 mod lists;
 mod name;
 mod number;
+mod readers;
 mod row_fields;
 mod signed;
 mod subfield;
 pub mod tags;
+#[cfg(test)]
+mod tests;
 mod text;
 
 pub use fault::FieldFault;
@@ -30,7 +33,12 @@ pub use lists::{
 };
 pub use name::{ObjectName, RecordName};
 pub use number::{FourBytes, OneByte, TwoBytes};
+pub use readers::{
+    read_attf, read_attv, read_dsid, read_dspm, read_dssi, read_ffpc, read_ffpt, read_foid,
+    read_frid, read_fspc, read_fspt, read_sg2d, read_sg3d, read_sgcc, read_vrid, read_vrpc,
+    read_vrpt,
+};
 pub use row_fields::RowFields;
-pub use signed::Within;
+pub use signed::{Depth, Within};
 pub use subfield::{Place, Subfield};
 pub use text::{DataSetName, EightBytes, NineDigits, PlainText, key_in};

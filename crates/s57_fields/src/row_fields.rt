@@ -22,7 +22,7 @@ pub struct RowFields<'a> {
 
 impl<'a> Model for RowFields<'a> {
     ghost use Rattle.std.specs.Str.{bytes_eq};
-ghost use Rattle.s57_fields.specs.RowValues.{RowValues, fields_in};
+    ghost use Rattle.s57_fields.specs.RowValues.{RowValues, fields_in};
 
     ghost Value = { RowValues };
 

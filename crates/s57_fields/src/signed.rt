@@ -1,8 +1,8 @@
 //! Signed numbers: binary, or digits in a text.
 
 ghost use Rattle.std.specs.Prelude.{◌≡◌, ◌<◌, ◌≤◌, ◌^◌, IfSome, unsigned_abs};
-ghost use Rattle.chart_model.specs.Record.{IsWithin};
-ghost use Rattle.s57_fields.specs.Signed.{number_within, whole_within};
+ghost use Rattle.chart_model.specs.Record.{IsDepth, IsWithin};
+ghost use Rattle.s57_fields.specs.Signed.{number_within, whole_within, depth_in};
 
 use crate::kind::Kind;
 use crate::number::digits_up_to;
@@ -54,5 +54,28 @@ impl Kind for Within {
 
     fn read(&self, _alloc: Global, value: &Value) -> Result<Option<i32>, AllocError> {
         Ok(number_within(self.most, value))
+    }
+}
+
+/// The depth of a sounding (VE3D): decimetres from -999,999 to 999,999, read as centimetres.
+#[derive(Clone, Copy, Debug)]
+pub struct Depth;
+
+/// The greatest depth, in decimetres.
+const GREATEST_DEPTH: u32 = 999_999;
+
+impl Kind for Depth {
+    type Output = i32;
+
+    ghost reads = { λ _. depth_in };
+
+    ghost holds = { λ _. IsDepth };
+
+    #[tactic(auto, unfolding(crate::specs::Signed::depth_in))]
+    fn read(&self, _alloc: Global, value: &Value) -> Result<Option<i32>, AllocError> {
+        match number_within(GREATEST_DEPTH, value) {
+            Some(decimetres) => Ok(Some(decimetres * 10)),
+            None => Ok(None),
+        }
     }
 }

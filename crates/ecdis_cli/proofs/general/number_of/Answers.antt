@@ -1,5 +1,5 @@
 -- Nine digits fit, and each digit more is one more of the value.
-use Rattle.std.proofs.Common.{◌+◌, ◌*◌, ◌^◌, ◌<◌, ◌≤◌, get_or, arith}
+use Rattle.std.proofs.Common.{◌^◌, ◌<◌, ◌≤◌, get_or, arith}
 use Rattle.std.proofs.lemmas.Bool.Decides.{nat_tests}
 use Rattle.ecdis_cli.proofs.Texts.{number-room, number-small, number-value, number-digits}
 use Rattle.ecdis_cli.proofs.general.number_of.Goals as goal

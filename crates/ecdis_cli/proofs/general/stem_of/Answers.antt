@@ -1,5 +1,5 @@
 -- The first dot from the back is the last one.
-use Rattle.std.proofs.Common.{◌<◌, ◌≤◌, length, arith, rules}
+use Rattle.std.proofs.Common.{arith, rules}
 use Rattle.ecdis_cli.proofs.Texts.{stem_of-dot, stem_of-none}
 use Rattle.ecdis_cli.proofs.general.stem_of.Goals as goal
 

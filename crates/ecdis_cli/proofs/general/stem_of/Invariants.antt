@@ -1,5 +1,5 @@
 -- no dot stands from the place on
-use Rattle.std.proofs.Common.{◌≡◌, ◌+◌, ℕ, ◌<◌, ◌≤◌, length, get_or, false, eqb}
+use Rattle.std.proofs.Common.{◌≡◌, ℕ, ◌<◌, ◌≤◌, length, get_or, false, eqb}
 use Rattle.ecdis_cli.proofs.general.stem_of.Given as goal
 
 abbrev pub invariant-loop-place : goal.invariant-loop-place

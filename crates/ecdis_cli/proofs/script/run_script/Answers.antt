@@ -1,7 +1,8 @@
 -- The run goes on by the bytes that were pulled.
-use Rattle.std.proofs.Common.{◌≡◌, ◌≤◌, ◌+◌, length, ◌-◌, min, length-take-le, arith, refl, ap, ◌∙◌, inl}
+use Rattle.std.proofs.Common.{◌≡◌, ◌≤◌, length-take-le, arith, refl, ap, ◌∙◌, inl}
 use Rattle.std.specs.Prelude.{Ok}
-use Rattle.ecdis_cli.proofs.Scripts.{Underway-start, Underway-next, Underway-stopped, Underway-halted, Underway-done, Underway-cut, pull-part, pull-whole, length-pull, given-more, rose-fewer, Halted-here, status_of-not_done}
+use Rattle.ecdis_cli.proofs.Steps.{rose-fewer}
+use Rattle.ecdis_cli.proofs.Runs.{Underway-start, Underway-next, Underway-fault, Underway-long, Underway-halted, Underway-done, Underway-cut, pull-part, pull-whole, length-pull, given-more}
 use Rattle.ecdis_cli.proofs.script.run_script.Goals as goal
 
 pub loop-round-init : goal.loop-round-init
@@ -18,11 +19,11 @@ loop-round-init g c = record {
 }
 
 pub returns-in-Err-clause-output : goal.returns-in-Err-clause-output
-returns-in-Err-clause-output g c = λ s l d. Underway-stopped _ _ _ _ _ _ _ _ _ _ (λ e. cc) (c.loop-round.invariant.underway s l d)
+returns-in-Err-clause-output g c = λ s l d. Underway-fault _ _ _ _ _ _ _ _ _ _ (c.in-Err.ensures.err s) (c.loop-round.invariant.underway s l d)
 
 pub returns-in-Err-finish-clause-output : goal.returns-in-Err-finish-clause-output
 returns-in-Err-finish-clause-output g c = λ s l d.
-    Underway-cut _ _ _ _ _ _ _ _ _ _ _ _ _ (status_of-not_done _ _ c.status.ensures) (c.loop-round.invariant.same l)
+    Underway-cut _ _ _ _ _ _ _ _ _ _ _ _ _ _ _ c.status.ensures (c.loop-round.invariant.same l)
     c.loop-round.invariant.shelf_later c.finish.ensures.shelf_later c.loop-round.reader.unbroken (c.in-Ok.ensures.end s (omega arith) (let none : c.in-Ok.count ≡ 0 = omega arith in ap Ok none))
     (c.loop-round.invariant.underway s l d) (c.in-Err-finish.ensures.err l d)
 
@@ -34,17 +35,19 @@ returns-then-count-eq0-clause-output g c = λ s l d.
 
 pub returns-in-Err-take_all-clause-output : goal.returns-in-Err-take_all-clause-output
 returns-in-Err-take_all-clause-output g c = λ s l d.
-    Underway-halted _ _ _ _ _ _ _ _ _ _ _ _ _ _ _ (status_of-not_done _ _ c.status-in-Err-take_all.ensures) (c.loop-round.invariant.same l)
+    Underway-halted _ _ _ _ _ _ _ _ _ _ _ _ _ _ _ _ _ c.status-in-Err-take_all.ensures (c.loop-round.invariant.same l)
     c.loop-round.invariant.shelf_later c.take_all.ensures.shelf_later
     (let part : c.min.result ≤ c.in-Ok.count = omega (arith, c.min.ensures) in pull-part c.min.result c.in-Ok.count c.pull.new.buf _ _ part (c.in-Ok.ensures.bytes s))
     (c.loop-round.invariant.underway s l d) (c.in-Err-take_all.ensures.err l d)
 
 pub returns-then-count-room-clause-output : goal.returns-then-count-room-clause-output
 returns-then-count-room-clause-output g c = λ s l d.
-    Underway-halted _ _ _ _ _ _ _ _ _ _ _ _ _ _ _ (λ e. cc) (c.loop-round.invariant.same l)
+    Underway-long _ _ _ _ _ _ _ c.loop-round.room _ _ _ _ _ _ _ _ _ _ (c.loop-round.invariant.same l)
     c.loop-round.invariant.shelf_later c.take_all.ensures.shelf_later
     (let part : c.min.result ≤ c.in-Ok.count = omega (arith, c.min.ensures) in pull-part c.min.result c.in-Ok.count c.pull.new.buf _ _ part (c.in-Ok.ensures.bytes s))
-    (c.loop-round.invariant.underway s l d) (Halted-here _ _ _ _ _ _ _ _ _ _ (c.in_default-take_all.ensures.ok l d))
+    (length-take-le c.min.result c.pull.new.buf (omega (arith, c.in-Ok.ensures.within, c.min.ensures)) ∙ (let room : c.min.result ≡ c.loop-round.room = omega (arith, c.min.ensures) in room))
+    (c.loop-round.invariant.counted s)
+    (c.loop-round.invariant.underway s l d) (c.in_default-take_all.ensures.ok l d)
 
 pub returns-then-count-room-clause-script_over : goal.returns-then-count-room-clause-script_over
 returns-then-count-room-clause-script_over g c = λ s e.

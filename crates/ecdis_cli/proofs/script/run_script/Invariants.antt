@@ -2,7 +2,7 @@
 use Rattle.std.proofs.Common.{◌≡◌, ◌+◌, ◌-◌, ◌≤◌, length}
 use Rattle.std.specs.Prelude.{IsTrue}
 use Rattle.chart_ports.specs.Count.{RoseBy}
-use Rattle.ecdis_cli.proofs.Scripts.{Underway}
+use Rattle.ecdis_cli.proofs.Runs.{Underway}
 use Rattle.ecdis_cli.proofs.script.run_script.Given as goal
 
 abbrev pub invariant-loop-round : goal.invariant-loop-round

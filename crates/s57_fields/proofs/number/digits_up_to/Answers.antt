@@ -32,8 +32,8 @@ loop-byte-preserved c =
     record {
       within = omega arith;
       goes_on = ap (λ (k : ℕ). scanned most (l.number * 10 + k) (drop (l.byte-index + 1) text)) same
-        ∙ sym (scanned-more most l.number text l.byte-index (omega arith) digit (omega (arith, value.0)))
-        ∙ l.invariant.goes_on;
+          ∙ sym (scanned-more most l.number text l.byte-index (omega arith) digit (omega (arith, value.0)))
+          ∙ l.invariant.goes_on;
     }
 
 pub returns-clause-found : goal.returns-clause-found

@@ -2,7 +2,7 @@
 use Rattle.std.proofs.Common.{List, ℕ, ◌+◌, ◌∷◌, [], sym, ap, ◌∙◌, subst}
 use Rattle.std.specs.Str.Lines.{strip_carriage_return}
 use Rattle.ecdis_cli.specs.Progress.{Advanced}
-use Rattle.ecdis_cli.proofs.Scripts.{Advanced-feed, Halted-feed, OnErr-from}
+use Rattle.ecdis_cli.proofs.Steps.{Advanced-feed, Halted-feed, OnErr-from}
 use Rattle.ecdis_cli.proofs.reader.Reader.end_line.Goals as goal
 
 pub returns-in_err-answer-clause-err : goal.returns-in_err-answer-clause-err

@@ -1,7 +1,7 @@
 -- A byte of a line is kept, or changes nothing.
-use Rattle.std.proofs.Common.{List, ℕ, ◌≡◌, ◌∷◌, [], ◌++◌, length, cond, ltb, eqb, false, sym, subst, rules}
+use Rattle.std.proofs.Common.{ℕ, ◌≡◌, ◌∷◌, [], ◌++◌, length, cond, ltb, eqb, false, sym, subst, rules}
 use Rattle.ecdis_cli.specs.Progress.{Advanced}
-use Rattle.ecdis_cli.proofs.Scripts.{Advanced-byte, Halted-start, OnErr-from, OnOk-map}
+use Rattle.ecdis_cli.proofs.Steps.{Advanced-byte, Halted-start, OnErr-from, OnOk-map}
 use Rattle.ecdis_cli.proofs.reader.Reader.take.Goals as goal
 
 pub returns-else-byte-eq10-clause-ok : goal.returns-else-byte-eq10-clause-ok

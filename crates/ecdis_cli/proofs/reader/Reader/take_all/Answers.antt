@@ -1,6 +1,6 @@
 -- Nothing was taken yet; then one byte more.
 use Rattle.std.proofs.Common.{arith, refl, ◌∙◌}
-use Rattle.ecdis_cli.proofs.Scripts.{Advanced-start, Advanced-next, Halted-next, OnErr-from}
+use Rattle.ecdis_cli.proofs.Steps.{Advanced-start, Advanced-next, Halted-next, OnErr-from}
 use Rattle.ecdis_cli.proofs.reader.Reader.take_all.Goals as goal
 
 pub loop-byte-init : goal.loop-byte-init

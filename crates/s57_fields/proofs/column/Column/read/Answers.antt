@@ -15,10 +15,10 @@ returns-in-Err-clause-found g c =
     let field = c.field-item.result in
     let same : bytes_eq field.tag column.tag ≡ true = search rules in
     Fails-as c.in-Err.fault (before l.read.items (read_each reads fault (every column.between column.at c.as_slice.result.now))) _
-      (λ other bad. sym l.invariant.goes_on
-        ∙ field_fails reads fault other l.read.items column.tag column.at column.between c.args.fields.now l.field-index field (omega arith) c.field-item.is same
-          (ap (λ values. before l.read.items (read_each reads fault (every column.between column.at values))) (sym c.as_slice.ensures) ∙ bad))
-      c.in-Err.ensures.found
+    (λ other bad. sym l.invariant.goes_on
+    ∙ field_fails reads fault other l.read.items column.tag column.at column.between c.args.fields.now l.field-index field (omega arith) c.field-item.is same
+    (ap (λ values. before l.read.items (read_each reads fault (every column.between column.at values))) (sym c.as_slice.ensures) ∙ bad))
+    c.in-Err.ensures.found
 
 pub loop-field-preserved : goal.loop-field-preserved
 loop-field-preserved g c =
@@ -32,7 +32,7 @@ loop-field-preserved g c =
       good = c.in-Ok.ensures.holds;
       goes_on = sym (field_read reads fault l.read.items c.in-Ok.all.items column.tag column.at column.between c.args.fields.now l.field-index field (omega arith) c.field-item.is same
           (ap (λ values. before l.read.items (read_each reads fault (every column.between column.at values))) (sym c.as_slice.ensures) ∙ c.in-Ok.ensures.found))
-        ∙ l.invariant.goes_on;
+          ∙ l.invariant.goes_on;
     }
 
 pub returns-clause-found : goal.returns-clause-found

@@ -11,6 +11,6 @@ invariant-loop-field g l = record {
   good : All (g.K.Kind.holds l.kind) l.read.items;
   goes_on : before l.read.items (read_each (g.K.Kind.reads l.kind) (BadValue l.self.number l.self.label)
       (column l.self.at l.self.between (map (λ field. field.values) (filter (λ field. bytes_eq field.tag l.self.tag) (drop l.field-index l.fields)))))
-    ≡ read_each (g.K.Kind.reads l.kind) (BadValue l.self.number l.self.label)
+      ≡ read_each (g.K.Kind.reads l.kind) (BadValue l.self.number l.self.label)
       (column l.self.at l.self.between (map (λ field. field.values) (filter (λ field. bytes_eq field.tag l.self.tag) l.fields)));
 }

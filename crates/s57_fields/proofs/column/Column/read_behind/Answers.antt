@@ -25,8 +25,8 @@ returns-in-Err-clause-found g c =
     let reads = g.K.Kind.reads c.args.kind.now in
     let value = c.index-values-at.result in
     Fails-as c.in-Err.fault (or_fault fault (reads value)) _
-      (λ other bad. sym l.invariant.goes_on ∙ read_fails reads fault other l.read.items c.args.values.now column.between l.at value (omega arith) c.index-values-at.is bad)
-      c.in-Err.ensures.found
+    (λ other bad. sym l.invariant.goes_on ∙ read_fails reads fault other l.read.items c.args.values.now column.between l.at value (omega arith) c.index-values-at.is bad)
+    c.in-Err.ensures.found
 
 pub loop-at-preserved : goal.loop-at-preserved
 loop-at-preserved g c =
@@ -37,8 +37,8 @@ loop-at-preserved g c =
     record {
       good = subst (λ items. All (g.K.Kind.holds c.args.kind.now) items) (sym c.in_ok-push-in-Ok.ensures.items) (All-push (g.K.Kind.holds c.args.kind.now) l.read.items c.in-Ok.value l.invariant.good c.in-Ok.ensures.holds);
       goes_on = ap (λ front. before front (read_each reads fault (every column.between 0 (drop (l.at + (column.between + 1)) c.args.values.now)))) (c.in_ok-push-in-Ok.ensures.items)
-        ∙ sym (read_on reads fault l.read.items c.args.values.now column.between l.at c.index-values-at.result c.in-Ok.value (omega arith) c.index-values-at.is c.in-Ok.ensures.found)
-        ∙ l.invariant.goes_on;
+          ∙ sym (read_on reads fault l.read.items c.args.values.now column.between l.at c.index-values-at.result c.in-Ok.value (omega arith) c.index-values-at.is c.in-Ok.ensures.found)
+          ∙ l.invariant.goes_on;
     }
 
 pub returns-clause-found : goal.returns-clause-found

@@ -9,7 +9,7 @@ abbrev pub invariant-loop-at : goal.invariant-loop-at
 invariant-loop-at g l = record {
   good : All (g.K.Kind.holds l.kind) l.read.items;
   goes_on : before l.read.items (read_each (g.K.Kind.reads l.kind) (BadValue l.self.number l.self.label) (every l.self.between 0 (drop l.at l.values)))
-    ≡ before l.initial.read.items (read_each (g.K.Kind.reads l.kind) (BadValue l.self.number l.self.label) (every l.self.between l.self.at l.values));
+      ≡ before l.initial.read.items (read_each (g.K.Kind.reads l.kind) (BadValue l.self.number l.self.label) (every l.self.between l.self.at l.values));
 }
 
 abbrev pub decreases-loop-at : goal.decreases-loop-at
