@@ -22,7 +22,7 @@ use Rattle.s57_fields.specs.RowValues.{RowValues, fields_in, first_of}
 use Rattle.s57_fields.specs.Places.{subfield_of}
 use Rattle.s57_fields.specs.Columns.{once_in, once_at, column_in, repeated_at, every, read_each, listed}
 use Rattle.s57_fields.specs.Number.{number_up_to, digits_up_to}
-use Rattle.s57_fields.specs.Signed.{number_within, whole_within}
+use Rattle.s57_fields.specs.Signed.{number_within, whole_within, depth_in}
 use Rattle.s57_fields.specs.Texts.{nine_digits, plain_text, is_plain}
 use Rattle.s57_records.specs.declared.fault.DatasetFault.{DatasetFault}
 use Rattle.s57_fields.specs.declared.lists.AttributeRow.{AttributeRow}
@@ -180,13 +180,23 @@ flat_sound row values coords e =
     let each = flat_each ys xs (column_read (IsWithin LATITUDE) (number_within LATITUDE) values row.ycoo ys (within LATITUDE) ys_e) (column_read (IsWithin LONGITUDE) (number_within LONGITUDE) values row.xcoo xs (within LONGITUDE) xs_e) in
     subst (λ (cs : List Coord). All IsCoord cs × All (λ coord. IsNone coord.z) cs) (field_ok (coordinates ys xs) coords made) (All-from_recursion IsCoord (coordinates ys xs) each.0, All-from_recursion (λ coord. IsNone coord.z) (coordinates ys xs) each.1)))) e
 
-deep_each : (ys xs zs : List ℤ) → AllByRecursion (IsWithin LATITUDE) ys → AllByRecursion (IsWithin LONGITUDE) xs → AllByRecursion (IsWithin 999999) zs → AllByRecursion IsCoord (soundings ys xs zs) × AllByRecursion (λ coord. IsSome coord.z) (soundings ys xs zs)
+depth_made : (read : Option ℤ) (z : ℤ) → ((decimetres : ℤ) → read ≡ Some decimetres → IsWithin 999999 decimetres) → option_map (λ decimetres. decimetres *ℤ pos 10) read ≡ Some z → IsDepth z
+depth_made (Some decimetres) z each e =
+    let same : decimetres *ℤ pos 10 ≡ z = cc in
+    (decimetres, each decimetres refl, sym same)
+depth_made None z each e = absurd cc
+
+depth_is : (value : Value) (z : ℤ) → depth_in value ≡ Some z → IsDepth z
+unfolding depth_in
+depth_is value z e = depth_made (number_within 999999 value) z (within 999999 value) e
+
+deep_each : (ys xs zs : List ℤ) → AllByRecursion (IsWithin LATITUDE) ys → AllByRecursion (IsWithin LONGITUDE) xs → AllByRecursion IsDepth zs → AllByRecursion IsCoord (soundings ys xs zs) × AllByRecursion (λ coord. IsSome coord.z) (soundings ys xs zs)
 deep_each [] xs zs in_y in_x in_z = (tt, tt)
 deep_each (y ∷ ys) [] zs in_y in_x in_z = (tt, tt)
 deep_each (y ∷ ys) (x ∷ xs) [] in_y in_x in_z = (tt, tt)
 deep_each (y ∷ ys) (x ∷ xs) (z ∷ zs) in_y in_x in_z =
     let rest = deep_each ys xs zs in_y.1 in_x.1 in_z.1 in
-    ((record { longitude = in_x.0; latitude = in_y.0; depth = (z, in_z.0, refl) }, rest.0), (refl, rest.1))
+    ((record { longitude = in_x.0; latitude = in_y.0; depth = in_z.0 }, rest.0), (refl, rest.1))
 
 deep_sound : (row : SoundingRow) (values : RowValues) (coords : List Coord) → soundings_in row values ≡ Ok coords → All IsCoord coords × All (λ coord. IsSome coord.z) coords
 unfolding sounding_columns
@@ -194,8 +204,8 @@ deep_sound row values coords e =
     listed_read (λ cs. All IsCoord cs × All (λ coord. IsSome coord.z) cs) values.fields (sounding_columns row values) coords (All-nil _, All-nil _) (λ read.
     field_then (column_in (number_within LATITUDE) values row.ycoo) _ coords read (λ ys ys_e after_ys.
     field_then (column_in (number_within LONGITUDE) values row.xcoo) _ coords after_ys (λ xs xs_e after_xs.
-    field_then (column_in (number_within 999999) values row.ve3d) _ coords after_xs (λ zs zs_e made.
-    let each = deep_each ys xs zs (column_read (IsWithin LATITUDE) (number_within LATITUDE) values row.ycoo ys (within LATITUDE) ys_e) (column_read (IsWithin LONGITUDE) (number_within LONGITUDE) values row.xcoo xs (within LONGITUDE) xs_e) (column_read (IsWithin 999999) (number_within 999999) values row.ve3d zs (within 999999) zs_e) in
+    field_then (column_in depth_in values row.ve3d) _ coords after_xs (λ zs zs_e made.
+    let each = deep_each ys xs zs (column_read (IsWithin LATITUDE) (number_within LATITUDE) values row.ycoo ys (within LATITUDE) ys_e) (column_read (IsWithin LONGITUDE) (number_within LONGITUDE) values row.xcoo xs (within LONGITUDE) xs_e) (column_read IsDepth depth_in values row.ve3d zs depth_is zs_e) in
     subst (λ (cs : List Coord). All IsCoord cs × All (λ coord. IsSome coord.z) cs) (field_ok (soundings ys xs zs) coords made) (All-from_recursion IsCoord (soundings ys xs zs) each.0, All-from_recursion (λ coord. IsSome coord.z) (soundings ys xs zs) each.1))))) e
 
 topi_each : (names : List Name) (ornts usags masks : List ℕ) → AllByRecursion (λ pointer. pointer.topi ≡ 255) (feature_pointers names ornts usags masks)
