@@ -1,7 +1,6 @@
 -- A change that a record stands for keeps what every change keeps.
-use Rattle.std.proofs.Common.{◌≡◌, ℕ, ◌+◌, ◌<◌, ◌≤◌, Bool, true, false, cond, not, ◌&&◌, ◌||◌, eqb, ◌⊎◌, List, [], ◌∷◌, ◌++◌, Option, Some, None, Result, Ok, Err, refl, sym, ap, subst, ◌∙◌, inl, inr, arith, append-nil, All}
-use Rattle.std.specs.Prelude.{codes, IfSome, IsSome, IsNone}
-use Rattle.std.specs.Int.{IsInRange, is_in_range}
+use Rattle.std.proofs.Common.{◌≡◌, ℕ, ◌≤◌, Bool, true, false, cond, not, ◌&&◌, ◌||◌, eqb, ◌⊎◌, List, [], ◌++◌, Option, Some, None, Result, Ok, Err, refl, sym, ap, subst, ◌∙◌, inl, inr, arith, append-nil, All}
+use Rattle.std.specs.Prelude.{codes, IsSome, IsNone}
 use Rattle.std.proofs.lemmas.Bool.{and_parts, or_cases, eqb-true, eq-eqb, leb-true, true≢false}
 use Rattle.chart_model.specs.declared.name.Name.{Name}
 use Rattle.chart_model.specs.declared.name.Foid.{Foid}
@@ -10,9 +9,9 @@ use Rattle.chart_model.specs.declared.record.Pointer.{Pointer}
 use Rattle.chart_model.specs.declared.record.Coord.{Coord}
 use Rattle.chart_model.specs.declared.record.Related.{Related}
 use Rattle.chart_model.specs.declared.update_record.Control.{Control}
-use Rattle.chart_model.specs.Change.{Change, IsChange, IsEdit, IsInstruction, HasNoFeature, HasNoVector, IsFeatureInsert}
+use Rattle.chart_model.specs.Change.{Change, IsChange, IsEdit, IsInstruction}
 use Rattle.chart_model.specs.Dataset.{IsPlainInsert}
-use Rattle.chart_model.specs.Record.{IsVectorName, IsFeatureName, AreCoords, IsCoord, IsPlainText, IsPrim}
+use Rattle.chart_model.specs.Record.{IsVectorName, AreCoords, IsCoord, IsPlainText, IsPrim}
 use Rattle.s57_records.specs.declared.fault.DatasetFault.{DatasetFault}
 use Rattle.s57_records.specs.declared.fault.DatasetFault.TheVariants.{MissingField, Value, Profile}
 use Rattle.s57_records.specs.Subfields.{Subfields}

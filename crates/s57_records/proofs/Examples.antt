@@ -1,12 +1,11 @@
 -- Worked rows, computed.
-use Rattle.std.proofs.Common.{◌≡◌, ℕ, Bool, true, false, cond, leb, ◌||◌, List, [], ◌∷◌, Option, Some, None, Result, Ok, Err, refl}
+use Rattle.std.proofs.Common.{◌≡◌, ℕ, Bool, true, false, cond, ◌||◌, List, [], ◌∷◌, Result, Ok, Err, refl}
 use Rattle.std.specs.Prelude.{codes}
 use Rattle.std.specs.Str.{bytes_eq}
-use Rattle.chart_model.specs.Dataset.{DatasetValue}
 use Rattle.s57_records.specs.declared.fault.DatasetFault.{DatasetFault}
 use Rattle.s57_records.specs.declared.fault.DatasetFault.TheVariants.{NoGeneral, MissingField, Value, Profile}
 use Rattle.s57_records.specs.Subfields.{Subfields}
-use Rattle.s57_records.specs.Rows.{general_of, checked_structure, scale_of, ruin_of, edit_of, vector_head, coords_of, vector_of, foid_of, feature_head, feature_of}
+use Rattle.s57_records.specs.Rows.{general_of, checked_structure, ruin_of, edit_of, vector_head, coords_of, vector_of, foid_of, feature_head, feature_of}
 use Rattle.s57_records.specs.Dataset.{said_by, dataset_after, dataset_of}
 
 -- the number under a label: the first of this name

@@ -1,5 +1,5 @@
 -- What was gathered is what the records say.
-use Rattle.std.proofs.Common.{◌≡◌, ℕ, suc, Bool, true, false, cond, not, ◌&&◌, List, [], ◌∷◌, ◌++◌, map, Option, Some, None, Result, Ok, Err, refl, sym, ap, subst, ◌∙◌, append-nil}
+use Rattle.std.proofs.Common.{◌≡◌, ℕ, suc, Bool, true, false, cond, List, [], ◌∷◌, ◌++◌, map, Option, Some, None, Result, Ok, Err, refl, sym, ap, subst, ◌∙◌, append-nil}
 use Rattle.std.proofs.lemmas.Bool.{true≢false}
 use Rattle.std.proofs.lemmas.List.{append_assoc}
 use Rattle.std.specs.Prelude.{codes, filter_map, is_some}
@@ -8,7 +8,7 @@ use Rattle.chart_model.specs.Dataset.{DatasetValue}
 use Rattle.s57_records.specs.declared.general.General.{General}
 use Rattle.s57_records.specs.declared.dataset.Gathered.{Gathered}
 use Rattle.s57_records.specs.declared.fault.DatasetFault.{DatasetFault}
-use Rattle.s57_records.specs.declared.fault.DatasetFault.TheVariants.{NoGeneral, Profile}
+use Rattle.s57_records.specs.declared.fault.DatasetFault.TheVariants.{Profile}
 use Rattle.s57_records.specs.Subfields.{Subfields}
 use Rattle.s57_records.specs.Rows.{◌>>=◌, checked_structure, scale_of, vector_of, feature_of}
 use Rattle.s57_records.specs.Dataset.{Kind, general, parameters, vector, feature, other, kind_of, Said, change_is, scale_is, nothing, said_by, looked_at, all_of, change_in, scale_in, first_or, scale_among, header_with, cancels, dataset_after, dataset_of, is_parameters}
@@ -16,7 +16,6 @@ use Rattle.s57_records.specs.Answers.{Gives}
 use Rattle.s57_records.specs.Gathering.{with_change, with_scale, gathered_with, gather, nothing_gathered, needed_scale, dataset_gathered}
 use Rattle.chart_model.specs.Dataset.{IsDataset}
 use Rattle.iso8211_records.specs.Kinds.{layout_at}
-use Rattle.iso8211_records.specs.declared.record.RawField.{RawField}
 use Rattle.s57_records.specs.declared.reader.DataRecord.{DataRecord}
 use Rattle.s57_records.specs.Reading.{reading}
 use Rattle.s57_records.specs.Rows.{general_of}

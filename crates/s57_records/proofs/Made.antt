@@ -1,5 +1,5 @@
 -- The change made of what was read keeps what every change keeps.
-use Rattle.std.proofs.Common.{◌≡◌, ℕ, Bool, List, [], Option, None, Result, Ok}
+use Rattle.std.proofs.Common.{◌≡◌, Bool, List, [], Option, None, Ok}
 use Rattle.std.specs.Prelude.{codes}
 use Rattle.chart_model.specs.declared.name.Foid.{Foid}
 use Rattle.chart_model.specs.declared.record.Attr.{Attr}
@@ -7,7 +7,7 @@ use Rattle.chart_model.specs.declared.record.Pointer.{Pointer}
 use Rattle.chart_model.specs.declared.record.Coord.{Coord}
 use Rattle.chart_model.specs.declared.record.Related.{Related}
 use Rattle.chart_model.specs.declared.update_record.Control.{Control}
-use Rattle.chart_model.specs.Change.{Change, IsChange}
+use Rattle.chart_model.specs.Change.{IsChange}
 use Rattle.iso8211_records.specs.Kinds.{layout_at}
 use Rattle.s57_records.specs.declared.reader.DataRecord.{DataRecord}
 use Rattle.s57_records.specs.declared.change.VectorHead.{VectorHead}

@@ -6,7 +6,7 @@ use Rattle.iso8211_formats.specs.Layout.{Layout}
 use Rattle.iso8211_records.specs.declared.record.RawField.{RawField}
 use Rattle.s57_fields.specs.declared.fault.FieldFault.{FieldFault}
 use Rattle.s57_fields.specs.declared.fault.FieldFault.TheVariants as of_field
-use Rattle.s57_fields.specs.RowValues.{RowValues, fields_in}
+use Rattle.s57_fields.specs.RowValues.{fields_in}
 use Rattle.s57_fields.specs.Places.{subfield_of}
 use Rattle.s57_fields.specs.Columns.{once_in}
 use Rattle.s57_fields.specs.Number.{number_up_to}

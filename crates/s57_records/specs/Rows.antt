@@ -1,8 +1,7 @@
 -- What one data record stands for (S-57 Part 3; Appendix B.1): its fields in their order, each with its subfields in
 -- their order, and with the tests of the profile and of the lists of values in their places.
-use Rattle.std.specs.Prelude.{◌≡◌, ℕ, ◌-◌, ◌^◌, Bool, true, false, not, ◌&&◌, ◌||◌, ◌==◌, nat_le, if◌then◌else◌, List, [], ◌++◌, codes, Option, Some, None, Result, Ok, Err}
+use Rattle.std.specs.Prelude.{ℕ, ◌-◌, ◌^◌, Bool, false, not, ◌&&◌, ◌||◌, ◌==◌, nat_le, if◌then◌else◌, List, [], ◌++◌, codes, Option, Some, None, Result, Ok, Err}
 use Rattle.std.specs.Int.{is_in_range}
-use Rattle.chart_model.specs.declared.name.Name.{Name}
 use Rattle.chart_model.specs.declared.name.Foid.{Foid}
 use Rattle.chart_model.specs.declared.update_record.Control.{Control}
 use Rattle.chart_model.specs.Change.{Change}

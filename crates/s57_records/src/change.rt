@@ -42,7 +42,12 @@ pub(crate) struct ControlField {
 
 /// The update instruction: insert in a base file.
 #[tactic(auto, unfolding(crate::specs::Rows::ruin_of))]
-fn read_ruin(alloc: Global, fields: &DataRecord<'_>, base: bool, tag: [u8; 4]) -> Result<u8, DatasetFault>
+fn read_ruin(
+    alloc: Global,
+    fields: &DataRecord<'_>,
+    base: bool,
+    tag: [u8; 4],
+) -> Result<u8, DatasetFault>
     ensures { Gives result (ruin_of base fields.now.number (reading fields.now) tag) }
 {
     if base {
@@ -113,7 +118,12 @@ pub(crate) fn read_vector_head(
 }
 
 /// Refuses a primitive that isn't one of the list, in an insertion.
-fn check_prim(alloc: Global, fields: &DataRecord<'_>, base: bool, prim: u8) -> Result<(), DatasetFault>
+fn check_prim(
+    alloc: Global,
+    fields: &DataRecord<'_>,
+    base: bool,
+    prim: u8,
+) -> Result<(), DatasetFault>
     ensures { Gives result (checked_prim base fields.now.number (reading fields.now) prim) }
 {
     if (prim >= 1 && prim <= 3) || prim == 255 {
@@ -160,7 +170,11 @@ pub(crate) fn read_feature_head(
 
 /// The identifier of a feature object, which an insertion needs.
 #[tactic(auto, unfolding(crate::specs::Rows::foid_of))]
-pub(crate) fn read_foid(alloc: Global, fields: &DataRecord<'_>, ruin: u8) -> Result<Option<Foid>, DatasetFault>
+pub(crate) fn read_foid(
+    alloc: Global,
+    fields: &DataRecord<'_>,
+    ruin: u8,
+) -> Result<Option<Foid>, DatasetFault>
     ensures { Gives result (foid_of ruin fields.now.number (reading fields.now)) }
 {
     if fields.has(FOID) {

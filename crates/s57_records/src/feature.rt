@@ -14,7 +14,11 @@ use std::alloc::Global;
 
 /// The change that a feature stands for.
 #[tactic(auto, unfolding(crate::specs::Rows::feature_of))]
-pub(crate) fn read_feature(alloc: Global, fields: &DataRecord<'_>, base: bool) -> Result<UpdateRecord, DatasetFault>
+pub(crate) fn read_feature(
+    alloc: Global,
+    fields: &DataRecord<'_>,
+    base: bool,
+) -> Result<UpdateRecord, DatasetFault>
     ensures { Gives result (feature_of base fields.now.number (reading fields.now)) }
 {
     let head = read_feature_head(alloc, fields, base)?;

@@ -15,8 +15,8 @@ use chart_model::{AttrList, Coords, Foid, Pointers, RelatedList};
 use iso8211_records::{DescriptorMap, RawField};
 use s57_fields::tags::{FFPT, FOID, FSPT, SG2D, SG3D, VRPT};
 use s57_fields::{
-    AttributeRow, CoordinateRow, FeaturePointerRow, FoidRow, FourBytes, Kind, OneByte, RelatedRow, RowFields,
-    SoundingRow, Subfield, TwoBytes, VectorPointerRow,
+    AttributeRow, CoordinateRow, FeaturePointerRow, FoidRow, FourBytes, Kind, OneByte, RelatedRow,
+    RowFields, SoundingRow, Subfield, TwoBytes, VectorPointerRow,
 };
 use std::alloc::Global;
 

@@ -32,7 +32,11 @@ fn read_coords(alloc: Global, fields: &DataRecord<'_>, ruin: u8) -> Result<Coord
 
 /// The change that a vector record stands for.
 #[tactic(auto, unfolding(crate::specs::Rows::vector_of))]
-pub(crate) fn read_vector(alloc: Global, fields: &DataRecord<'_>, base: bool) -> Result<UpdateRecord, DatasetFault>
+pub(crate) fn read_vector(
+    alloc: Global,
+    fields: &DataRecord<'_>,
+    base: bool,
+) -> Result<UpdateRecord, DatasetFault>
     ensures { Gives result (vector_of base fields.now.number (reading fields.now)) }
 {
     let head = read_vector_head(alloc, fields, base)?;

@@ -1,0 +1,7 @@
+use Rattle.s57_records.proofs.Datasets.{dataset_is}
+use Rattle.s57_records.proofs.Sound.{all_sound}
+use Rattle.s57_records.specs.Readings.{all_subfields}
+use Rattle.s57_records.proofs.laws.data_sets_are_kept.Goals as goal
+
+pub returns : goal.returns
+returns c = λ layouts records value e. dataset_is (all_subfields layouts 1 records) value (all_sound layouts 1 records) e
