@@ -56,8 +56,8 @@ unfolding descriptors_in
 described-more frame bytes tags seen pairs entries i layout total inside is_new spelled so_far =
     let entry : Entry = get_or entries i no_entry in
     let step : behind pairs (descriptors_in frame bytes (describing tags seen (drop i entries)))
-        ≡ behind (pairs ++ (entry.tag, layout) ∷ []) (descriptors_in frame bytes (describing tags (entry.tag ∷ seen) (drop (suc i) entries))) =
-        rw (drop-cons entries i no_entry inside, is_new, spelled) (join pairs (entry.tag, layout) (descriptors_in frame bytes (describing tags (entry.tag ∷ seen) (drop (suc i) entries)))) in
+    ≡ behind (pairs ++ (entry.tag, layout) ∷ []) (descriptors_in frame bytes (describing tags (entry.tag ∷ seen) (drop (suc i) entries))) =
+    rw (drop-cons entries i no_entry inside, is_new, spelled) (join pairs (entry.tag, layout) (descriptors_in frame bytes (describing tags (entry.tag ∷ seen) (drop (suc i) entries)))) in
     rw add-one (sym step ∙ so_far)
 
 -- or none is to be read
@@ -78,8 +78,8 @@ unfolding descriptors_in
 described-fail fault frame bytes tags seen pairs entries i total inside is_new bad so_far =
     let entry : Entry = get_or entries i no_entry in
     let step : behind pairs (descriptors_in frame bytes (describing tags seen (drop i entries)))
-        ≡ behind pairs (or_fault (Descriptor entry.tag) (descriptor_of (field_bytes frame bytes entry)) >>= λ layout. descriptors_in frame bytes (describing tags (entry.tag ∷ seen) (drop (suc i) entries)) >>= λ more. Ok ((entry.tag, layout) ∷ more)) =
-        rw (drop-cons entries i no_entry inside, is_new) refl in
+    ≡ behind pairs (or_fault (Descriptor entry.tag) (descriptor_of (field_bytes frame bytes entry)) >>= λ layout. descriptors_in frame bytes (describing tags (entry.tag ∷ seen) (drop (suc i) entries)) >>= λ more. Ok ((entry.tag, layout) ∷ more)) =
+    rw (drop-cons entries i no_entry inside, is_new) refl in
     Fails-same fault _ _ (sym step ∙ so_far) (Fails-bind fault _ _ (Fails-bind fault _ _ bad))
 
 pub described-all : (frame : Frame) (bytes : List ℕ) (tags seen : List (List ℕ)) (pairs : List (List ℕ × Layout)) (entries : List Entry) (i : ℕ) (total : Result (List (List ℕ × Layout)) FileFault)

@@ -53,11 +53,11 @@ entries_at-bound (suc bound) (suc other) at frame bytes place enough enough_too 
     ]
 
 -- the tests of an entry
-entry-tests : (frame : Frame) (bytes : List ℕ) (place : ℕ) → HasEntry frame bytes 0 place → (leb (place + entry_size frame) (frame.base - 1) && is_entry frame (entry_text frame bytes place)) ≡ true
+pub entry-tests : (frame : Frame) (bytes : List ℕ) (place : ℕ) → HasEntry frame bytes 0 place → (leb (place + entry_size frame) (frame.base - 1) && is_entry frame (entry_text frame bytes place)) ≡ true
 entry-tests frame bytes place h =
     both _ _ (le-test _ _ (let b = h.before_closing in omega arith)) (is_entry-from frame (entry_text frame bytes place) h.entry)
 
-entry-from-tests : (frame : Frame) (bytes : List ℕ) (place : ℕ) → (leb (place + entry_size frame) (frame.base - 1) && is_entry frame (entry_text frame bytes place)) ≡ true → HasEntry frame bytes 0 place
+pub entry-from-tests : (frame : Frame) (bytes : List ℕ) (place : ℕ) → (leb (place + entry_size frame) (frame.base - 1) && is_entry frame (entry_text frame bytes place)) ≡ true → HasEntry frame bytes 0 place
 entry-from-tests frame bytes place h =
     let p = both_parts (leb (place + entry_size frame) (frame.base - 1)) (is_entry frame (entry_text frame bytes place)) h in
     let low : place + entry_size frame ≤ frame.base - 1 = le-is _ _ p.0 in
@@ -70,7 +70,7 @@ unfolding entries_at
 entries_at-step zero at frame bytes place left enough h = absurd (omega arith)
 entries_at-step (suc bound) at frame bytes place left enough h =
     let same : entries_at bound at frame bytes (place + entry_size frame) ≡ entries_at (suc bound) at frame bytes (place + entry_size frame) =
-        entries_at-bound bound (suc bound) at frame bytes (place + entry_size frame) (omega arith) (omega arith) in
+    entries_at-bound bound (suc bound) at frame bytes (place + entry_size frame) (omega arith) (omega arith) in
     rw (lt-test place (frame.base - 1) left, entry-tests frame bytes place h)
     (ap (λ (read : Result (List Entry) FileFault). read >>= λ entries. Ok (entry_of frame (entry_text frame bytes place) ∷ entries)) same)
 
@@ -80,11 +80,11 @@ unfolding entries_at
 entries_at-stop zero at frame bytes place left none = refl
 entries_at-stop (suc bound) at frame bytes place left none =
     let test : (leb (place + entry_size frame) (frame.base - 1) && is_entry frame (entry_text frame bytes place)) ≡ false =
-        elim (leb (place + entry_size frame) (frame.base - 1) && is_entry frame (entry_text frame bytes place))
-        as (λ b. (leb (place + entry_size frame) (frame.base - 1) && is_entry frame (entry_text frame bytes place)) ≡ b → b ≡ false) [
-          | true ↦ λ e. absurd (none (entry-from-tests frame bytes place e))
-          | false ↦ λ e. refl
-        ] refl in
+    elim (leb (place + entry_size frame) (frame.base - 1) && is_entry frame (entry_text frame bytes place))
+    as (λ b. (leb (place + entry_size frame) (frame.base - 1) && is_entry frame (entry_text frame bytes place)) ≡ b → b ≡ false) [
+      | true ↦ λ e. absurd (none (entry-from-tests frame bytes place e))
+      | false ↦ λ e. refl
+    ] refl in
     rw (lt-test place (frame.base - 1) left, test) refl
 
 -- the closing byte

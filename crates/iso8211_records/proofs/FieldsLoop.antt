@@ -20,7 +20,7 @@ pub fields-more : (tags : List (List ℕ)) (descriptors : List (List ℕ × Layo
 unfolding fields_of
 fields-more tags descriptors number frame bytes front entries i field total inside one so_far =
     let step : behind front (fields_of tags descriptors number frame bytes (drop i entries)) ≡ behind (front ++ field ∷ []) (fields_of tags descriptors number frame bytes (drop (suc i) entries)) =
-        rw (drop-cons entries i no_entry inside, one) (join front field (fields_of tags descriptors number frame bytes (drop (suc i) entries))) in
+    rw (drop-cons entries i no_entry inside, one) (join front field (fields_of tags descriptors number frame bytes (drop (suc i) entries))) in
     rw add-one (sym step ∙ so_far)
 
 pub fields-fail : (fault : FileFault) (tags : List (List ℕ)) (descriptors : List (List ℕ × Layout)) (number : ℕ) (frame : Frame) (bytes : List ℕ) (front : List RawField) (entries : List Entry) (i : ℕ) (total : Result (List RawField) FileFault)
@@ -30,8 +30,8 @@ unfolding fields_of
 fields-fail fault tags descriptors number frame bytes front entries i total inside bad so_far =
     let entry : Entry = get_or entries i no_entry in
     let step : behind front (fields_of tags descriptors number frame bytes (drop i entries))
-        ≡ behind front (field_by tags descriptors number entry.tag (field_bytes frame bytes entry) >>= λ field. fields_of tags descriptors number frame bytes (drop (suc i) entries) >>= λ fields. Ok (field ∷ fields)) =
-        rw (drop-cons entries i no_entry inside) refl in
+    ≡ behind front (field_by tags descriptors number entry.tag (field_bytes frame bytes entry) >>= λ field. fields_of tags descriptors number frame bytes (drop (suc i) entries) >>= λ fields. Ok (field ∷ fields)) =
+    rw (drop-cons entries i no_entry inside) refl in
     Fails-same fault _ _ (sym step ∙ so_far) (Fails-bind fault _ _ (Fails-bind fault _ _ bad))
 
 pub fields-all : (tags : List (List ℕ)) (descriptors : List (List ℕ × Layout)) (number : ℕ) (frame : Frame) (bytes : List ℕ) (front : List RawField) (entries : List Entry) (i : ℕ) (total : Result (List RawField) FileFault)

@@ -10,3 +10,12 @@ mod Results
 mod Framing
 mod Described
 mod FieldsLoop
+mod Records
+mod KindLaws
+mod DirectoryLaws
+mod Firsts
+mod FrameLaws
+mod HoldLaws
+mod DataLaws
+mod FileLaws
+mod Answering

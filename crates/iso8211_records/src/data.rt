@@ -91,14 +91,7 @@ fn read_fields(
     let mut fields = Vec::new(alloc);
     for entry in entries {
         let field = field_in(bytes, leader, entry);
-        fields.push(read_field(
-            alloc,
-            field,
-            number,
-            tags,
-            descriptors,
-            entry.tag,
-        )?)?;
+        fields.push(read_field(alloc, field, number, tags, descriptors, entry.tag)?)?;
     }
     Ok(fields)
 }

@@ -1,14 +1,19 @@
 //! A file of records.
 
-ghost use Rattle.std.specs.Prelude.{◌≡◌, ◌≢◌, ◌⊎◌, ◌+◌, ◌≤◌, ℕ, Ok, Err, IfOk, IfErr, length};
+ghost use Rattle.std.specs.Prelude.{◌≡◌, ◌≢◌, ◌⊎◌, ◌+◌, ◌≤◌, ◌^◌, ℕ, Ok, Err, IfOk, IfErr, length};
 ghost use Rattle.iso8211_records.specs.declared.fault.FileFault.{FileFault as FaultOfFile};
 ghost use Rattle.iso8211_records.specs.FileValue.{FileValue};
 ghost use Rattle.iso8211_records.specs.Answers.{Gives};
+ghost use Rattle.iso8211_records.specs.Reading.{data_records_at, come_to};
 ghost use Rattle.iso8211_records.specs.RecordFile.{IsRecordFile, record_file_of, data_records_in};
 ghost use Rattle.iso8211_records.specs.Fault.{HasFault};
 
+use crate::data::read_data_record;
+use crate::descriptive::read_descriptive_record;
+use crate::descriptors::DescriptorMap;
 use crate::fault::FileFault;
-use crate::record::RecordFile;
+use crate::laws::{faults_each, reads_each};
+use crate::record::{RawList, RecordFile};
 use chart_ports::Steps;
 use std::alloc::Global;
 use std::sync::ledger::Ledger;
@@ -39,9 +44,57 @@ pub fn read_file<C: Ledger>(
     ensures come_to { result ≢ Err FileFault.NoMemory → steps.new ≡ steps.old + data_records_in tags.now bytes.now }
     ensures at_most { steps.new ≤ steps.old + data_records_in tags.now bytes.now }
 {
-    let _bytes = bytes.len();
-    let _tags = tags.len();
-    let _ = alloc;
-    let _ = steps;
-    Err(FileFault::NoMemory)
+    reads_each();
+    faults_each();
+    read_all(alloc, bytes, tags, steps)
+}
+
+/// Reads a file, as the function on lists has it.
+#[tactic(auto, unfolding(crate::specs::RecordFile::record_file_of, crate::specs::RecordFile::data_records_in))]
+fn read_all<C: Ledger>(
+    alloc: Global,
+    bytes: &[u8],
+    tags: &[[u8; 4]],
+    steps: &mut Steps<C>,
+) -> Result<RecordFile, FileFault>
+    ensures read { Gives result (record_file_of tags.now bytes.now) }
+    ensures come_to { result ≢ Err FileFault.NoMemory → steps.new ≡ steps.old + data_records_in tags.now bytes.now }
+    ensures at_most { steps.new ≤ steps.old + data_records_in tags.now bytes.now }
+{
+    let (descriptors, rest) = read_descriptive_record(alloc, bytes, tags)?;
+    let at = bytes.len() - rest.len();
+    let records = read_data_records(alloc, rest, at, tags, &descriptors, steps)?;
+    Ok(RecordFile {
+        descriptors,
+        records,
+    })
+}
+
+/// Reads data records up to the end of the bytes, which begin at the place `at` of the file, and counts
+/// a step for each.
+fn read_data_records<C: Ledger>(
+    alloc: Global,
+    bytes: &[u8],
+    at: usize,
+    tags: &[[u8; 4]],
+    descriptors: &DescriptorMap,
+    steps: &mut Steps<C>,
+) -> Result<RawList, FileFault>
+    requires { at + length bytes.now ≤ 2 ^ 63 }
+    ensures read { Gives result (data_records_at (length bytes.now) tags.now descriptors.now 1 at bytes.now) }
+    ensures come_to { result ≢ Err FileFault.NoMemory → steps.new ≡ steps.old + come_to (length bytes.now) tags.now descriptors.now 1 at bytes.now }
+    ensures at_most { steps.new ≤ steps.old + come_to (length bytes.now) tags.now descriptors.now 1 at bytes.now }
+{
+    let mut records = RawList::new(alloc);
+    let mut place = at;
+    let mut rest = bytes;
+    while !rest.is_empty() {
+        steps.tick();
+        let number = records.as_slice().len() + 1;
+        let (record, length) = read_data_record(alloc, rest, place, number, tags, descriptors)?;
+        records.push(record)?;
+        place += length;
+        rest = rest.split_at(length).1;
+    }
+    Ok(records)
 }

@@ -93,12 +93,7 @@ fn is_closed(bytes: &[u8], place: usize) -> bool
 
 /// Checks that the record ends inside the bytes, and each field inside the record.
 #[tactic(auto, unfolding(crate::specs::Reading::spans_at))]
-fn check_spans(
-    bytes: &[u8],
-    at: usize,
-    leader: &Leader,
-    entries: &[Entry],
-) -> Result<(), FileFault>
+fn check_spans(bytes: &[u8], at: usize, leader: &Leader, entries: &[Entry]) -> Result<(), FileFault>
     requires low { at ≤ 2 ^ 63 }
     requires few { 25 + entry_size (frame leader.now) * length entries.now ≤ leader.now.base }
     ensures checked { Gives result (spans_at at (frame leader.now) bytes.now entries.now) }

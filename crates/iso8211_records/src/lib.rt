@@ -9,6 +9,7 @@ mod descriptors;
 mod fault;
 mod file;
 mod frame;
+mod laws;
 mod record;
 mod terminator;
 mod value;
@@ -17,5 +18,9 @@ mod values;
 pub use descriptors::DescriptorMap;
 pub use fault::FileFault;
 pub use file::read_file;
+pub use laws::{faults_each, never_both, one_fault, one_reading, reads_each};
 pub use record::{RawField, RawList, RawRecord, RecordFile};
 pub use value::{Value, ValueList};
+
+#[cfg(test)]
+mod tests;

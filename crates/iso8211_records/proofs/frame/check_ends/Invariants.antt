@@ -7,5 +7,5 @@ use Rattle.iso8211_records.proofs.frame.check_ends.Given as goal
 abbrev pub invariant-loop-entry : goal.invariant-loop-entry
 invariant-loop-entry l = record {
   place : l.place ≡ 24 + entry_size (frame l.leader) * l.entry-index;
-  checked : place_without (is_ended l.tags (frame l.leader) l.bytes) (entry_size (frame l.leader)) l.place (drop l.entry-index l.entries) ≡ place_without (is_ended l.tags (frame l.leader) l.bytes) (entry_size (frame l.leader)) 24 l.entries
+  checked : place_without (is_ended l.tags (frame l.leader) l.bytes) (entry_size (frame l.leader)) l.place (drop l.entry-index l.entries) ≡ place_without (is_ended l.tags (frame l.leader) l.bytes) (entry_size (frame l.leader)) 24 l.entries;
 }

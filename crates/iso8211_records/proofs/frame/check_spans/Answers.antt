@@ -5,5 +5,5 @@ use Rattle.iso8211_records.proofs.frame.check_spans.Goals as goal
 pub loop-entry-preserved : goal.loop-entry-preserved
 loop-entry-preserved c = record {
   place = rw c.size_of_entry-size.ensures.size (place-next _ _ _ c.loop-entry.invariant.place);
-  checked = rw c.size_of_entry-size.ensures.size (place-later _ _ _ _ _ _ _ c.loop-entry-test.true (sym c.if-not-ends_inside.ensures) c.loop-entry.invariant.checked)
+  checked = rw c.size_of_entry-size.ensures.size (place-later _ _ _ _ _ _ _ c.loop-entry-test.true (sym c.if-not-ends_inside.ensures) c.loop-entry.invariant.checked);
 }

@@ -13,14 +13,14 @@ loop-place-init c =
     record {
       within = omega arith;
       place = rw empty (omega arith);
-      read = rw empty (nothing-before (entries_at c.args.leader.now.base c.args.at (frame c.args.leader.now) c.args.bytes.now 24))
+      read = rw empty (nothing-before (entries_at c.args.leader.now.base c.args.at (frame c.args.leader.now) c.args.bytes.now 24));
     }
 
 pub loop-place-preserved : goal.loop-place-preserved
 loop-place-preserved c = record {
   within = let inside = c.in-Ok.ensures.entry.before_closing in let size = c.size_of_entry-size.ensures.size in omega arith;
   place = rw (c.in_ok-push-in-Ok.ensures.items, c.size_of_entry-size.ensures.size) (place-push _ _ _ _ c.loop-place.invariant.place);
-  read = rw (c.in_ok-push-in-Ok.ensures.items, c.size_of_entry-size.ensures.size) (directory-more _ _ _ _ _ _ _ c.loop-place-test.true c.in-Ok.ensures.entry c.in-Ok.ensures.numbers c.loop-place.invariant.read)
+  read = rw (c.in_ok-push-in-Ok.ensures.items, c.size_of_entry-size.ensures.size) (directory-more _ _ _ _ _ _ _ c.loop-place-test.true c.in-Ok.ensures.entry c.in-Ok.ensures.numbers c.loop-place.invariant.read);
 }
 
 pub returns-in-Err-clause-read : goal.returns-in-Err-clause-read

@@ -9,7 +9,7 @@ abbrev pub invariant-loop-place : goal.invariant-loop-place
 invariant-loop-place l = record {
   within : l.place ≤ l.closing;
   place : l.place ≡ 24 + entry_size (frame l.leader) * length l.entries.items;
-  read : behind l.entries.items (entries_at l.leader.base l.at (frame l.leader) l.bytes l.place) ≡ directory_at l.at (frame l.leader) l.bytes
+  read : behind l.entries.items (entries_at l.leader.base l.at (frame l.leader) l.bytes l.place) ≡ directory_at l.at (frame l.leader) l.bytes;
 }
 
 abbrev pub decreases-loop-place : goal.decreases-loop-place

@@ -16,7 +16,7 @@ pub returns-in_err-check_spans-clause-read : goal.returns-in_err-check_spans-cla
 returns-in_err-check_spans-clause-read c =
     let p = err_from_is_err_and c.from_residual-in_err-check_spans.result c.from_residual-in_err-check_spans.ensures.1 in
     rw (p.1, p.2) (record_at-spans _ _ _ _ _ (frame c.in-Ok.leader) _ (leader_at-some _ _ _ _ c.in-Ok.ensures.leader c.in-Ok.ensures.numbers) c.in_ok-entries.ensures.read
-      (rw c.as_slice.ensures.value at c.in_err-check_spans.ensures.checked))
+    (rw c.as_slice.ensures.value at c.in_err-check_spans.ensures.checked))
 
 pub check_ends-requires-clause-whole : goal.check_ends-requires-clause-whole
 check_ends-requires-clause-whole c = spans_at-whole c.args.at (frame c.in-Ok.leader) _ _ c.in_ok-check_spans.ensures.checked
@@ -29,8 +29,8 @@ pub returns-in_err-check_ends-clause-read : goal.returns-in_err-check_ends-claus
 returns-in_err-check_ends-clause-read c =
     let p = err_from_is_err_and c.from_residual-in_err-check_ends.result c.from_residual-in_err-check_ends.ensures.1 in
     rw (p.1, p.2) (record_at-ends _ _ _ _ _ (frame c.in-Ok.leader) _ (leader_at-some _ _ _ _ c.in-Ok.ensures.leader c.in-Ok.ensures.numbers) c.in_ok-entries.ensures.read
-      (rw c.as_slice.ensures.value at c.in_ok-check_spans.ensures.checked)
-      (rw c.as_slice-2.ensures.value at c.in_err-check_ends.ensures.checked))
+    (rw c.as_slice.ensures.value at c.in_ok-check_spans.ensures.checked)
+    (rw c.as_slice-2.ensures.value at c.in_err-check_ends.ensures.checked))
 
 pub returns-clause-read : goal.returns-clause-read
 returns-clause-read c =
