@@ -1,0 +1,56 @@
+-- The rows of the table of fields: the general information of a data set.
+use Rattle.std.specs.Prelude.{ℕ, Bool, true, false, List, Option, Result, Ok, Err}
+use Rattle.iso8211_formats.specs.Layout.{Layout}
+use Rattle.s57_fields.specs.declared.fault.FieldFault.{FieldFault}
+use Rattle.s57_fields.specs.Answers.{◌>>=◌}
+use Rattle.s57_fields.specs.Columns.{once_in}
+use Rattle.s57_fields.specs.Number.{number_up_to}
+use Rattle.s57_fields.specs.Places.{subfield_of}
+use Rattle.s57_fields.specs.RowValues.{RowValues}
+use Rattle.s57_fields.specs.Texts.{nine_digits, eight_bytes, data_set_name}
+use Rattle.s57_fields.specs.declared.general.Dsid.{Dsid}
+use Rattle.s57_fields.specs.declared.general.Dssi.{Dssi}
+use Rattle.s57_fields.specs.declared.general.Dspm.{Dspm}
+use Rattle.s57_fields.specs.declared.general.DsidRow.{DsidRow}
+use Rattle.s57_fields.specs.declared.general.DssiRow.{DssiRow}
+use Rattle.s57_fields.specs.declared.general.DspmRow.{DspmRow}
+use Rattle.s57_fields.specs.declared.labels.TheConstants.{DSNM, EDTN, UPDN, ISDT, PROF, AGEN, AALL, CSCL, DUNI, COUN, COMF, SOMF}
+
+-- ---- DSID
+
+abbrev pub dsid_row : Option Layout → DsidRow
+dsid_row layout = record { dsnm = subfield_of layout DSNM; edtn = subfield_of layout EDTN; updn = subfield_of layout UPDN; isdt = subfield_of layout ISDT; prof = subfield_of layout PROF; agen = subfield_of layout AGEN }
+
+unfoldable pub dsid_in : DsidRow → RowValues → Result Dsid FieldFault
+dsid_in row values = do
+  dsnm ← once_in data_set_name values row.dsnm
+  edtn ← once_in nine_digits values row.edtn
+  updn ← once_in nine_digits values row.updn
+  isdt ← once_in eight_bytes values row.isdt
+  prof ← once_in (number_up_to 255) values row.prof
+  agen ← once_in (number_up_to 65535) values row.agen
+  Ok (record { dsnm = dsnm; edtn = edtn; updn = updn; isdt = isdt; prof = prof; agen = agen })
+
+-- ---- DSSI
+
+abbrev pub dssi_row : Option Layout → DssiRow
+dssi_row layout = record { aall = subfield_of layout AALL }
+
+unfoldable pub dssi_in : DssiRow → RowValues → Result Dssi FieldFault
+dssi_in row values = do
+  aall ← once_in (number_up_to 255) values row.aall
+  Ok (record { aall = aall })
+
+-- ---- DSPM
+
+abbrev pub dspm_row : Option Layout → DspmRow
+dspm_row layout = record { cscl = subfield_of layout CSCL; duni = subfield_of layout DUNI; coun = subfield_of layout COUN; comf = subfield_of layout COMF; somf = subfield_of layout SOMF }
+
+unfoldable pub dspm_in : DspmRow → RowValues → Result Dspm FieldFault
+dspm_in row values = do
+  cscl ← once_in (number_up_to 4294967295) values row.cscl
+  duni ← once_in (number_up_to 255) values row.duni
+  coun ← once_in (number_up_to 255) values row.coun
+  comf ← once_in (number_up_to 4294967295) values row.comf
+  somf ← once_in (number_up_to 4294967295) values row.somf
+  Ok (record { cscl = cscl; duni = duni; coun = coun; comf = comf; somf = somf })

@@ -1,0 +1,12 @@
+pub mod Answers
+pub mod Columns
+pub mod Files
+pub mod General
+pub mod Identifiers
+pub mod Lists
+pub mod Names
+pub mod Number
+pub mod Places
+pub mod RowValues
+pub mod Signed
+pub mod Texts

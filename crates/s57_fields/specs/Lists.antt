@@ -1,0 +1,165 @@
+-- The rows of the table of fields: the lists of a record, and the control fields that edit them.
+use Rattle.std.specs.Prelude.{ℕ, Bool, true, false, List, Option, Result, Ok, Err, Some, None, map, ℤ}
+use Rattle.iso8211_formats.specs.Layout.{Layout}
+use Rattle.s57_fields.specs.declared.fault.FieldFault.{FieldFault}
+use Rattle.s57_fields.specs.Answers.{◌>>=◌}
+use Rattle.s57_fields.specs.Columns.{once_in, column_in, listed}
+use Rattle.std.specs.List.{zip}
+use Rattle.s57_fields.specs.Number.{number_up_to}
+use Rattle.s57_fields.specs.Places.{subfield_of}
+use Rattle.s57_fields.specs.RowValues.{RowValues}
+use Rattle.s57_fields.specs.Signed.{number_within, depth_in}
+use Rattle.s57_fields.specs.Texts.{plain_text}
+use Rattle.s57_fields.specs.Names.{record_name, object_name}
+use Rattle.chart_model.specs.declared.record.Attr.{Attr}
+use Rattle.chart_model.specs.declared.record.Pointer.{Pointer}
+use Rattle.chart_model.specs.declared.record.Coord.{Coord}
+use Rattle.chart_model.specs.declared.record.Related.{Related}
+use Rattle.chart_model.specs.declared.update_record.Control.{Control}
+use Rattle.chart_model.specs.declared.name.Name.{Name}
+use Rattle.chart_model.specs.declared.name.Foid.{Foid}
+use Rattle.s57_fields.specs.declared.lists.AttributeRow.{AttributeRow}
+use Rattle.s57_fields.specs.declared.lists.ControlRow.{ControlRow}
+use Rattle.s57_fields.specs.declared.lists.VectorPointerRow.{VectorPointerRow}
+use Rattle.s57_fields.specs.declared.lists.FeaturePointerRow.{FeaturePointerRow}
+use Rattle.s57_fields.specs.declared.lists.CoordinateRow.{CoordinateRow}
+use Rattle.s57_fields.specs.declared.lists.SoundingRow.{SoundingRow}
+use Rattle.s57_fields.specs.declared.lists.RelatedRow.{RelatedRow}
+use Rattle.s57_fields.specs.declared.labels.TheConstants.{ATTL, ATVL, VPUI, VPIX, NVPT, NAME, ORNT, USAG, TOPI, MASK, CCUI, CCIX, CCNC, YCOO, XCOO, VE3D, FFUI, FFIX, NFPT, LNAM, RIND, FSUI, FSIX, NSPT}
+
+-- ---- ATTV and ATTF
+
+abbrev pub attribute_row : Option Layout → AttributeRow
+attribute_row layout = record { attl = subfield_of layout ATTL; atvl = subfield_of layout ATVL }
+
+-- each code with the text beside it
+abbrev pub attributes : List ℕ → List (List ℕ) → List Attr
+attributes codes texts = map (λ pair. record { code = pair.0; value = pair.1 }) (zip codes texts)
+
+-- all codes first, and then all texts: so a bad code comes before a bad text
+unfoldable pub attribute_columns : AttributeRow → RowValues → Result (List Attr) FieldFault
+attribute_columns row values = do
+  codes ← column_in (number_up_to 65535) values row.attl
+  texts ← column_in plain_text values row.atvl
+  Ok (attributes codes texts)
+
+abbrev pub attributes_in : AttributeRow → RowValues → Result (List Attr) FieldFault
+attributes_in row values = listed values.fields (attribute_columns row values)
+
+-- ---- VRPC, SGCC, FFPC and FSPC
+
+abbrev pub vrpc_row : Option Layout → ControlRow
+vrpc_row layout = record { instruction = subfield_of layout VPUI; index = subfield_of layout VPIX; count = subfield_of layout NVPT }
+
+abbrev pub sgcc_row : Option Layout → ControlRow
+sgcc_row layout = record { instruction = subfield_of layout CCUI; index = subfield_of layout CCIX; count = subfield_of layout CCNC }
+
+abbrev pub ffpc_row : Option Layout → ControlRow
+ffpc_row layout = record { instruction = subfield_of layout FFUI; index = subfield_of layout FFIX; count = subfield_of layout NFPT }
+
+abbrev pub fspc_row : Option Layout → ControlRow
+fspc_row layout = record { instruction = subfield_of layout FSUI; index = subfield_of layout FSIX; count = subfield_of layout NSPT }
+
+unfoldable pub control_in : ControlRow → RowValues → Result Control FieldFault
+control_in row values = do
+  instruction ← once_in (number_up_to 255) values row.instruction
+  index ← once_in (number_up_to 65535) values row.index
+  count ← once_in (number_up_to 65535) values row.count
+  Ok (record { instruction = instruction; index = index; count = count })
+
+-- ---- VRPT and FSPT
+
+abbrev pub vrpt_row : Option Layout → VectorPointerRow
+vrpt_row layout = record { name = subfield_of layout NAME; ornt = subfield_of layout ORNT; usag = subfield_of layout USAG; topi = subfield_of layout TOPI; mask = subfield_of layout MASK }
+
+abbrev pub fspt_row : Option Layout → FeaturePointerRow
+fspt_row layout = record { name = subfield_of layout NAME; ornt = subfield_of layout ORNT; usag = subfield_of layout USAG; mask = subfield_of layout MASK }
+
+abbrev pub vector_pointers : List Name → List ℕ → List ℕ → List ℕ → List ℕ → List Pointer
+vector_pointers names ornts usags topis masks =
+    map (λ it. record { target = it.0.0.0.0; ornt = it.0.0.0.1; usag = it.0.0.1; topi = it.0.1; mask = it.1 }) (zip (zip (zip (zip names ornts) usags) topis) masks)
+
+unfoldable pub vector_pointer_columns : VectorPointerRow → RowValues → Result (List Pointer) FieldFault
+vector_pointer_columns row values = do
+  names ← column_in record_name values row.name
+  ornts ← column_in (number_up_to 255) values row.ornt
+  usags ← column_in (number_up_to 255) values row.usag
+  topis ← column_in (number_up_to 255) values row.topi
+  masks ← column_in (number_up_to 255) values row.mask
+  Ok (vector_pointers names ornts usags topis masks)
+
+abbrev pub vector_pointers_in : VectorPointerRow → RowValues → Result (List Pointer) FieldFault
+vector_pointers_in row values = listed values.fields (vector_pointer_columns row values)
+
+-- a feature's pointers have no topology: 255
+abbrev pub feature_pointers : List Name → List ℕ → List ℕ → List ℕ → List Pointer
+feature_pointers names ornts usags masks =
+    map (λ it. record { target = it.0.0.0; ornt = it.0.0.1; usag = it.0.1; topi = 255; mask = it.1 }) (zip (zip (zip names ornts) usags) masks)
+
+unfoldable pub feature_pointer_columns : FeaturePointerRow → RowValues → Result (List Pointer) FieldFault
+feature_pointer_columns row values = do
+  names ← column_in record_name values row.name
+  ornts ← column_in (number_up_to 255) values row.ornt
+  usags ← column_in (number_up_to 255) values row.usag
+  masks ← column_in (number_up_to 255) values row.mask
+  Ok (feature_pointers names ornts usags masks)
+
+abbrev pub feature_pointers_in : FeaturePointerRow → RowValues → Result (List Pointer) FieldFault
+feature_pointers_in row values = listed values.fields (feature_pointer_columns row values)
+
+-- ---- SG2D and SG3D
+
+abbrev pub sg2d_row : Option Layout → CoordinateRow
+sg2d_row layout = record { ycoo = subfield_of layout YCOO; xcoo = subfield_of layout XCOO }
+
+abbrev pub sg3d_row : Option Layout → SoundingRow
+sg3d_row layout = record { ycoo = subfield_of layout YCOO; xcoo = subfield_of layout XCOO; ve3d = subfield_of layout VE3D }
+
+-- degrees times 10,000,000
+abbrev pub LATITUDE : ℕ
+LATITUDE = 900000000
+
+abbrev pub LONGITUDE : ℕ
+LONGITUDE = 1800000000
+
+abbrev pub coordinates : List ℤ → List ℤ → List Coord
+coordinates ys xs = map (λ it. record { x = it.1; y = it.0; z = None }) (zip ys xs)
+
+unfoldable pub coordinate_columns : CoordinateRow → RowValues → Result (List Coord) FieldFault
+coordinate_columns row values = do
+  ys ← column_in (number_within LATITUDE) values row.ycoo
+  xs ← column_in (number_within LONGITUDE) values row.xcoo
+  Ok (coordinates ys xs)
+
+abbrev pub coordinates_in : CoordinateRow → RowValues → Result (List Coord) FieldFault
+coordinates_in row values = listed values.fields (coordinate_columns row values)
+
+abbrev pub soundings : List ℤ → List ℤ → List ℤ → List Coord
+soundings ys xs depths = map (λ it. record { x = it.0.1; y = it.0.0; z = Some it.1 }) (zip (zip ys xs) depths)
+
+unfoldable pub sounding_columns : SoundingRow → RowValues → Result (List Coord) FieldFault
+sounding_columns row values = do
+  ys ← column_in (number_within LATITUDE) values row.ycoo
+  xs ← column_in (number_within LONGITUDE) values row.xcoo
+  depths ← column_in depth_in values row.ve3d
+  Ok (soundings ys xs depths)
+
+abbrev pub soundings_in : SoundingRow → RowValues → Result (List Coord) FieldFault
+soundings_in row values = listed values.fields (sounding_columns row values)
+
+-- ---- FFPT
+
+abbrev pub ffpt_row : Option Layout → RelatedRow
+ffpt_row layout = record { lnam = subfield_of layout LNAM; rind = subfield_of layout RIND }
+
+abbrev pub related : List Foid → List ℕ → List Related
+related foids rinds = map (λ pair. record { foid = pair.0; rind = pair.1 }) (zip foids rinds)
+
+unfoldable pub related_columns : RelatedRow → RowValues → Result (List Related) FieldFault
+related_columns row values = do
+  foids ← column_in object_name values row.lnam
+  rinds ← column_in (number_up_to 255) values row.rind
+  Ok (related foids rinds)
+
+abbrev pub related_in : RelatedRow → RowValues → Result (List Related) FieldFault
+related_in row values = listed values.fields (related_columns row values)

@@ -1,0 +1,19 @@
+-- Signed numbers: binary, or digits in a text.
+use Rattle.std.specs.Prelude.{ℕ, ℤ, pos, ◌*ℤ◌, unsigned_abs, nat_le, if◌then◌else◌, List, Option, Some, None, option_map}
+use Rattle.iso8211_records.specs.declared.value.Value.{Value}
+use Rattle.iso8211_records.specs.declared.value.Value.TheVariants.{Number, Text, Bits}
+use Rattle.s57_fields.specs.Number.{digits_up_to}
+
+-- a number from -n to n
+unfoldable pub whole_within : ℕ → ℤ → Option ℤ
+whole_within n z = if nat_le (unsigned_abs z) n then Some z else None
+
+-- the number that a value is, where it is a binary number or digits, from -n to n; digits have no sign
+unfoldable pub number_within : ℕ → Value → Option ℤ
+number_within n (Number number) = whole_within n number
+number_within n (Text text) = option_map pos (digits_up_to n text)
+number_within n (Bits bits) = None
+
+-- a sounding's depth in centimetres: 10 times a number from -999,999 to 999,999
+unfoldable pub depth_in : Value → Option ℤ
+depth_in value = option_map (λ decimetres. decimetres *ℤ pos 10) (number_within 999999 value)

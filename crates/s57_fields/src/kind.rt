@@ -1,0 +1,24 @@
+//! What a subfield may hold.
+
+ghost use Rattle.std.specs.Prelude.{◌≡◌, Option, IfOk, IfSome};
+ghost use Rattle.iso8211_records.specs.declared.value.Value.{Value as RawValue};
+
+use iso8211_records::Value;
+use std::alloc::{AllocError, Global};
+
+/// What a subfield may hold: a number of some width, a text, a name.
+pub trait Kind {
+    /// What such a value is read as.
+    type Output: Drop;
+
+    /// What a value is read as, and nothing where it has the wrong kind or is out of its width or range.
+    ghost reads: { Self → RawValue → Option Self.Output };
+
+    /// What holds of each value that is read.
+    ghost holds: { Self → Self.Output → Type 0 };
+
+    /// Reads a value.
+    fn read(&self, alloc: Global, value: &Value) -> Result<Option<Self::Output>, AllocError>
+        ensures found { IfOk result (λ found. found ≡ reads self.now value.now) }
+        ensures holds { IfOk result (λ found. IfSome found (holds self.now)) };
+}

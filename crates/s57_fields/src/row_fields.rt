@@ -1,0 +1,109 @@
+//! The fields of one tag in a record.
+
+ghost use Rattle.std.specs.Prelude.{◌≡◌, is_none, find};
+ghost use Rattle.std.specs.Option.{option_copied};
+ghost use Rattle.std.specs.Str.{bytes_eq};
+ghost use Rattle.s57_fields.specs.RowValues.{fields_in, first_of};
+ghost use Rattle.s57_fields.specs.Answers.{missing, bad};
+
+use crate::fault::FieldFault;
+use iso8211_records::{RawField, Value};
+use std::marker::Model;
+
+/// The fields of one tag in a data record.
+///
+/// Contracts see the record's number, the tag, and the values of each such field, in their order.
+#[derive(Drop)]
+pub struct RowFields<'a> {
+    number: usize,
+    tag: [u8; 4],
+    fields: &'a [RawField],
+}
+
+impl<'a> Model for RowFields<'a> {
+    ghost use Rattle.std.specs.Str.{bytes_eq};
+    ghost use Rattle.s57_fields.specs.RowValues.{RowValues, fields_in};
+
+    ghost Value = { RowValues };
+
+    ghost view = { λ row. fields_in row.number row.tag row.fields.now };
+}
+
+/// The first field of this tag.
+fn first_field(fields: &[RawField], tag: [u8; 4]) -> Option<&RawField>
+    ensures { option_copied result ≡ find (λ field. bytes_eq field.tag tag) fields.now }
+{
+    fields.iter().find(|field| field.tag == tag)
+}
+
+impl<'a> RowFields<'a> {
+    /// The fields of this tag in the data record of this number.
+    pub fn new(number: usize, tag: [u8; 4], fields: &'a [RawField]) -> RowFields<'a>
+        ensures { result ≡ fields_in number tag fields.now }
+    {
+        RowFields {
+            number,
+            tag,
+            fields,
+        }
+    }
+
+    /// Whether the record has no such field.
+    pub fn is_empty(&self) -> bool
+        ensures { result ≡ is_none (first_of self.now.fields) }
+    {
+        self.first().is_none()
+    }
+
+    /// The values of the first such field.
+    #[tactic(auto, using(crate::proofs::Fields::first_of_found))]
+    pub fn first(&self) -> Option<&'a [Value]>
+        ensures { option_copied result ≡ first_of self.now.fields }
+    {
+        match first_field(self.fields, self.tag) {
+            Some(field) => Some(field.values.as_slice()),
+            None => None,
+        }
+    }
+
+    /// The number of the data record, from 1.
+    pub fn number(&self) -> usize
+        ensures { result ≡ self.now.number }
+    {
+        self.number
+    }
+
+    /// The tag of the fields.
+    pub fn tag(&self) -> [u8; 4]
+        ensures { result ≡ self.now.tag }
+    {
+        self.tag
+    }
+
+    /// All fields of the record.
+    pub fn record(&self) -> &'a [RawField]
+        ensures { self.now ≡ fields_in self.now.number self.now.tag result.now }
+    {
+        self.fields
+    }
+
+    /// The fault of a subfield that isn't in the descriptor.
+    pub fn missing(&self) -> FieldFault
+        ensures { result ≡ missing self.now }
+    {
+        FieldFault::MissingField {
+            record: self.number,
+            tag: self.tag,
+        }
+    }
+
+    /// The fault of a value under this label.
+    pub fn bad(&self, label: [u8; 4]) -> FieldFault
+        ensures { result ≡ bad self.now label }
+    {
+        FieldFault::Value {
+            record: self.number,
+            label,
+        }
+    }
+}
