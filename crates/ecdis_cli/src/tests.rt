@@ -124,8 +124,8 @@ fn answers_lines(rt: HostRuntime) -> Result<(), Fail> {
         // A carriage return is removed only before a line feed, and only one.
         (b"info EMPTY\r\r\ninfo EMPTY\r", b"no 70 1\nno 70 2\n"),
         (
-            b"info EMPTY\ninfo NONE\ninfo LABELS\n",
-            b"no 10 0\nno 71 NONE\nno 14 DSID\n",
+            b"info EMPTY\ninfo NONE\ninfo LABELS\ninfo EDITION\ninfo ALONE\n",
+            b"no 10 0\nno 71 NONE\nno 14 DSID\nno 22 1 EDTN\nno 20\n",
         ),
         (b"", b""),
         (b"\n\r\n#info\n#\n \n", b"no 70 5\n"),
