@@ -19,12 +19,17 @@ use Rattle.std.specs.Fmt.{digits}
 use Rattle.std.proofs.lemmas.Result.{on_err_weaker}
 use Rattle.ecdis_cli.specs.Progress.{Chosen}
 use Rattle.ecdis_cli.specs.declared.refusal.Refusal.{Refusal}
-use Rattle.ecdis_cli.specs.declared.refusal.Refusal.TheVariants.{BadLine, NoFile, ShelfFault, FileLong, File, NoGeneral}
+use Rattle.ecdis_cli.specs.declared.refusal.Refusal.TheVariants.{BadLine, NoFile, ShelfFault, FileLong, File, NoGeneral, Field}
 use Rattle.iso8211_records.specs.declared.fault.FileFault.{FileFault}
 use Rattle.iso8211_records.specs.declared.fault.FileFault.TheVariants.{Leader, Directory, Span, Terminator, Descriptor, Subfield, NoMemory}
 use Rattle.iso8211_records.specs.FileValue.{FileValue}
 use Rattle.iso8211_records.specs.Tags.{DSID}
-use Rattle.ecdis_cli.specs.Reply.{reply_to_records}
+use Rattle.ecdis_cli.specs.Reply.{reply_to_records, reply_to_dsid}
+use Rattle.ecdis_cli.specs.General.{names_itself}
+use Rattle.s57_fields.specs.Files.{dsid_at}
+use Rattle.s57_fields.specs.declared.general.Dsid.{Dsid}
+use Rattle.s57_fields.specs.declared.fault.FieldFault.{FieldFault}
+use Rattle.s57_fields.specs.declared.fault.FieldFault.TheVariants.{MissingField, Value, NoMemory as NoMemoryForField}
 use Rattle.ecdis_cli.specs.General.{general_of}
 use Rattle.ecdis_cli.specs.Line.{is_silent, name_on}
 use Rattle.ecdis_cli.specs.Reply.{Files, printed, reading_of, reply_on, reply_to_info, answer_to, reply_to, reply_to_fetched}
@@ -90,6 +95,12 @@ file-not_failed (Descriptor tag) = refl
 file-not_failed (Subfield number tag) = refl
 file-not_failed NoMemory = refl
 
+field-not_failed : (fault : FieldFault) → is_fetch_failure (printed (Refused (Field fault))) ≡ false
+unfolding digits
+field-not_failed (MissingField number tag) = refl
+field-not_failed (Value number label) = refl
+field-not_failed NoMemoryForField = refl
+
 refusal-not_failed : (refusal : Refusal) → refusal ≢ ShelfFault → is_fetch_failure (printed (Refused refusal)) ≡ false
 unfolding digits
 refusal-not_failed (BadLine number) h = refl
@@ -98,14 +109,19 @@ refusal-not_failed ShelfFault h = absurd (h refl)
 refusal-not_failed (FileLong limit) h = refl
 refusal-not_failed (File fault) h = file-not_failed fault
 refusal-not_failed NoGeneral h = refl
+refusal-not_failed (Field fault) h = field-not_failed fault
 
 pub reply-not_failed : (reply : Reply) → reply ≢ Refused ShelfFault → is_fetch_failure (printed reply) ≡ false
 reply-not_failed (Refused refusal) h = refusal-not_failed refusal (λ e. h (ap Refused e))
 reply-not_failed (Info general) h = refl
 
+dsid-not_fault : (records : ℕ) (read : Result Dsid FieldFault) → reply_to_dsid records read ≢ Refused ShelfFault
+dsid-not_fault records (Ok dsid) = λ e. cc
+dsid-not_fault records (Err fault) = λ e. cc
+
 records-not_fault : (read : Result FileValue FileFault) → reply_to_records read ≢ Refused ShelfFault
 records-not_fault (Err fault) = λ e. cc
-records-not_fault (Ok file) = elim (general_of file) as (λ o. option_map_or Info o (Refused NoGeneral) ≢ Refused ShelfFault) [ None ↦ λ e. cc | Some g ↦ λ e. cc ]
+records-not_fault (Ok file) = elim (names_itself file) as (λ v. cond v (reply_to_dsid (length file.records) (dsid_at file 1)) (Refused NoGeneral) ≢ Refused ShelfFault) [ true ↦ dsid-not_fault (length file.records) (dsid_at file 1) | false ↦ λ e. cc ]
 
 pub reading_of-not_fault : (bytes : List ℕ) → reading_of bytes ≢ Refused ShelfFault
 unfolding reading_of

@@ -7,12 +7,15 @@ use Rattle.chart_ports.specs.declared.shelf.Fetched.{Fetched}
 use Rattle.chart_ports.specs.declared.shelf.Fetched.TheVariants.{Bytes, Absent, Long}
 use Rattle.ecdis_cli.specs.declared.reply.Reply.{Reply}
 use Rattle.ecdis_cli.specs.declared.reply.Reply.TheVariants.{Refused, Info}
-use Rattle.ecdis_cli.specs.declared.refusal.Refusal.TheVariants.{BadLine, NoFile, ShelfFault, FileLong, File, NoGeneral}
+use Rattle.ecdis_cli.specs.declared.refusal.Refusal.TheVariants.{BadLine, NoFile, ShelfFault, FileLong, File, NoGeneral, Field}
 use Rattle.ecdis_cli.specs.Refusal.{code_of, values_of, after_spaces}
 use Rattle.iso8211_records.specs.Tags.{DSID}
+use Rattle.s57_fields.specs.Files.{dsid_at}
+use Rattle.s57_fields.specs.declared.general.Dsid.{Dsid}
+use Rattle.s57_fields.specs.declared.fault.FieldFault.{FieldFault}
 use Rattle.iso8211_records.specs.FileValue.{FileValue}
 use Rattle.iso8211_records.specs.declared.fault.FileFault.{FileFault}
-use Rattle.ecdis_cli.specs.General.{general_of}
+use Rattle.ecdis_cli.specs.General.{names_itself, general_of}
 use Rattle.ecdis_cli.specs.Line.{is_silent, name_on}
 
 -- the most bytes of a file that is read
@@ -29,10 +32,18 @@ printed (Refused refusal) = codes "no " ++ decimal (code_of refusal) ++ after_sp
 printed (Info general) = codes "ok info " ++ general.key ++ 32 ∷ [] ++ decimal general.edition
     ++ 32 ∷ [] ++ decimal general.update ++ 32 ∷ [] ++ decimal general.records ++ 10 ∷ []
 
+-- what is said of a file by its DSID field
+abbrev pub reply_to_dsid : ℕ → Result Dsid FieldFault → Reply
+reply_to_dsid records (Ok dsid) = Info (general_of dsid records)
+reply_to_dsid records (Err fault) = Refused (Field fault)
+
 -- what is said of a file of records
+abbrev pub reply_to_file : FileValue → Reply
+reply_to_file file = if names_itself file then reply_to_dsid (length file.records) (dsid_at file 1) else Refused NoGeneral
+
 abbrev pub reply_to_records : Result FileValue FileFault → Reply
+reply_to_records (Ok file) = reply_to_file file
 reply_to_records (Err fault) = Refused (File fault)
-reply_to_records (Ok file) = option_map_or Info (general_of file) (Refused NoGeneral)
 
 -- what is said of a file's bytes
 unfoldable pub reading_of : List ℕ → Reply

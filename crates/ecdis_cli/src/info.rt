@@ -1,15 +1,16 @@
 //! The command `info`.
 
-ghost use Rattle.std.specs.Prelude.{◌≡◌, ◌≤◌, ◌⊎◌, Ok, IsTrue, IfOk};
+ghost use Rattle.std.specs.Prelude.{◌≡◌, ◌≤◌, ◌⊎◌, IsTrue, IfOk};
 ghost use Rattle.chart_ports.specs.Count.{Rose};
-ghost use Rattle.ecdis_cli.specs.Reply.{reading_of, reply_on, reply_to_fetched, reply_to_records};
+ghost use Rattle.ecdis_cli.specs.Reply.{reading_of, reply_on, reply_to_fetched, reply_to_file};
 
-use crate::general::general_of;
+use crate::general::{general_of, names_itself};
 use crate::refusal::Refusal;
 use crate::reply::Reply;
 use chart_model::Octets;
 use chart_ports::{Fetched, Shelf, ShelfError, Steps};
 use iso8211_records::{FileFault, RecordFile, read_file};
+use s57_fields::{FieldFault, read_dsid};
 use std::alloc::{AllocError, Global};
 use std::sync::ledger::Ledger;
 
@@ -17,12 +18,16 @@ use std::sync::ledger::Ledger;
 const FILE_LIMIT: u64 = 8_388_608;
 
 /// What is said of a file of records.
-fn reply_to_records(file: &RecordFile) -> Reply
-    ensures { result ≡ reply_to_records (Ok file.now) }
+fn reply_to_file(alloc: Global, file: &RecordFile) -> Result<Reply, AllocError>
+    ensures { IfOk result (λ reply. reply ≡ reply_to_file file.now) }
 {
-    match general_of(file) {
-        Some(general) => Reply::Info(general),
-        None => Reply::Refused(Refusal::NoGeneral),
+    if !names_itself(file) {
+        return Ok(Reply::Refused(Refusal::NoGeneral));
+    }
+    match read_dsid(alloc, file, 1) {
+        Ok(dsid) => Ok(Reply::Info(general_of(&dsid, file.records.as_slice().len()))),
+        Err(FieldFault::NoMemory) => Err(AllocError),
+        Err(fault) => Ok(Reply::Refused(Refusal::Field(fault))),
     }
 }
 
@@ -32,7 +37,7 @@ fn read<C: Ledger>(alloc: Global, bytes: &[u8], steps: &mut Steps<C>) -> Result<
     ensures { IfOk result (λ reply. reply ≡ reading_of bytes.now) }
 {
     match read_file(alloc, bytes, &[*b"DSID"], steps) {
-        Ok(file) => Ok(reply_to_records(&file)),
+        Ok(file) => reply_to_file(alloc, &file),
         Err(FileFault::NoMemory) => Err(AllocError),
         Err(fault) => Ok(Reply::Refused(Refusal::File(fault))),
     }

@@ -2,10 +2,11 @@
 
 ghost use Rattle.std.specs.Prelude.{◌≡◌, ◌++◌, ◌∷◌, [], OnOk};
 ghost use Rattle.std.specs.Fmt.{decimal};
-ghost use Rattle.ecdis_cli.specs.Refusal.{code_of, values_of, file_code_of, file_values_of, after_spaces};
+ghost use Rattle.ecdis_cli.specs.Refusal.{code_of, values_of, file_code_of, file_values_of, field_code_of, field_values_of, after_spaces};
 
 use chart_model::Octets;
 use iso8211_records::FileFault;
+use s57_fields::FieldFault;
 use std::alloc::{AllocError, Global};
 
 /// Why a line is refused.
@@ -23,6 +24,8 @@ pub enum Refusal {
     File(FileFault),
     /// The file has no data record, or the first doesn't say what data set it is.
     NoGeneral,
+    /// Its DSID field has this fault. Want of memory is no refusal.
+    Field(FieldFault),
 }
 
 fn file_code_of(fault: FileFault) -> u8
@@ -36,6 +39,16 @@ fn file_code_of(fault: FileFault) -> u8
         FileFault::Descriptor(_) => 14,
         FileFault::Subfield(_, _) => 15,
         FileFault::NoMemory => 0,
+    }
+}
+
+fn field_code_of(fault: FieldFault) -> u8
+    ensures { result ≡ field_code_of fault }
+{
+    match fault {
+        FieldFault::MissingField { .. } => 21,
+        FieldFault::Value { .. } => 22,
+        FieldFault::NoMemory => 0,
     }
 }
 
@@ -73,6 +86,27 @@ fn push_file_values(alloc: Global, bytes: &mut Vec<u8>, fault: FileFault) -> Res
     }
 }
 
+/// Adds the values of a field's fault.
+fn push_field_values(
+    alloc: Global,
+    bytes: &mut Vec<u8>,
+    fault: FieldFault,
+) -> Result<(), AllocError>
+    ensures { OnOk result (bytes.new.items ≡ bytes.old.items ++ after_spaces (field_values_of fault)) }
+{
+    match fault {
+        FieldFault::MissingField { record, tag } => {
+            push_number(alloc, bytes, record as u64)?;
+            push_text(bytes, &tag)
+        }
+        FieldFault::Value { record, label } => {
+            push_number(alloc, bytes, record as u64)?;
+            push_text(bytes, &label)
+        }
+        FieldFault::NoMemory => Ok(()),
+    }
+}
+
 impl Refusal {
     /// The number that says why.
     pub fn code(&self) -> u8
@@ -85,6 +119,7 @@ impl Refusal {
             Refusal::FileLong(_) => 60,
             Refusal::File(fault) => file_code_of(*fault),
             Refusal::NoGeneral => 20,
+            Refusal::Field(fault) => field_code_of(*fault),
         }
     }
 
@@ -97,6 +132,7 @@ impl Refusal {
             Refusal::NoFile(name) => push_text(bytes, name.as_slice()),
             Refusal::FileLong(limit) => push_number(alloc, bytes, *limit),
             Refusal::File(fault) => push_file_values(alloc, bytes, *fault),
+            Refusal::Field(fault) => push_field_values(alloc, bytes, *fault),
             Refusal::ShelfFault | Refusal::NoGeneral => Ok(()),
         }
     }

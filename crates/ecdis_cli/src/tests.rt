@@ -45,19 +45,27 @@ fn failing(alloc: Global, number: u64) -> Result<FailingCalls, AllocError> {
     Ok(FailingCalls::from_vec([number].to_vec(alloc)?))
 }
 
-/// A shelf with the cell, the cell with a fault in its descriptor's labels, and an empty file.
+/// The cell with another byte at a place.
+fn changed(alloc: Global, place: usize, byte: u8) -> Result<FileBytes, AllocError> {
+    let mut bytes = CELL.to_vec(alloc)?;
+    if place < bytes.len() {
+        bytes[place] = byte;
+    }
+    Ok(FileBytes::from_vec(bytes))
+}
+
+/// A shelf with the cell, the cell with a fault in its descriptor's labels or in its edition number,
+/// its data descriptive record alone, and an empty file.
 fn shelf(alloc: Global, fetch: u64) -> Result<MemoryShelf, AllocError> {
     let mut shelf = MemoryShelf::new(alloc, failing(alloc, fetch)?);
     let cell = FileBytes::from_vec(CELL.to_vec(alloc)?);
     shelf.insert(String::from_str(alloc, "AA5TEST1.000")?, cell)?;
-    let mut labels = CELL.to_vec(alloc)?;
-    if labels.len() > 79 {
-        labels[79] = b'?';
-    }
-    shelf.insert(
-        String::from_str(alloc, "LABELS")?,
-        FileBytes::from_vec(labels),
-    )?;
+    let labels = changed(alloc, 79, b'?')?;
+    shelf.insert(String::from_str(alloc, "LABELS")?, labels)?;
+    let edition = changed(alloc, 257, b'x')?;
+    shelf.insert(String::from_str(alloc, "EDITION")?, edition)?;
+    let alone = FileBytes::from_vec(CELL[..201].to_vec(alloc)?);
+    shelf.insert(String::from_str(alloc, "ALONE")?, alone)?;
     let empty = FileBytes::from_vec(Vec::new(alloc));
     shelf.insert(String::from_str(alloc, "EMPTY")?, empty)?;
     Ok(shelf)
@@ -116,8 +124,8 @@ fn answers_lines(rt: HostRuntime) -> Result<(), Fail> {
         // A carriage return is removed only before a line feed, and only one.
         (b"info EMPTY\r\r\ninfo EMPTY\r", b"no 70 1\nno 70 2\n"),
         (
-            b"info EMPTY\ninfo NONE\ninfo LABELS\n",
-            b"no 10 0\nno 71 NONE\nno 14 DSID\n",
+            b"info EMPTY\ninfo NONE\ninfo LABELS\ninfo EDITION\ninfo ALONE\n",
+            b"no 10 0\nno 71 NONE\nno 14 DSID\nno 22 1 EDTN\nno 20\n",
         ),
         (b"", b""),
         (b"\n\r\n#info\n#\n \n", b"no 70 5\n"),
