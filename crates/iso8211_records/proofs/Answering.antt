@@ -1,10 +1,10 @@
 -- What an answer says, where it is what the function on lists gives.
-use Rattle.std.proofs.Common.{◌≡◌, ◌≢◌, ℕ, ◌+◌, List, length, Result, Ok, Err, refl, sym, ap, ◌∙◌, subst, arith, inl, inr}
+use Rattle.std.proofs.Common.{◌≡◌, ◌≢◌, ℕ, ◌+◌, length, Result, Ok, Err, refl, sym, ap, ◌∙◌, arith, inl, inr}
 use Rattle.std.specs.Prelude.{◌⊎◌, IfOk, IfErr}
 use Rattle.iso8211_records.specs.declared.fault.FileFault.{FileFault}
 use Rattle.iso8211_records.specs.declared.fault.FileFault.TheVariants.{Leader, Directory, Span, Terminator, Descriptor, Subfield, NoMemory}
 use Rattle.iso8211_records.specs.FileValue.{FileValue}
-use Rattle.iso8211_records.specs.Answers.{Fails, Gives}
+use Rattle.iso8211_records.specs.Answers.{Gives}
 use Rattle.iso8211_records.proofs.Results.{Fails-err}
 
 -- memory ran out, or it is another fault

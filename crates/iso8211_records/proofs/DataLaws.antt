@@ -1,31 +1,28 @@
 -- A data record that is read begins the bytes, and one that begins them is read; and the same of its first fault, and of the
 -- data descriptive record.
-use Rattle.std.proofs.Common.{◌≡◌, ◌≢◌, ℕ, zero, suc, ◌-◌, ◌+◌, ◌≤◌, ◌<◌, Bool, true, false, cond, not, List, [], ◌∷◌, ◌++◌, length, take, drop, Option, Some, None, Result, Ok, Err, refl, sym, ap, ◌∙◌, subst, arith, inl, inr}
-use Rattle.std.specs.Prelude.{◌⊎◌, ◌↔◌, ◌&&◌, ◌||◌, IsTrue, IsSome, is_some}
+use Rattle.std.proofs.Common.{◌≡◌, ℕ, suc, Bool, true, false, cond, not, List, [], ◌∷◌, ◌++◌, length, drop, Option, Some, None, Result, Ok, Err, refl, sym, ap, ◌∙◌, subst, inl, inr}
+use Rattle.std.specs.Prelude.{◌&&◌, IsTrue, is_some}
 use Rattle.std.specs.Bool.{MatchBool}
 use Rattle.std.specs.List.{AllByRecursion}
-use Rattle.std.proofs.Math.Seq.{take-append_seam, drop-append_seam}
-use Rattle.std.proofs.lemmas.List.{length-append}
+use Rattle.std.proofs.Math.Seq.{drop-append_seam}
 use Rattle.iso8211_leader.specs.Leader.{Frame}
 use Rattle.iso8211_leader.specs.declared.entry.Entry.{Entry}
 use Rattle.iso8211_formats.specs.Layout.{Layout}
-use Rattle.iso8211_formats.specs.Reading.{descriptor_of}
 use Rattle.iso8211_records.specs.declared.record.RawField.{RawField}
 use Rattle.iso8211_records.specs.declared.value.Value.{Value}
 use Rattle.iso8211_records.specs.declared.fault.FileFault.{FileFault}
 use Rattle.iso8211_records.specs.declared.fault.FileFault.TheVariants.{Leader, Directory, Span, Terminator, Descriptor, Subfield, NoMemory}
 use Rattle.iso8211_records.specs.Tags.{is_listed}
-use Rattle.iso8211_records.specs.Spelling.{formats_in, IsField}
 use Rattle.iso8211_records.specs.Kinds.{layout_at}
-use Rattle.iso8211_records.specs.Record.{IsRecord, IsInside, IsEnded, field_bytes, describing, AreDescriptors, IsDescriptiveRecord, HasValues, IsFieldOf, AreFieldsOf, IsDataRecord}
+use Rattle.iso8211_records.specs.Record.{IsRecord, IsInside, IsEnded, field_bytes, describing, IsDescriptiveRecord, HasValues, IsFieldOf, AreFieldsOf, IsDataRecord}
 use Rattle.iso8211_records.specs.Reading.{◌>>=◌, or_fault, first_without, is_described, unless_undescribed, Framed, record_at, descriptors_in, descriptive_record_at, values_by, field_by, fields_of, data_record_at}
-use Rattle.iso8211_records.specs.Fault.{IsFirstWithout, BeginsRecord, Describes, HasDescriptiveFault, IsDescribed, IsReadable, HasDataFault, HasFrameFault}
+use Rattle.iso8211_records.specs.Fault.{IsFirstWithout, BeginsRecord, HasDescriptiveFault, IsDescribed, IsReadable, HasDataFault, HasFrameFault}
 use Rattle.iso8211_records.proofs.Results.{bind_ok}
-use Rattle.iso8211_records.proofs.Firsts.{IsTest, first_without-some, first_without-none, first_without-each, first_without-is}
-use Rattle.iso8211_records.proofs.FrameLaws.{same-field, each-map, Begins, record_at-sound, record_at-again, record_at-fault, record_at-faulty}
-use Rattle.iso8211_records.proofs.Records.{IsRead, data_record_at-is}
-use Rattle.iso8211_records.proofs.KindLaws.{IsDescriptive, descriptive_record_at-is}
-use Rattle.iso8211_records.proofs.HoldLaws.{SpellingLaw, err_bind, first-later, first-here, or_fault-some, or_fault-none, descriptors_in-sound, descriptors_in-again, descriptors_in-fault, descriptors_in-faulty, is_described-test, values_by-sound, values_by-again}
+use Rattle.iso8211_records.proofs.Firsts.{first_without-some, first_without-none, first_without-each, first_without-is}
+use Rattle.iso8211_records.proofs.FrameLaws.{same-field, Begins, record_at-sound, record_at-again, record_at-fault, record_at-faulty}
+use Rattle.iso8211_records.proofs.Records.{data_record_at-is}
+use Rattle.iso8211_records.proofs.KindLaws.{descriptive_record_at-is}
+use Rattle.iso8211_records.proofs.HoldLaws.{SpellingLaw, err_bind, first-later, first-here, or_fault-some, descriptors_in-sound, descriptors_in-again, descriptors_in-fault, descriptors_in-faulty, is_described-test, values_by-sound, values_by-again}
 
 err_is : {A : Type 0} {f g : FileFault} → (let r : Result A FileFault = Err f in r ≡ Err g) → f ≡ g
 err_is e = cc

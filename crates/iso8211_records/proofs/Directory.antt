@@ -1,16 +1,16 @@
 -- Reading a directory, an entry at a time.
-use Rattle.std.proofs.Common.{◌≡◌, ℕ, zero, suc, ◌-◌, ◌+◌, ◌*◌, ◌≤◌, ◌<◌, Bool, true, false, cond, List, [], ◌∷◌, ◌++◌, length, get_or, take, drop, Result, Ok, Err, refl, sym, ap, ◌∙◌, subst, append_assoc, add-one, ltb, leb, eqb, arith, inl, inr}
-use Rattle.std.specs.Prelude.{◌&&◌, slice_index}
+use Rattle.std.proofs.Common.{◌≡◌, ℕ, zero, suc, ◌-◌, ◌+◌, ◌≤◌, ◌<◌, true, false, List, [], ◌∷◌, ◌++◌, Result, Ok, Err, refl, sym, ap, ◌∙◌, append_assoc, ltb, leb, eqb, arith, inl, inr}
+use Rattle.std.specs.Prelude.{◌&&◌}
 use Rattle.std.proofs.lemmas.List.{append-nil}
 use Rattle.std.proofs.lemmas.Bool.{cases_lt}
 use Rattle.std.proofs.lemmas.Bool.Decides.{nat_tests}
 use Rattle.iso8211_leader.specs.Leader.{Frame}
-use Rattle.iso8211_leader.specs.Entry.{IsEntry, HasEntry, entry_size, entry_of, entry_text}
+use Rattle.iso8211_leader.specs.Entry.{HasEntry, entry_size, entry_of, entry_text}
 use Rattle.iso8211_leader.specs.declared.entry.Entry.{Entry}
 use Rattle.iso8211_records.specs.declared.fault.FileFault.{FileFault}
 use Rattle.iso8211_records.specs.declared.fault.FileFault.TheVariants.{Directory}
 use Rattle.iso8211_records.specs.Frames.{is_entry}
-use Rattle.iso8211_records.specs.Reading.{◌>>=◌, entries_at, directory_at, has_closing}
+use Rattle.iso8211_records.specs.Reading.{◌>>=◌, entries_at, has_closing}
 use Rattle.iso8211_records.proofs.Options.{both, both_parts}
 use Rattle.iso8211_records.proofs.FrameTests.{is_entry-is, is_entry-from}
 

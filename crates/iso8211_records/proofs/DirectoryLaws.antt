@@ -1,13 +1,13 @@
 -- The directory that is read stands in the record, and the one that stands there is read; and the same of the first place
 -- where there is none.
-use Rattle.std.proofs.Common.{◌≡◌, ◌≢◌, ℕ, zero, suc, ◌-◌, ◌+◌, ◌*◌, ◌≤◌, ◌<◌, Bool, true, false, cond, List, [], ◌∷◌, ◌++◌, length, get_or, take, drop, Option, Some, None, Result, Ok, Err, refl, sym, ap, ◌∙◌, subst, append_assoc, add-one, ltb, leb, eqb, arith, inl, inr}
-use Rattle.std.specs.Prelude.{◌&&◌, ◌⊎◌, slice_index, slice_get}
+use Rattle.std.proofs.Common.{◌≡◌, ◌≢◌, ℕ, zero, suc, ◌-◌, ◌+◌, ◌*◌, ◌≤◌, ◌<◌, true, false, List, [], ◌∷◌, ◌++◌, length, get_or, take, drop, Some, Result, Ok, Err, refl, sym, ap, ◌∙◌, subst, ltb, leb, eqb, arith, inl, inr}
+use Rattle.std.specs.Prelude.{◌&&◌, ◌⊎◌, slice_get}
 use Rattle.std.specs.List.{slice_range}
 use Rattle.std.proofs.Math.Seq.{take-append_seam, drop-append_seam}
 use Rattle.std.proofs.lemmas.List.{append-nil, length-append, length-take, length-drop, take-take, drop-drop, take-append-drop, drop-take}
 use Rattle.std.proofs.lemmas.Bool.{cases_lt}
 use Rattle.std.proofs.lemmas.Bool.Decides.{nat_tests}
-use Rattle.std.proofs.lemmas.Option.{slice_get-get_or, slice_get_within, get_or_from_slice_get, slice_get_past, same_Some}
+use Rattle.std.proofs.lemmas.Option.{slice_get-get_or, slice_get_within, get_or_from_slice_get}
 use Rattle.iso8211_leader.specs.Leader.{Frame}
 use Rattle.iso8211_leader.specs.Entry.{IsEntry, HasEntry, entry_size, entry_of, entry_text}
 use Rattle.iso8211_leader.specs.declared.entry.Entry.{Entry}
@@ -17,8 +17,7 @@ use Rattle.iso8211_records.specs.Frames.{is_entry}
 use Rattle.iso8211_records.specs.Record.{IsDirectory}
 use Rattle.iso8211_records.specs.Reading.{◌>>=◌, entries_at, has_closing}
 use Rattle.iso8211_records.proofs.Options.{both, both_parts}
-use Rattle.iso8211_records.proofs.Results.{bind_ok, cond_ok}
-use Rattle.iso8211_records.proofs.Directory.{lt-test, ge-test, le-test, le-is, eq-test, entries_at-step, entries_at-stop, entries_at-closed, entries_at-open, entry-from-tests, entry-tests, behind, nothing-before}
+use Rattle.iso8211_records.proofs.Directory.{lt-test, eq-test, entries_at-step, entries_at-stop, entries_at-closed, entries_at-open, entry-from-tests, entry-tests, behind, nothing-before}
 
 -- the text between two places: its front, and what stands behind that
 pub front-text : (bytes : List ℕ) (place size end : ℕ) → place + size ≤ end → take size (slice_range bytes place end) ≡ take size (drop place bytes)

@@ -1,7 +1,6 @@
 -- What is read is the record file that the bytes are, and the record file that bytes are is read; and the same of the first
 -- fault.
-use Rattle.std.proofs.Common.{◌≡◌, ◌≢◌, ℕ, zero, suc, ◌-◌, ◌+◌, ◌≤◌, ◌<◌, Bool, true, false, List, [], ◌∷◌, ◌++◌, length, take, drop, Result, Ok, Err, refl, sym, ap, ◌∙◌, subst, append_assoc, arith, inl, inr}
-use Rattle.std.specs.Prelude.{◌⊎◌}
+use Rattle.std.proofs.Common.{◌≡◌, ◌≢◌, ℕ, zero, suc, ◌-◌, ◌+◌, ◌≤◌, ◌<◌, false, List, [], ◌∷◌, ◌++◌, length, take, drop, Result, Ok, Err, refl, sym, ap, ◌∙◌, subst, append_assoc, arith, inl, inr}
 use Rattle.std.proofs.Math.Seq.{drop-append_seam}
 use Rattle.std.proofs.lemmas.List.{append-nil, length-append, length-drop}
 use Rattle.iso8211_leader.specs.Leader.{Frame, frame_of}
@@ -12,11 +11,11 @@ use Rattle.iso8211_records.specs.FileValue.{FileValue}
 use Rattle.iso8211_records.specs.Record.{IsRecord, IsDataRecord, AreDataRecords, IsDescriptiveRecord}
 use Rattle.iso8211_records.specs.Reading.{◌>>=◌, or_zero, descriptive_record_at, data_record_at, data_records_at, come_to}
 use Rattle.iso8211_records.specs.RecordFile.{IsRecordFile, record_file_of, data_records_in}
-use Rattle.iso8211_records.specs.Fault.{HasDataFault, HasDescriptiveFault, HasLaterFault, HasFault}
+use Rattle.iso8211_records.specs.Fault.{HasDataFault, HasLaterFault, HasFault}
 use Rattle.iso8211_records.proofs.Results.{bind_ok}
-use Rattle.iso8211_records.proofs.Records.{data_record-size, records-bound, records-step, come_to-step, come_to-last, come_to-bound, frame-length}
+use Rattle.iso8211_records.proofs.Records.{data_record-size, records-step, come_to-step, come_to-last, frame-length}
 use Rattle.iso8211_records.proofs.HoldLaws.{SpellingLaw, err_bind}
-use Rattle.iso8211_records.proofs.DataLaws.{IsDataAt, data_record_at-sound, data_record_at-again, data_record_at-fault, data_record_at-faulty, IsFirstAt, descriptive_record_at-sound, descriptive_record_at-again, descriptive_record_at-fault, descriptive_record_at-faulty}
+use Rattle.iso8211_records.proofs.DataLaws.{data_record_at-sound, data_record_at-again, data_record_at-fault, data_record_at-faulty, descriptive_record_at-sound, descriptive_record_at-again, descriptive_record_at-fault, descriptive_record_at-faulty}
 
 pub err_is : {A : Type 0} {f g : FileFault} → (let r : Result A FileFault = Err f in r ≡ Err g) → f ≡ g
 err_is e = cc

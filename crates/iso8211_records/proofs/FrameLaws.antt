@@ -1,11 +1,10 @@
 -- The frame of a record that is read stands at the front of the bytes, and the one that stands there is read; and the
 -- same of its first fault.
-use Rattle.std.proofs.Common.{◌≡◌, ◌≢◌, ℕ, zero, suc, ◌-◌, ◌+◌, ◌*◌, ◌≤◌, ◌<◌, Bool, true, false, cond, not, List, [], ◌∷◌, ◌++◌, length, get_or, take, drop, Option, Some, None, Result, Ok, Err, refl, sym, ap, ◌∙◌, subst, append_assoc, add-one, ltb, leb, eqb, arith, inl, inr, drop-cons}
-use Rattle.std.specs.Prelude.{◌&&◌, ◌||◌, ◌⊎◌, slice_index, slice_get, IsTrue}
+use Rattle.std.proofs.Common.{◌≡◌, ℕ, suc, ◌-◌, ◌+◌, ◌≤◌, ◌<◌, Bool, true, false, cond, not, List, [], ◌∷◌, ◌++◌, length, get_or, take, drop, Option, Some, None, Result, Ok, Err, refl, sym, ap, ◌∙◌, subst, ltb, leb, eqb, arith, inl, inr, drop-cons}
+use Rattle.std.specs.Prelude.{◌||◌, ◌⊎◌, slice_get, IsTrue}
 use Rattle.std.specs.List.{slice_range, AllByRecursion}
 use Rattle.std.proofs.Math.ListN.{get_or-append, drop_of_length-le}
-use Rattle.std.proofs.Math.Seq.{take-append_seam, drop-append_seam}
-use Rattle.std.proofs.lemmas.List.{length-append, length-take, length-drop, take-take, take-append-drop, take-append-le, drop-append-le}
+use Rattle.std.proofs.lemmas.List.{length-append, length-take, length-drop, take-append-drop, take-append-le, drop-append-le}
 use Rattle.std.proofs.lemmas.Bool.{cases_lt}
 use Rattle.std.proofs.lemmas.Bool.Decides.{nat_tests}
 use Rattle.std.proofs.lemmas.Option.{slice_get-get_or, slice_get_within, get_or_from_slice_get}
@@ -17,12 +16,12 @@ use Rattle.iso8211_records.specs.declared.fault.FileFault.TheVariants.{Leader, D
 use Rattle.iso8211_records.specs.Tags.{is_listed}
 use Rattle.iso8211_records.specs.Frames.{is_leader}
 use Rattle.iso8211_records.specs.Record.{IsDirectory, IsRecord, IsInside, IsEnded, field_end, field_bytes}
-use Rattle.iso8211_records.specs.Reading.{◌>>=◌, unless_at, place_without, leader_at, directory_at, entries_at, spans_at, ends_at, record_at, Framed, is_inside, is_ended, has_end}
+use Rattle.iso8211_records.specs.Reading.{unless_at, place_without, leader_at, directory_at, spans_at, ends_at, record_at, Framed, is_inside, is_ended, has_end}
 use Rattle.iso8211_records.specs.Fault.{IsFirstWithout, entry_place, HasDirectory, BreaksDirectory, BreaksSpan, BreaksEnd, HasFrameFault}
 use Rattle.iso8211_records.proofs.Options.{both, both_parts}
-use Rattle.iso8211_records.proofs.Results.{bind_ok, cond_ok}
+use Rattle.iso8211_records.proofs.Results.{cond_ok}
 use Rattle.iso8211_records.proofs.FrameTests.{is_leader-is, is_leader-from}
-use Rattle.iso8211_records.proofs.Firsts.{IsTest, passes-true, passes-false, place_without-some, place_without-none, place_without-each, place_without-is}
+use Rattle.iso8211_records.proofs.Firsts.{IsTest, place_without-some, place_without-none, place_without-each, place_without-is}
 use Rattle.iso8211_records.proofs.Directory.{lt-test, le-test, le-is, eq-test}
 use Rattle.iso8211_records.proofs.DirectoryLaws.{entries_at-sound, entries_at-again, entries_at-breaks, entries_at-broken}
 use Rattle.iso8211_records.proofs.Framing.{leader_at-none, leader_at-some, record_at-leader, record_at-directory, record_at-spans, record_at-ends, record_at-all, spans_at-whole, spans_at-inside}

@@ -1,19 +1,18 @@
 -- The frame of a record, step by step.
-use Rattle.std.proofs.Common.{◌≡◌, ℕ, ◌+◌, ◌≤◌, ◌<◌, Bool, true, false, cond, List, [], ◌∷◌, length, take, drop, Option, Some, None, Result, Ok, Err, refl, sym, ap, ◌∙◌, leb, arith}
-use Rattle.std.specs.Prelude.{◌&&◌}
+use Rattle.std.proofs.Common.{◌≡◌, ℕ, ◌+◌, ◌≤◌, Bool, true, false, cond, List, [], ◌∷◌, length, take, Option, Some, None, Result, Ok, Err, refl, leb}
 use Rattle.std.specs.List.{AllByRecursion}
 use Rattle.iso8211_leader.specs.Leader.{Frame, HasLeader, frame_of}
 use Rattle.iso8211_leader.specs.Entry.{entry_size}
 use Rattle.iso8211_leader.specs.declared.entry.Entry.{Entry}
 use Rattle.iso8211_records.specs.declared.fault.FileFault.{FileFault}
-use Rattle.iso8211_records.specs.declared.fault.FileFault.TheVariants.{Leader, Directory, Span, Terminator}
+use Rattle.iso8211_records.specs.declared.fault.FileFault.TheVariants.{Leader, Span}
 use Rattle.iso8211_records.specs.Answers.{Fails}
 use Rattle.iso8211_records.specs.Frames.{is_leader}
 use Rattle.iso8211_records.specs.Record.{IsInside}
-use Rattle.iso8211_records.specs.Reading.{◌>>=◌, unless_at, place_without, is_inside, leader_at, directory_at, spans_at, ends_at, record_at, Framed}
+use Rattle.iso8211_records.specs.Reading.{unless_at, place_without, is_inside, leader_at, directory_at, spans_at, ends_at, record_at}
 use Rattle.iso8211_records.proofs.FrameTests.{is_leader-is, is_leader-from}
-use Rattle.iso8211_records.proofs.Directory.{le-is, le-test}
-use Rattle.iso8211_records.proofs.Results.{Fails-bind, Fails-same, bind_ok, cond_ok}
+use Rattle.iso8211_records.proofs.Directory.{le-is}
+use Rattle.iso8211_records.proofs.Results.{Fails-bind, cond_ok}
 
 -- ---- leaders
 

@@ -1,7 +1,6 @@
 -- What the fields of a record hold is read, and what is read they hold; and the same of the first fault.
-use Rattle.std.proofs.Common.{◌≡◌, ◌≢◌, ℕ, zero, suc, ◌-◌, ◌+◌, ◌≤◌, ◌<◌, Bool, true, false, cond, not, List, [], ◌∷◌, ◌++◌, length, take, drop, Option, Some, None, Result, Ok, Err, refl, sym, ap, ◌∙◌, subst, arith, inl, inr}
-use Rattle.std.specs.Prelude.{◌⊎◌, ◌↔◌, ◌||◌, IsTrue, IsSome, is_some}
-use Rattle.std.specs.Bool.{MatchBool}
+use Rattle.std.proofs.Common.{◌≡◌, ℕ, suc, ◌-◌, Bool, true, false, not, List, [], ◌∷◌, ◌++◌, length, take, Option, Some, None, Result, Ok, Err, refl, sym, ap, ◌∙◌, subst, arith, inl, inr}
+use Rattle.std.specs.Prelude.{◌⊎◌, ◌↔◌, ◌||◌, IsTrue, is_some}
 use Rattle.std.specs.List.{AllByRecursion}
 use Rattle.std.proofs.Math.Seq.{take-append_seam}
 use Rattle.std.proofs.lemmas.List.{length-append}
@@ -10,22 +9,19 @@ use Rattle.iso8211_leader.specs.declared.entry.Entry.{Entry}
 use Rattle.iso8211_formats.specs.Layout.{Layout}
 use Rattle.iso8211_formats.specs.Grammar.{Spells}
 use Rattle.iso8211_formats.specs.Reading.{descriptor_of}
-use Rattle.iso8211_records.specs.declared.record.RawField.{RawField}
 use Rattle.iso8211_records.specs.declared.value.Value.{Value}
 use Rattle.iso8211_records.specs.declared.fault.FileFault.{FileFault}
-use Rattle.iso8211_records.specs.declared.fault.FileFault.TheVariants.{Leader, Directory, Span, Terminator, Descriptor, Subfield, NoMemory}
+use Rattle.iso8211_records.specs.declared.fault.FileFault.TheVariants.{Descriptor}
 use Rattle.iso8211_records.specs.Tags.{is_listed}
 use Rattle.iso8211_records.specs.Spelling.{formats_in, IsFieldText, IsField}
 use Rattle.iso8211_records.specs.Kinds.{layout_at}
-use Rattle.iso8211_records.specs.Record.{IsRecord, IsInside, IsEnded, field_bytes, describing, AreDescriptors, IsDescriptiveRecord, HasValues, IsFieldOf, AreFieldsOf, IsDataRecord}
+use Rattle.iso8211_records.specs.Record.{field_bytes, AreDescriptors}
 use Rattle.iso8211_records.specs.Values.{values_of}
-use Rattle.iso8211_records.specs.Reading.{◌>>=◌, or_fault, first_without, is_described, unless_undescribed, Framed, record_at, descriptors_in, descriptive_record_at, values_by, field_by, fields_of, data_record_at}
-use Rattle.iso8211_records.specs.Fault.{IsFirstWithout, BeginsRecord, Describes, HasDescriptiveFault, IsDescribed, IsReadable, HasDataFault, HasFrameFault}
+use Rattle.iso8211_records.specs.Reading.{◌>>=◌, or_fault, is_described, descriptors_in, values_by}
+use Rattle.iso8211_records.specs.Fault.{IsFirstWithout, Describes, IsDescribed}
 use Rattle.iso8211_records.proofs.Results.{bind_ok}
 use Rattle.iso8211_records.proofs.FieldLaws.{values_of-sound, values_of-again}
-use Rattle.iso8211_records.proofs.Firsts.{IsTest, first_without-some, first_without-none, first_without-each, first_without-is}
-use Rattle.iso8211_records.proofs.FrameLaws.{same-field, each-map, Begins, record_at-sound, record_at-again, record_at-fault, record_at-faulty}
-use Rattle.iso8211_records.proofs.Records.{IsRead, data_record_at-is}
+use Rattle.iso8211_records.proofs.Firsts.{IsTest}
 
 -- a descriptor is read exactly where one is spelled
 abbrev pub SpellingLaw : Type 0

@@ -1,5 +1,5 @@
 -- What is read has values of the kinds of its descriptors.
-use Rattle.std.proofs.Common.{◌≡◌, ℕ, zero, suc, ◌+◌, ◌-◌, ◌≤◌, ◌<◌, Bool, true, false, cond, not, List, [], ◌∷◌, ◌++◌, length, take, drop, Option, Some, None, Result, Ok, Err, refl, sym, ap, ◌∙◌, subst, arith}
+use Rattle.std.proofs.Common.{◌≡◌, ℕ, zero, suc, ◌+◌, ◌-◌, ◌≤◌, true, false, cond, not, List, [], ◌∷◌, length, take, drop, Option, Some, None, Ok, refl, sym, ap, ◌∙◌, subst, arith}
 use Rattle.std.specs.Prelude.{◌&&◌, MatchOption}
 use Rattle.std.specs.List.{AllByRecursion}
 use Rattle.std.specs.Str.{bytes_eq}
@@ -15,9 +15,9 @@ use Rattle.iso8211_records.specs.declared.value.Value.{Value}
 use Rattle.iso8211_records.specs.declared.value.Value.TheVariants.{Number, Text, Bits}
 use Rattle.iso8211_records.specs.declared.record.RawField.{RawField}
 use Rattle.iso8211_records.specs.declared.fault.FileFault.{FileFault}
-use Rattle.iso8211_records.specs.declared.fault.FileFault.TheVariants.{Leader, Descriptor, Subfield}
+use Rattle.iso8211_records.specs.declared.fault.FileFault.TheVariants.{Descriptor, Subfield}
 use Rattle.iso8211_records.specs.Tags.{is_listed}
-use Rattle.iso8211_records.specs.Spelling.{Spells, AreSpelled, formats_in, with_groups, IsFieldText}
+use Rattle.iso8211_records.specs.Spelling.{Spells, AreSpelled, formats_in, with_groups}
 use Rattle.iso8211_records.specs.Kinds.{layout_at, IsKind, AreKinds, FitsLayout, FitsTag}
 use Rattle.iso8211_records.specs.FileValue.{KeepsKinds}
 use Rattle.iso8211_records.specs.Record.{describing, field_bytes}
@@ -26,7 +26,7 @@ use Rattle.iso8211_records.specs.Reading.{◌>>=◌, or_fault, descriptors_in, d
 use Rattle.iso8211_records.proofs.Options.{both_parts}
 use Rattle.iso8211_records.proofs.FieldLaws.{values_of-sound}
 use Rattle.iso8211_records.proofs.Results.{bind_ok}
-use Rattle.iso8211_records.proofs.Records.{IsRead, data_record_at-is}
+use Rattle.iso8211_records.proofs.Records.{data_record_at-is}
 
 -- ---- kinds
 

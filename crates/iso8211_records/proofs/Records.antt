@@ -1,8 +1,7 @@
 -- Reading data records one after the other, as a loop does.
-use Rattle.std.proofs.Common.{◌≡◌, ◌≢◌, ℕ, zero, suc, ◌-◌, ◌+◌, ◌≤◌, ◌<◌, Bool, true, false, cond, List, [], ◌∷◌, ◌++◌, length, get_or, take, drop, Result, Ok, Err, refl, sym, ap, ◌∙◌, subst, append_assoc, add-one, leb, arith}
+use Rattle.std.proofs.Common.{◌≡◌, ℕ, zero, suc, ◌-◌, ◌+◌, ◌≤◌, ◌<◌, Bool, false, List, [], ◌∷◌, ◌++◌, length, take, drop, Result, Ok, Err, refl, sym, ap, ◌∙◌, subst, arith}
 use Rattle.std.proofs.lemmas.List.{append-nil, length-append, length-drop}
 use Rattle.iso8211_leader.specs.Leader.{Frame, HasLeader, frame_of}
-use Rattle.iso8211_leader.specs.declared.entry.Entry.{Entry}
 use Rattle.iso8211_formats.specs.Layout.{Layout}
 use Rattle.iso8211_records.specs.declared.record.RawField.{RawField}
 use Rattle.iso8211_records.specs.declared.fault.FileFault.{FileFault}

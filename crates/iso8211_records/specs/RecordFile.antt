@@ -1,6 +1,5 @@
 -- Files of records (ISO/IEC 8211): a data descriptive record, and data records.
-use Rattle.std.specs.Prelude.{◌≡◌, ℕ, ◌-◌, List, ◌++◌, length, Result, Ok, Err}
-use Rattle.iso8211_formats.specs.Layout.{Layout}
+use Rattle.std.specs.Prelude.{◌≡◌, ℕ, ◌-◌, List, ◌++◌, length, Result, Ok}
 use Rattle.iso8211_records.specs.declared.fault.FileFault.{FileFault}
 use Rattle.iso8211_records.specs.FileValue.{FileValue}
 use Rattle.iso8211_records.specs.Record.{IsDescriptiveRecord, AreDataRecords}

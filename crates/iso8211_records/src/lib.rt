@@ -23,4 +23,6 @@ pub use record::{RawField, RawList, RawRecord, RecordFile};
 pub use value::{Value, ValueList};
 
 #[cfg(test)]
+mod small;
+#[cfg(test)]
 mod tests;

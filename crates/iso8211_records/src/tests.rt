@@ -17,11 +17,11 @@ const RECORD: &[u8] = b"00091 D     00036   3404DSID0550000\x1e\
     \x0a\x01\x00\x00\x00\x01\x05AA5TEST1.000\x1f1\x1f0\x1f202401012024010103.1\x01\x1f2.0\x1f\x01\x26\x02\x1f\x1e";
 
 /// A field of a record: its tag and its bytes.
-type Field = ([u8; 4], &'static [u8]);
+pub(crate) type Field<'a> = ([u8; 4], &'a [u8]);
 
 /// A value that is wanted.
 #[derive(Drop)]
-enum Want {
+pub(crate) enum Want {
     Number(i64),
     Text(&'static [u8]),
     Bits(&'static [u8]),
@@ -50,7 +50,7 @@ fn read_with<C: Ledger>(
     read_file(alloc, bytes, tags, &mut steps)
 }
 
-fn read(alloc: Global, bytes: &[u8], tags: &[[u8; 4]]) -> Result<RecordFile, FileFault> {
+pub(crate) fn read(alloc: Global, bytes: &[u8], tags: &[[u8; 4]]) -> Result<RecordFile, FileFault> {
     read_with::<Brand>(alloc, bytes, tags, Blank::new(1))
 }
 
@@ -61,7 +61,7 @@ fn outcome(alloc: Global, bytes: &[u8]) -> Result<usize, FileFault> {
 }
 
 /// Whether the values of all fields are these.
-fn has_values(file: &RecordFile, wanted: &[Want]) -> bool {
+pub(crate) fn has_values(file: &RecordFile, wanted: &[Want]) -> bool {
     let mut rest = wanted.iter();
     for record in file.records.as_slice() {
         for field in record.as_slice() {
@@ -80,69 +80,6 @@ fn has_values(file: &RecordFile, wanted: &[Want]) -> bool {
 fn cell(alloc: Global) -> Result<Vec<u8>, AllocError> {
     let mut bytes = FIRST.to_vec(alloc)?;
     bytes.extend_from_slice(RECORD)?;
-    Ok(bytes)
-}
-
-/// Puts the last digits of a number behind the bytes, at most nine.
-fn push_number(out: &mut Vec<u8>, number: usize, width: usize) -> Result<(), AllocError> {
-    let mut digits = [b'0'; 9];
-    let mut rest = number;
-    for digit in digits.iter_mut().rev() {
-        *digit = b'0' + (rest % 10) as u8;
-        rest /= 10;
-    }
-    let from = 9usize.saturating_sub(width);
-    out.extend_from_slice(digits.get(from..).unwrap_or(&[]))?;
-    Ok(())
-}
-
-/// Puts a record behind the bytes, whose entries have numbers of these widths.
-fn push_record(
-    out: &mut Vec<u8>,
-    kind: u8,
-    widths: (usize, usize),
-    fields: &[Field],
-) -> Result<(), AllocError> {
-    let size = widths.0.saturating_add(widths.1).saturating_add(4);
-    let base = size.saturating_mul(fields.len()).saturating_add(25);
-    let mut area: usize = 0;
-    for field in fields {
-        area = area.saturating_add(field.1.len());
-    }
-    push_number(out, base.saturating_add(area), 5)?;
-    out.extend_from_slice(&[b' ', kind])?;
-    out.extend_from_slice(b"   09")?;
-    push_number(out, base, 5)?;
-    out.extend_from_slice(b"   ")?;
-    push_number(out, widths.0, 1)?;
-    push_number(out, widths.1, 1)?;
-    out.extend_from_slice(b" 4")?;
-    let mut position: usize = 0;
-    for field in fields {
-        out.extend_from_slice(&field.0)?;
-        push_number(out, field.1.len(), widths.0)?;
-        push_number(out, position, widths.1)?;
-        position = position.saturating_add(field.1.len());
-    }
-    out.push(0x1e)?;
-    for field in fields {
-        out.extend_from_slice(field.1)?;
-    }
-    Ok(())
-}
-
-/// A file of a data descriptive record and of data records whose entries have numbers of these widths.
-fn file_of(
-    alloc: Global,
-    widths: (usize, usize),
-    first: &[Field],
-    records: &[&[Field]],
-) -> Result<Vec<u8>, AllocError> {
-    let mut bytes = Vec::new(alloc);
-    push_record(&mut bytes, b'L', (3, 4), first)?;
-    for record in records {
-        push_record(&mut bytes, b'D', widths, record)?;
-    }
     Ok(bytes)
 }
 

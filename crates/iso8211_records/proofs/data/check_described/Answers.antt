@@ -1,6 +1,5 @@
-use Rattle.std.proofs.Common.{◌≡◌, sym, ◌∙◌, ap}
-use Rattle.iso8211_records.specs.Reading.{unless_undescribed}
-use Rattle.iso8211_records.proofs.Places.{first-here, first-later, first-none}
+use Rattle.std.proofs.Common.{sym}
+use Rattle.iso8211_records.proofs.Places.{first-later}
 use Rattle.iso8211_records.proofs.data.check_described.Goals as goal
 
 pub loop-entry-preserved : goal.loop-entry-preserved

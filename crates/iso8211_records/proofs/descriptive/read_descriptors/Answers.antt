@@ -1,8 +1,6 @@
-use Rattle.std.proofs.Common.{◌≡◌, sym, ◌∙◌, ◌∷◌, get_or}
+use Rattle.std.proofs.Common.{◌∷◌, get_or}
 use Rattle.std.proofs.lemmas.Result.{err_from_is_err_and}
-use Rattle.iso8211_leader.specs.Leader.{frame}
-use Rattle.iso8211_records.proofs.Places.{each-at}
-use Rattle.iso8211_records.proofs.Described.{HaveTags-none, HaveTags-push, is_new-by, no_entry, described-more, described-less, described-fail, described-all}
+use Rattle.iso8211_records.proofs.Described.{HaveTags-push, is_new-by, no_entry, described-more, described-fail, described-all}
 use Rattle.iso8211_records.proofs.descriptive.read_descriptors.Goals as goal
 
 pub returns-in_err-descriptor : goal.returns-in_err-descriptor

@@ -1,5 +1,5 @@
 use Rattle.iso8211_records.proofs.Answering.{answer-ok, answer-err, answer-is, answer-counted}
-use Rattle.iso8211_records.specs.RecordFile.{IsRecordFile, record_file_of, data_records_in}
+use Rattle.iso8211_records.specs.RecordFile.{IsRecordFile, data_records_in}
 use Rattle.iso8211_records.specs.Fault.{HasFault}
 use Rattle.iso8211_records.proofs.file.read_file.Goals as goal
 

@@ -1,5 +1,5 @@
-use Rattle.std.proofs.Common.{◌≡◌, arith, sym}
-use Rattle.iso8211_records.proofs.Places.{place-here, place-later, place-none, place-low, place-next, each-at}
+use Rattle.std.proofs.Common.{sym}
+use Rattle.iso8211_records.proofs.Places.{place-later, place-next}
 use Rattle.iso8211_records.proofs.frame.check_spans.Goals as goal
 
 pub loop-entry-preserved : goal.loop-entry-preserved

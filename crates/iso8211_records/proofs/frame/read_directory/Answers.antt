@@ -1,4 +1,4 @@
-use Rattle.std.proofs.Common.{◌≡◌, ◌≤◌, ◌-◌, ◌+◌, ◌*◌, length, arith, sym, ap, ◌∙◌}
+use Rattle.std.proofs.Common.{arith, sym}
 use Rattle.iso8211_leader.specs.Leader.{frame}
 use Rattle.iso8211_records.specs.Reading.{directory_at, entries_at}
 use Rattle.iso8211_records.proofs.Directory.{directory-more, directory-none, directory-closed, directory-open, nothing-before}

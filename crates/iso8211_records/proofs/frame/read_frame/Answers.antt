@@ -1,4 +1,3 @@
-use Rattle.std.proofs.Common.{◌≡◌, sym}
 use Rattle.std.proofs.lemmas.Result.{err_from_is_err_and}
 use Rattle.iso8211_leader.specs.Leader.{frame}
 use Rattle.iso8211_records.proofs.Framing.{leader_at-none, leader_at-some, record_at-leader, record_at-directory, record_at-spans, record_at-ends, record_at-all, spans_at-whole, spans_at-inside}

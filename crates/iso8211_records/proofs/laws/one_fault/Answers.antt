@@ -1,4 +1,4 @@
-use Rattle.std.proofs.Common.{◌≡◌, sym, ◌∙◌}
+use Rattle.std.proofs.Common.{sym, ◌∙◌}
 use Rattle.iso8211_records.specs.FileValue.{FileValue}
 use Rattle.iso8211_records.proofs.FileLaws.{err_is}
 use Rattle.iso8211_records.proofs.laws.one_fault.Goals as goal

@@ -1,5 +1,4 @@
-use Rattle.std.proofs.Common.{◌≡◌, sym, ◌∙◌, Ok, Result}
-use Rattle.iso8211_records.specs.RecordFile.{record_file_of}
+use Rattle.std.proofs.Common.{sym, ◌∙◌}
 use Rattle.iso8211_records.proofs.FileLaws.{ok_is}
 use Rattle.iso8211_records.proofs.laws.one_reading.Goals as goal
 

@@ -1,4 +1,4 @@
-use Rattle.std.proofs.Common.{◌≡◌, ◌∙◌, ap}
+use Rattle.std.proofs.Common.{◌∙◌, ap}
 use Rattle.std.specs.Prelude.{is_some}
 use Rattle.iso8211_records.proofs.Tagged.{is_some-copied}
 use Rattle.iso8211_records.proofs.descriptors.DescriptorMap.contains.Goals as goal
