@@ -19,8 +19,6 @@ mod row_fields;
 mod signed;
 mod subfield;
 pub mod tags;
-#[cfg(test)]
-mod tests;
 mod text;
 
 pub use fault::FieldFault;
