@@ -1,1 +1,3 @@
 pub mod StoredKey
+pub mod Names
+pub mod Trees

@@ -1,4 +1,5 @@
 pub mod Key
+pub mod Names
 pub mod Record
 pub mod Change
 pub mod ChangeView

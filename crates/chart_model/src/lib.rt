@@ -4,6 +4,7 @@
 mod dataset;
 mod key;
 mod name;
+mod name_map;
 mod octets;
 mod record;
 mod sequence;
@@ -14,6 +15,7 @@ mod update_record;
 pub use dataset::{ChangeList, Dataset, Header};
 pub use key::Key;
 pub use name::{Foid, Name};
+pub use name_map::NameMap;
 pub use octets::Octets;
 pub use record::{Attr, AttrList, Coord, Coords, Pointer, Pointers, Related, RelatedList};
 pub use sequence::Sequence;
