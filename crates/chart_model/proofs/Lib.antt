@@ -1,3 +1,4 @@
 pub mod StoredKey
 pub mod Names
+pub mod Keys
 pub mod Trees

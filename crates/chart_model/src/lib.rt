@@ -3,6 +3,7 @@
 
 mod dataset;
 mod key;
+mod key_map;
 mod name;
 mod name_map;
 mod octets;
@@ -14,6 +15,7 @@ mod update_record;
 
 pub use dataset::{ChangeList, Dataset, Header};
 pub use key::Key;
+pub use key_map::KeyMap;
 pub use name::{Foid, Name};
 pub use name_map::NameMap;
 pub use octets::Octets;
