@@ -1,12 +1,11 @@
 -- The order of names is total, and only equal names tie.
-use Rattle.std.proofs.Common.{◌≡◌, ap, refl, sym, ◌∙◌, subst, T, rules}
+use Rattle.std.proofs.Common.{◌≡◌, refl, sym, subst, T, rules}
 use Rattle.std.specs.declared.cmp.Ordering.{Ordering}
 use Rattle.std.specs.declared.cmp.Ordering.TheVariants.{Less, Equal, Greater}
 use Rattle.std.specs.Ordering.{is_eq, ordering_then}
 use Rattle.std.specs.Cmp.{IsTotalOrder}
 use Rattle.std.specs.Cmp.Rules.{comparing}
 use Rattle.std.specs.FinMap.{IsAntisymmetric, nat_cmp-IsAntisymmetric}
-use Rattle.chart_model.specs.declared.name.Name.{Name}
 use Rattle.chart_model.specs.Names.{name_cmp}
 
 pub name_cmp-total : IsTotalOrder name_cmp

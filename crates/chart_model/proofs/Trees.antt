@@ -1,10 +1,8 @@
 -- What a tree's entries are as a finite map.
-use Rattle.std.proofs.Common.{◌≡◌, ℕ, Bool, true, false, cond, List, [], ◌∷◌, length, Option, Some, None, ap, arith, refl, sym, ◌∙◌}
+use Rattle.std.proofs.Common.{◌≡◌, cond, List, [], ◌∷◌, length, Option, Some, None, ap, arith, refl, sym, ◌∙◌}
 use Rattle.std.specs.declared.cmp.Ordering.{Ordering}
-use Rattle.std.specs.declared.cmp.Ordering.TheVariants.{Less, Equal, Greater}
-use Rattle.std.specs.Ordering.{is_eq, is_lt, eq_by_cmp}
+use Rattle.std.specs.Ordering.{eq_by_cmp}
 use Rattle.std.specs.Cmp.{IsTotalOrder, eq_by_cmp_equiv}
-use Rattle.std.specs.List.{AllByRecursion}
 use Rattle.std.specs.List.Sorted.{IsStrictlySortedBy}
 use Rattle.std.specs.Map.{keys_of, lookup}
 use Rattle.std.specs.BTreeMap.{is_at}
@@ -35,18 +33,18 @@ module _ {K X : Type 0} {R : K → K → Ordering} (total : IsTotalOrder R) wher
       → map.from_entries {R = R} new ≡ map.insert (map.from_entries old) k v
   insert-tree same old new k v is =
       map.same_map total same _ _ (λ q.
-          get-tree new q ∙ is q ∙ turned k q _ _
-          ∙ ap (cond (eq_by_cmp R q k) (Some v)) (sym (get-tree old q))
-          ∙ sym (map.get-insert total _ k v q))
+      get-tree new q ∙ is q ∙ turned k q _ _
+      ∙ ap (cond (eq_by_cmp R q k) (Some v)) (sym (get-tree old q))
+      ∙ sym (map.get-insert total _ k v q))
 
   pub remove-tree : IsAntisymmetric R → (old new : List (K × X)) (k : K)
       → ((q : K) → lookup (is_at (R q)) new ≡ cond (is_at (R k) q) None (lookup (is_at (R q)) old))
       → map.from_entries {R = R} new ≡ map.remove (map.from_entries old) k
   remove-tree same old new k is =
       map.same_map total same _ _ (λ q.
-          get-tree new q ∙ is q ∙ turned k q _ _
-          ∙ ap (cond (eq_by_cmp R q k) None) (sym (get-tree old q))
-          ∙ sym (map.get-remove total _ k q))
+      get-tree new q ∙ is q ∙ turned k q _ _
+      ∙ ap (cond (eq_by_cmp R q k) None) (sym (get-tree old q))
+      ∙ sym (map.get-remove total _ k q))
 
   -- what a lookup in the tree finds is what the map that the tree is seen as has
   pub get-seen : (es : List (K × X)) (m : FinMap R X) (q : K) → map.from_entries es ≡ m → lookup (is_at (R q)) es ≡ map.get m q
