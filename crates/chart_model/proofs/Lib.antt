@@ -2,3 +2,4 @@ pub mod StoredKey
 pub mod Names
 pub mod Keys
 pub mod Trees
+pub mod Maps
