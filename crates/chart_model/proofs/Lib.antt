@@ -3,3 +3,5 @@ pub mod Names
 pub mod Keys
 pub mod Trees
 pub mod Maps
+pub mod SortedEntries
+pub mod AttrMaps

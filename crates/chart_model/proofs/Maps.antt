@@ -1,5 +1,5 @@
 -- A fact of each entry of a map, after each change.
-use Rattle.std.proofs.Common.{◌≡◌, true, false, cond, Some, None, IfSome, T, refl, sym, subst}
+use Rattle.std.proofs.Common.{◌≡◌, true, false, cond, Some, None, IfSome, T, refl, sym, subst, ◌∙◌}
 use Rattle.std.specs.declared.cmp.Ordering.{Ordering}
 use Rattle.std.specs.declared.cmp.Ordering.TheVariants.{Less, Equal, Greater}
 use Rattle.std.specs.Ordering.{is_eq, eq_by_cmp}
@@ -36,3 +36,13 @@ module _ {K X : Type 0} {R : K → K → Ordering} where
 
 pub each-empty : {K X : Type 0} (R : K → K → Ordering) (P : K → X → Type 0) → Each P (map.empty {R = R})
 each-empty {X = X} R P q = subst (λ o. IfSome o (P q)) (sym (map.get-empty {X = X} R q)) tt
+
+-- to take out what is not there changes nothing
+pub remove-absent : {K X : Type 0} {R : K → K → Ordering} → IsTotalOrder R → IsAntisymmetric R → (m : FinMap R X) (k : K) → map.get m k ≡ None → map.remove m k ≡ m
+remove-absent {R = R} total same m k absent =
+    map.same_map total same _ _ (λ q.
+    map.get-remove total m k q
+    ∙ elim (eq_by_cmp R q k) as (λ b. eq_by_cmp R q k ≡ b → cond b None (map.get m q) ≡ map.get m q) [
+      | true ↦ λ e. sym absent ∙ map.get_tied total m q k (tied (R q k) e)
+      | false ↦ λ e. refl
+    ] refl)
