@@ -1,24 +1,26 @@
 -- Lines and their replies.
 use Rattle.std.proofs.Common.{◌≡◌, ℕ, zero, suc, ◌+◌, ◌-◌, ◌<◌, ◌≤◌, ◌⊎◌, Bool, true, false, cond, ◌&&◌, List, [], ◌∷◌, ◌++◌, length, take, drop, get_or, eqb, refl, sym, ◌∙◌, ap, subst, arith, inl, inr, append_assoc, length-append, length-drop, length-take-le}
 use Rattle.std.specs.Prelude.{Option, Some, None, nat_eq, codes}
+use Rattle.std.specs.Str.{bytes_eq}
 use Rattle.std.specs.List.{slice_split, starts_with}
 use Rattle.std.specs.Str.Lines.{lines, lines_of_parts, strip_carriage_return}
-use Rattle.std.specs.Option.{option_map_or}
+use Rattle.std.specs.Option.{option_map, option_or, option_and_then}
 use Rattle.std.proofs.lemmas.Bool.Decides.{nat_tests}
 use Rattle.std.proofs.lemmas.List.{append-nil}
 use Rattle.std.proofs.lemmas.List.Elements.{All-nil, All-cons, All-head, All-tail, All-append}
 use Rattle.std.proofs.lemmas.List.Splits.{slice_split_at, slice_split_none, length-slice_split}
-use Rattle.ecdis_cli.specs.declared.reply.Reply.TheVariants.{Refused, Info}
-use Rattle.ecdis_cli.specs.declared.refusal.Refusal.{Refusal}
-use Rattle.ecdis_cli.specs.declared.refusal.Refusal.TheVariants.{BadLine, NoFile, ShelfFault, FileLong, File, NoGeneral}
-use Rattle.iso8211_records.specs.declared.fault.FileFault.{FileFault}
-use Rattle.iso8211_records.specs.declared.fault.FileFault.TheVariants.{Leader, Directory, Span, Terminator, Descriptor, Subfield, NoMemory}
-use Rattle.iso8211_records.specs.FileValue.{FileValue}
-use Rattle.iso8211_records.specs.Tags.{DSID}
-use Rattle.ecdis_cli.specs.Reply.{reply_to_records}
-use Rattle.ecdis_cli.specs.Line.{is_name, is_silent, name_on}
-use Rattle.ecdis_cli.specs.Reply.{Files, printed, reply_to_info, answer_to, reply_to}
-use Rattle.ecdis_cli.specs.Replies.{replies_from, joined, onto_ended, ended}
+use Rattle.chart_model.specs.State.{StateValue}
+use Rattle.ecdis_cli.specs.declared.line.Event.{Event}
+use Rattle.ecdis_cli.specs.declared.line.Event.TheVariants.{Info, Load, Cells}
+use Rattle.ecdis_cli.specs.declared.reply.Reply.{Reply}
+use Rattle.ecdis_cli.specs.declared.reply.Reply.TheVariants.{Refused}
+use Rattle.ecdis_cli.specs.declared.refusal.Refusal.TheVariants.{BadLine}
+use Rattle.ecdis_cli.specs.Line.{is_word, is_silent, word_if, word_after}
+use Rattle.ecdis_cli.specs.Event.{event_on}
+use Rattle.ecdis_cli.specs.Fetch.{Files}
+use Rattle.ecdis_cli.specs.Reply.{printed}
+use Rattle.ecdis_cli.specs.Turn.{Turn, silent, refused, turn_on, turn_to, said_of, reply_to, state_after}
+use Rattle.ecdis_cli.specs.Replies.{first_mark, other_marks, replies_from, joined, onto_ended, ended}
 use Rattle.ecdis_cli.specs.Progress.{Unbroken, output_from}
 
 -- Lines
@@ -60,44 +62,35 @@ cut_at_feed (byte ∷ bytes) =
 
 -- Replies
 
--- whether the first line's fetch failed, and the marks of the others
-abbrev pub first_mark : List Bool → Bool
-first_mark [] = false
-first_mark (mark ∷ marks) = mark
+-- what is said to the lines after the first, which was replied to so
+abbrev pub output_behind : Files → StateValue → ℕ → List ℕ → List ℕ → List Bool → List ℕ
+output_behind files state number line rest marks = output_from files (state_after files state number line (first_mark marks)) (number + 1) rest (other_marks marks)
 
-abbrev pub other_marks : List Bool → List Bool
-other_marks [] = []
-other_marks (mark ∷ marks) = marks
-
-pub joined-cons : (files : Files) (number : ℕ) (line : List ℕ) (more : List (List ℕ)) (marks : List Bool)
-    → joined (replies_from files number (line ∷ more) marks) ≡ reply_to files number line (first_mark marks) ++ joined (replies_from files (number + 1) more (other_marks marks))
-joined-cons files number line more [] = refl
-joined-cons files number line more (mark ∷ marks) = refl
-
-pub output-feed : (files : Files) (number : ℕ) (line rest : List ℕ) (marks : List Bool) → Unbroken line
-    → output_from files number (line ++ 10 ∷ rest) marks ≡ reply_to files number (strip_carriage_return line) (first_mark marks) ++ output_from files (number + 1) rest (other_marks marks)
+pub output-feed : (files : Files) (state : StateValue) (number : ℕ) (line rest : List ℕ) (marks : List Bool) → Unbroken line
+    → output_from files state number (line ++ 10 ∷ rest) marks
+    ≡ reply_to files state number (strip_carriage_return line) (first_mark marks) ++ output_behind files state number (strip_carriage_return line) rest marks
 unfolding output_from
-output-feed files number line rest marks h =
-    ap (λ (ls : List (List ℕ)). joined (replies_from files number ls marks)) (lines-feed line rest h)
-    ∙ joined-cons files number (strip_carriage_return line) (lines rest) marks
+output-feed files state number line rest marks h =
+    ap (λ (ls : List (List ℕ)). joined (replies_from files state number ls marks)) (lines-feed line rest h)
 
-pub output-one : (files : Files) (number : ℕ) (line : List ℕ) (marks : List Bool) → joined (replies_from files number (line ∷ []) marks) ≡ reply_to files number line (first_mark marks)
-output-one files number line marks = joined-cons files number line [] marks ∙ append-nil (reply_to files number line (first_mark marks))
+pub output-one : (files : Files) (state : StateValue) (number : ℕ) (line : List ℕ) (marks : List Bool)
+    → joined (replies_from files state number (line ∷ []) marks) ≡ reply_to files state number line (first_mark marks)
+output-one files state number line marks = append-nil (reply_to files state number line (first_mark marks))
 
-pub output-nil : (files : Files) (number : ℕ) (marks : List Bool) → joined (replies_from files number [] marks) ≡ reply_to files number [] (first_mark marks)
-unfolding reply_to
-output-nil files number marks = refl
+pub reply_to-empty : (files : Files) (state : StateValue) (number : ℕ) (mark : Bool) → reply_to files state number [] mark ≡ []
+unfolding reply_to turn_to
+reply_to-empty files state number mark = refl
 
 -- the last line has no line feed
-pub output-last : (files : Files) (number : ℕ) (line : List ℕ) (marks : List Bool) → Unbroken line
-    → output_from files number line marks ≡ reply_to files number line (first_mark marks)
+pub output-last : (files : Files) (state : StateValue) (number : ℕ) (line : List ℕ) (marks : List Bool) → Unbroken line
+    → output_from files state number line marks ≡ reply_to files state number line (first_mark marks)
 unfolding output_from
-output-last files number [] marks h = output-nil files number marks
-output-last files number (byte ∷ line) marks h =
+output-last files state number [] marks h = sym (reply_to-empty files state number (first_mark marks))
+output-last files state number (byte ∷ line) marks h =
     let some : eqb (length (byte ∷ line)) 0 ≡ false = grind (arith, nat_tests) in
-    ap (λ (ls : List (List ℕ)). joined (replies_from files number ls marks))
+    ap (λ (ls : List (List ℕ)). joined (replies_from files state number ls marks))
     (lines-last (byte ∷ line) h ∙ ap (λ (b : Bool). cond b [] ((byte ∷ line) ∷ [])) some)
-    ∙ output-one files number (byte ∷ line) marks
+    ∙ output-one files state number (byte ∷ line) marks
 
 -- Long lines
 
@@ -105,20 +98,51 @@ pub and-false : (b : Bool) → (b && false) ≡ false
 and-false true = refl
 and-false false = refl
 
-pub is_name-long : (bytes : List ℕ) → 256 ≤ length bytes → is_name bytes ≡ false
-is_name-long bytes h = grind (arith, nat_tests)
+bytes_eq-longer : (xs ys : List ℕ) → length ys < length xs → bytes_eq xs ys ≡ false
+bytes_eq-longer [] ys h = absurd (omega arith)
+bytes_eq-longer (x ∷ xs) [] h = refl
+bytes_eq-longer (x ∷ xs) (y ∷ ys) h = ap (λ (b : Bool). nat_eq x y && b) (bytes_eq-longer xs ys (omega arith)) ∙ and-false (nat_eq x y)
 
-pub name_on-long : (line : List ℕ) → 261 ≤ length line → name_on line ≡ None
-name_on-long line h =
-    let no : is_name (drop 5 line) ≡ false = is_name-long (drop 5 line) (omega (arith, length-drop 5 line)) in
-    ap (λ (b : Bool). cond b (Some (drop 5 line)) None) (ap (λ (b : Bool). starts_with nat_eq line (codes "info ") && b) no ∙ and-false (starts_with nat_eq line (codes "info ")))
+pub is_word-long : (bytes : List ℕ) → 256 ≤ length bytes → is_word bytes ≡ false
+is_word-long bytes h = grind (arith, nat_tests)
 
--- the reply to a long line depends on its first byte alone
-pub reply_to-long : (files : Files) (number : ℕ) (line : List ℕ) (mark : Bool) → 261 ≤ length line
-    → reply_to files number line mark ≡ cond (is_silent line) [] (printed (Refused (BadLine number)))
-unfolding reply_to answer_to
-reply_to-long files number line mark h =
-    ap (λ (o : Option (List ℕ)). cond (is_silent line) [] (printed (option_map_or (reply_to_info files mark) o (Refused (BadLine number))))) (name_on-long line h)
+word_after-long : (verb line : List ℕ) → 256 + length verb ≤ length line → word_after verb line ≡ None
+word_after-long verb line h =
+    let no : is_word (drop (length verb) line) ≡ false = is_word-long (drop (length verb) line) (omega (arith, length-drop (length verb) line)) in
+    let none : word_if (drop (length verb) line) ≡ None = ap (λ (b : Bool). cond b (Some (drop (length verb) line)) None) no in
+    elim (starts_with nat_eq line verb) as (λ b. option_and_then word_if (cond b (Some (drop (length verb) line)) None) ≡ None) [ true ↦ none | false ↦ refl ]
+
+pub event_on-long : (line : List ℕ) → 261 ≤ length line → event_on line ≡ None
+event_on-long line h =
+    ap (λ (b : Bool). cond b (Some Cells) (option_or (option_map Info (word_after (codes "info ") line)) (option_map Load (word_after (codes "load ") line))))
+    (bytes_eq-longer line (codes "cells") (omega arith))
+    ∙ ap (λ (o : Option (List ℕ)). option_or (option_map Info o) (option_map Load (word_after (codes "load ") line))) (word_after-long (codes "info ") line (omega arith))
+    ∙ ap (λ (o : Option (List ℕ)). option_map Load o) (word_after-long (codes "load ") line (omega arith))
+
+-- the turn of a long line depends on its first byte alone
+turn_to-long : (files : Files) (state : StateValue) (number : ℕ) (line : List ℕ) (mark : Bool) → 261 ≤ length line
+    → turn_to files state number line mark ≡ cond (is_silent line) (silent state) (refused state (BadLine number))
+unfolding turn_to
+turn_to-long files state number line mark h =
+    ap (λ (o : Option Event). cond (is_silent line) (silent state) (turn_on files state number mark o)) (event_on-long line h)
+
+-- what is said to a long line
+abbrev pub long_reply : ℕ → Bool → List ℕ
+long_reply number is_remark = cond is_remark [] (printed (Refused (BadLine number)))
+
+pub reply_to-long : (files : Files) (state : StateValue) (number : ℕ) (line : List ℕ) (mark : Bool) → 261 ≤ length line
+    → reply_to files state number line mark ≡ long_reply number (is_silent line)
+unfolding reply_to
+reply_to-long files state number line mark h =
+    ap (λ (t : Turn). said_of t.reply) (turn_to-long files state number line mark h)
+    ∙ elim (is_silent line) as (λ v. said_of (cond v (silent state) (refused state (BadLine number))).reply ≡ long_reply number v) [ true ↦ refl | false ↦ refl ]
+
+pub state_after-long : (files : Files) (state : StateValue) (number : ℕ) (line : List ℕ) (mark : Bool) → 261 ≤ length line
+    → state_after files state number line mark ≡ state
+unfolding state_after
+state_after-long files state number line mark h =
+    ap (λ (t : Turn). t.state) (turn_to-long files state number line mark h)
+    ∙ elim (is_silent line) as (λ v. (cond v (silent state) (refused state (BadLine number))).state ≡ state) [ true ↦ refl | false ↦ refl ]
 
 pub length-strip : (line : List ℕ) → length line ≤ length (strip_carriage_return line) + 1
 length-strip line =
@@ -144,40 +168,47 @@ is_silent-append [] more h = absurd (omega arith)
 is_silent-append (byte ∷ line) more h = refl
 
 -- the reply to a line that has begun with so many bytes, however it goes on
-pub reply_to-begun : (files : Files) (number : ℕ) (line more : List ℕ) (mark : Bool) → 262 ≤ length line
-    → reply_to files number (line ++ more) mark ≡ cond (is_silent line) [] (printed (Refused (BadLine number)))
-reply_to-begun files number line more mark h =
-    reply_to-long files number (line ++ more) mark (omega (arith, length-append line more))
-    ∙ ap (λ (b : Bool). cond b [] (printed (Refused (BadLine number)))) (is_silent-append line more (omega arith))
+pub reply_to-begun : (files : Files) (state : StateValue) (number : ℕ) (line more : List ℕ) (mark : Bool) → 262 ≤ length line
+    → reply_to files state number (line ++ more) mark ≡ long_reply number (is_silent line)
+reply_to-begun files state number line more mark h =
+    reply_to-long files state number (line ++ more) mark (omega (arith, length-append line more))
+    ∙ ap (long_reply number) (is_silent-append line more (omega arith))
 
-pub reply_to-begun_strip : (files : Files) (number : ℕ) (line more : List ℕ) (mark : Bool) → 262 ≤ length line
-    → reply_to files number (strip_carriage_return (line ++ more)) mark ≡ cond (is_silent line) [] (printed (Refused (BadLine number)))
-reply_to-begun_strip files number line more mark h =
-    reply_to-long files number (strip_carriage_return (line ++ more)) mark (omega (arith, length-append line more, length-strip (line ++ more)))
-    ∙ ap (λ (b : Bool). cond b [] (printed (Refused (BadLine number))))
-    (is_silent-strip (line ++ more) (omega (arith, length-append line more)) ∙ is_silent-append line more (omega arith))
+long-strip : (line more : List ℕ) → 262 ≤ length line → 261 ≤ length (strip_carriage_return (line ++ more))
+long-strip line more h = omega (arith, length-append line more, length-strip (line ++ more))
+
+pub reply_to-begun_strip : (files : Files) (state : StateValue) (number : ℕ) (line more : List ℕ) (mark : Bool) → 262 ≤ length line
+    → reply_to files state number (strip_carriage_return (line ++ more)) mark ≡ long_reply number (is_silent line)
+reply_to-begun_strip files state number line more mark h =
+    reply_to-long files state number (strip_carriage_return (line ++ more)) mark (long-strip line more h)
+    ∙ ap (long_reply number) (is_silent-strip (line ++ more) (omega (arith, length-append line more)) ∙ is_silent-append line more (omega arith))
+
+-- a long line, however it goes on, and what is said to the lines behind it
+output-begun : (files : Files) (state : StateValue) (number : ℕ) (line more rest : List ℕ) (marks : List Bool) → 262 ≤ length line → Unbroken line → Unbroken more
+    → output_from files state number (line ++ (more ++ 10 ∷ rest)) marks
+    ≡ long_reply number (is_silent line) ++ output_from files state (number + 1) rest (other_marks marks)
+output-begun files state number line more rest marks long h u =
+    ap (λ (l : List ℕ). output_from files state number l marks) (sym (append_assoc line more (10 ∷ rest)))
+    ∙ output-feed files state number (line ++ more) rest marks (All-append (λ b. eqb b 10 ≡ false) line more h u)
+    ∙ ap (λ (l : List ℕ). l ++ output_behind files state number (strip_carriage_return (line ++ more)) rest marks) (reply_to-begun_strip files state number line more (first_mark marks) long)
+    ∙ ap (λ (s : StateValue). long_reply number (is_silent line) ++ output_from files s (number + 1) rest (other_marks marks))
+    (state_after-long files state number (strip_carriage_return (line ++ more)) (first_mark marks) (long-strip line more long))
 
 -- the rest of a long line changes nothing
-pub output-long : (files : Files) (number : ℕ) (line : List ℕ) (byte : ℕ) (rest : List ℕ) (marks : List Bool)
+pub output-long : (files : Files) (state : StateValue) (number : ℕ) (line : List ℕ) (byte : ℕ) (rest : List ℕ) (marks : List Bool)
     → 262 ≤ length line → Unbroken line → eqb byte 10 ≡ false
-    → output_from files number (line ++ byte ∷ rest) marks ≡ output_from files number (line ++ rest) marks
-output-long files number line byte rest marks long h ne =
-    elim (cut_at_feed rest) as (λ _. output_from files number (line ++ byte ∷ rest) marks ≡ output_from files number (line ++ rest) marks) [
+    → output_from files state number (line ++ byte ∷ rest) marks ≡ output_from files state number (line ++ rest) marks
+output-long files state number line byte rest marks long h ne =
+    elim (cut_at_feed rest) as (λ _. output_from files state number (line ++ byte ∷ rest) marks ≡ output_from files state number (line ++ rest) marks) [
       | inl u ↦
-          output-last files number (line ++ byte ∷ rest) marks (All-append (λ b. eqb b 10 ≡ false) line (byte ∷ rest) h (All-cons (λ b. eqb b 10 ≡ false) byte rest ne u))
-          ∙ reply_to-begun files number line (byte ∷ rest) (first_mark marks) long
-          ∙ sym (output-last files number (line ++ rest) marks (All-append (λ b. eqb b 10 ≡ false) line rest h u)
-          ∙ reply_to-begun files number line rest (first_mark marks) long)
+          output-last files state number (line ++ byte ∷ rest) marks (All-append (λ b. eqb b 10 ≡ false) line (byte ∷ rest) h (All-cons (λ b. eqb b 10 ≡ false) byte rest ne u))
+          ∙ reply_to-begun files state number line (byte ∷ rest) (first_mark marks) long
+          ∙ sym (output-last files state number (line ++ rest) marks (All-append (λ b. eqb b 10 ≡ false) line rest h u)
+          ∙ reply_to-begun files state number line rest (first_mark marks) long)
       | inr f ↦
-          let tail : List ℕ = output_from files (number + 1) f.rest (other_marks marks) in
-          let begun : (more : List ℕ) → Unbroken more → output_from files number (line ++ (more ++ 10 ∷ f.rest)) marks ≡ cond (is_silent line) [] (printed (Refused (BadLine number))) ++ tail
-          = λ (more : List ℕ) (um : Unbroken more).
-          ap (λ (l : List ℕ). output_from files number l marks) (sym (append_assoc line more (10 ∷ f.rest)))
-          ∙ output-feed files number (line ++ more) f.rest marks (All-append (λ b. eqb b 10 ≡ false) line more h um)
-          ∙ ap (λ (l : List ℕ). l ++ tail) (reply_to-begun_strip files number line more (first_mark marks) long) in
-          ap (λ (l : List ℕ). output_from files number (line ++ byte ∷ l) marks) f.whole
-          ∙ begun (byte ∷ f.line) (All-cons (λ b. eqb b 10 ≡ false) byte f.line ne f.unbroken)
-          ∙ sym (ap (λ (l : List ℕ). output_from files number (line ++ l) marks) f.whole ∙ begun f.line f.unbroken)
+          ap (λ (l : List ℕ). output_from files state number (line ++ byte ∷ l) marks) f.whole
+          ∙ output-begun files state number line (byte ∷ f.line) f.rest marks long h (All-cons (λ b. eqb b 10 ≡ false) byte f.line ne f.unbroken)
+          ∙ sym (ap (λ (l : List ℕ). output_from files state number (line ++ l) marks) f.whole ∙ output-begun files state number line f.line f.rest marks long h f.unbroken)
     ]
 
 -- Lines that have ended
@@ -226,9 +257,9 @@ ended-fed bytes f = subst (λ (l : List ℕ). IsCons (ended l)) (sym f.whole) (e
 pub ended-line : (line : List ℕ) → ended (line ++ 10 ∷ []) ≡ line ++ 10 ∷ []
 ended-line line = ended-append line (10 ∷ []) (onto_ten [])
 
-pub output-empty : (files : Files) (number : ℕ) (marks : List Bool) → output_from files number [] marks ≡ []
+pub output-empty : (files : Files) (state : StateValue) (number : ℕ) (marks : List Bool) → output_from files state number [] marks ≡ []
 unfolding output_from
-output-empty files number marks = refl
+output-empty files state number marks = refl
 
-pub output-ended_none : (files : Files) (number : ℕ) (bytes : List ℕ) (marks : List Bool) → Unbroken bytes → output_from files number (ended bytes) marks ≡ []
-output-ended_none files number bytes marks h = ap (λ (l : List ℕ). output_from files number l marks) (ended-unbroken bytes h) ∙ output-empty files number marks
+pub output-ended_none : (files : Files) (state : StateValue) (number : ℕ) (bytes : List ℕ) (marks : List Bool) → Unbroken bytes → output_from files state number (ended bytes) marks ≡ []
+output-ended_none files state number bytes marks h = ap (λ (l : List ℕ). output_from files state number l marks) (ended-unbroken bytes h) ∙ output-empty files state number marks

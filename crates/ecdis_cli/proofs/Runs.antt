@@ -1,6 +1,6 @@
 -- The run of a whole script.
 use Rattle.std.proofs.Common.{◌≡◌, ◌≢◌, ℕ, ◌+◌, ◌<◌, ◌≤◌, ◌⊎◌, Bool, false, List, [], ◌∷◌, ◌++◌, length, take, drop, eqb, refl, sym, ◌∙◌, ap, subst, arith, inl, inr, append_assoc, length-append, length-take-le}
-use Rattle.std.specs.Prelude.{min}
+use Rattle.std.specs.Prelude.{min, IsTrue}
 use Rattle.std.specs.Str.Lines.{lines}
 use Rattle.std.proofs.lemmas.List.{append-nil, take-append-drop, take-take}
 use Rattle.std.proofs.lemmas.List.Elements.{All-nil}
@@ -12,111 +12,115 @@ use Rattle.ecdis_cli.specs.Stop.{status_of}
 use Rattle.ecdis_cli.specs.declared.status.Status.TheVariants as stops
 use Rattle.ecdis_cli.specs.declared.status.Status.{Status}
 use Rattle.ecdis_cli.specs.declared.status.Status.TheVariants.{Done}
-use Rattle.ecdis_cli.specs.Reply.{Files, reply_to}
+use Rattle.chart_model.specs.State.{StateValue}
+use Rattle.ecdis_cli.specs.Fetch.{Files}
+use Rattle.ecdis_cli.specs.Load.{nothing_held}
+use Rattle.ecdis_cli.specs.Turn.{reply_to}
 use Rattle.ecdis_cli.specs.Replies.{replies_from, replies_of, joined, ended, fetch_failures}
-use Rattle.ecdis_cli.specs.Progress.{Unbroken, Answered, Interrupted, output_from, marked, Advanced, Halted}
+use Rattle.ecdis_cli.specs.Progress.{Standing, at_start, Unbroken, Answered, Interrupted, output_from, output_at, marked, Advanced, Halted}
 use Rattle.ecdis_cli.specs.Run.{Replied}
 use Rattle.ecdis_cli.proofs.Lines.{output-last}
 use Rattle.ecdis_cli.proofs.Steps.{front-whole, front-after, front-same, decided, rose-more, rose-fewer, marked-append, rose-mark, failures-le-marked, Advanced-start, Advanced-then, Halted-then, Advanced-front, Halted-start}
 
 -- The whole script
 
-pub replies_of-joined : (files : Files) (script : List ℕ) (marks : List Bool) → joined (replies_of files script marks) ≡ output_from files 1 script marks
+pub replies_of-joined : (files : Files) (script : List ℕ) (marks : List Bool) → joined (replies_of files script marks) ≡ output_from files nothing_held 1 script marks
 unfolding output_from replies_of
 replies_of-joined files script marks = refl
 
 pub replies_of-failures : (files : Files) (script : List ℕ) (marks : List Bool) (a b : ℕ) → RoseBy (marked marks) a b → RoseBy (fetch_failures (replies_of files script marks)) a b
 unfolding replies_of
-replies_of-failures files script marks a b h = rose-fewer (fetch_failures (replies_from files 1 (lines script) marks)) (marked marks) a b (failures-le-marked files 1 (lines script) marks) h
+replies_of-failures files script marks a b h = rose-fewer (fetch_failures (replies_from files nothing_held 1 (lines script) marks)) (marked marks) a b (failures-le-marked files nothing_held 1 (lines script) marks) h
+
+-- the replies are those before the last line, and its own
+whole-last : (files : Files) (at : Standing) (script s0 s1 : List ℕ) (f0 f1 : ℕ) (mark : Bool) → Unbroken at.line → (x : Advanced files at_start script at s0 s1 f0 f1)
+    → joined (replies_of files script (x.marks ++ mark ∷ [])) ≡ x.replies ++ reply_to files at.state at.number at.line mark
+whole-last files at script s0 s1 f0 f1 mark h x =
+    replies_of-joined files script (x.marks ++ mark ∷ [])
+    ∙ ap (λ (l : List ℕ). output_from files nothing_held 1 l (x.marks ++ mark ∷ [])) (sym (append-nil script))
+    ∙ x.ahead [] (mark ∷ [])
+    ∙ ap (λ (l : List ℕ). x.replies ++ output_from files at.state at.number l (mark ∷ [])) (append-nil at.line)
+    ∙ ap (λ (l : List ℕ). x.replies ++ l) (output-last files at.state at.number at.line (mark ∷ []) h)
+
+-- so many fetches failed, as the shelf counted
+failed-last : (files : Files) (at : Standing) (script s0 s1 : List ℕ) (f0 f1 f2 : ℕ) (mark : Bool) → f0 ≤ f1 → f1 ≤ f2 → (IsTrue mark → Rose f1 f2) → (x : Advanced files at_start script at s0 s1 f0 f1)
+    → RoseBy (fetch_failures (replies_of files script (x.marks ++ mark ∷ []))) f0 f2
+failed-last files at script s0 s1 f0 f1 f2 mark low high cause x =
+    replies_of-failures files script (x.marks ++ mark ∷ []) f0 f2
+    (subst (λ (k : ℕ). RoseBy k f0 f2) (sym (marked-append x.marks (mark ∷ [])))
+    (rose-more (marked x.marks) (marked (mark ∷ [])) f0 f1 f2 low high x.failed (rose-mark mark f1 f2 high cause)))
 
 -- the last line was answered
-pub Replied-done : (files : Files) (number : ℕ) (line script left s0 s1 s2 : List ℕ) (f0 f1 f2 : ℕ) (status : Status) → status ≡ Done → f0 ≤ f1 → f1 ≤ f2 → Unbroken line
-    → Advanced files 1 [] script number line s0 s1 f0 f1 → Answered files number line s1 s2 f1 f2 → Replied script left files status s0 s2 f0 f2
-Replied-done files number line script left s0 s1 s2 f0 f1 f2 status done low high h x y =
-    let whole : joined (replies_of files script (x.marks ++ y.mark ∷ [])) ≡ x.replies ++ reply_to files number line y.mark
-    = replies_of-joined files script (x.marks ++ y.mark ∷ [])
-    ∙ ap (λ (l : List ℕ). output_from files 1 l (x.marks ++ y.mark ∷ [])) (sym (append-nil script))
-    ∙ x.ahead [] (y.mark ∷ [])
-    ∙ ap (λ (l : List ℕ). x.replies ++ output_from files number l (y.mark ∷ [])) (append-nil line)
-    ∙ ap (λ (l : List ℕ). x.replies ++ l) (output-last files number line (y.mark ∷ []) h) in
+pub Replied-done : (files : Files) (at : Standing) (state' : StateValue) (script left s0 s1 s2 : List ℕ) (f0 f1 f2 : ℕ) (status : Status) → status ≡ Done → f0 ≤ f1 → f1 ≤ f2 → Unbroken at.line
+    → Advanced files at_start script at s0 s1 f0 f1 → Answered files at.state at.number at.line state' s1 s2 f1 f2 → Replied script left files status s0 s2 f0 f2
+Replied-done files at state' script left s0 s1 s2 f0 f1 f2 status done low high h x y =
     let said : s2 ≡ s0 ++ joined (replies_of files script (x.marks ++ y.mark ∷ []))
-    = y.said ∙ ap (λ (l : List ℕ). l ++ reply_to files number line y.mark) x.said ∙ append_assoc s0 x.replies (reply_to files number line y.mark)
-    ∙ ap (λ (l : List ℕ). s0 ++ l) (sym whole) in
+    = y.said ∙ ap (λ (l : List ℕ). l ++ reply_to files at.state at.number at.line y.mark) x.said ∙ append_assoc s0 x.replies (reply_to files at.state at.number at.line y.mark)
+    ∙ ap (λ (l : List ℕ). s0 ++ l) (sym (whole-last files at script s0 s1 f0 f1 y.mark h x)) in
     record {
       marks = x.marks ++ y.mark ∷ [];
       all = λ _. said;
       front = front-whole s0 _ s2 said;
       at_fault = λ d. absurd (let e : Done ≡ stops.ScriptFault = sym done ∙ d in cc);
       at_limit = λ d. absurd (let e : Done ≡ stops.ScriptLong = sym done ∙ d in cc);
-      failures = replies_of-failures files script (x.marks ++ y.mark ∷ []) f0 f2
-          (subst (λ (k : ℕ). RoseBy k f0 f2) (sym (marked-append x.marks (y.mark ∷ [])))
-          (rose-more (marked x.marks) (marked (y.mark ∷ [])) f0 f1 f2 low high x.failed (rose-mark y.mark f1 f2 high y.cause)));
+      failures = failed-last files at script s0 s1 f0 f1 f2 y.mark low high y.cause x;
     }
 
 -- the last line was not
-pub Replied-cut : (files : Files) (number : ℕ) (line script left s0 s1 s2 : List ℕ) (f0 f1 f2 : ℕ) (status : Status) → status ≢ Done → status ≢ stops.ScriptFault → status ≢ stops.ScriptLong → f0 ≤ f1 → f1 ≤ f2 → Unbroken line
-    → Advanced files 1 [] script number line s0 s1 f0 f1 → Interrupted files number line s1 s2 f1 f2 → Replied script left files status s0 s2 f0 f2
-Replied-cut files number line script left s0 s1 s2 f0 f1 f2 status not_done not_fault not_long low high h x y =
-    let whole : joined (replies_of files script (x.marks ++ y.mark ∷ [])) ≡ x.replies ++ reply_to files number line y.mark
-    = replies_of-joined files script (x.marks ++ y.mark ∷ [])
-    ∙ ap (λ (l : List ℕ). output_from files 1 l (x.marks ++ y.mark ∷ [])) (sym (append-nil script))
-    ∙ x.ahead [] (y.mark ∷ [])
-    ∙ ap (λ (l : List ℕ). x.replies ++ output_from files number l (y.mark ∷ [])) (append-nil line)
-    ∙ ap (λ (l : List ℕ). x.replies ++ l) (output-last files number line (y.mark ∷ []) h) in
-    record {
-      marks = x.marks ++ y.mark ∷ [];
-      all = λ d. absurd (not_done d);
-      at_fault = λ d. absurd (not_fault d);
-      at_limit = λ d. absurd (not_long d);
-      front = front-same s0 _ _ s2 (sym whole) (front-after s0 x.replies (reply_to files number line y.mark) s1 s2 x.said y.front);
-      failures = replies_of-failures files script (x.marks ++ y.mark ∷ []) f0 f2
-          (subst (λ (k : ℕ). RoseBy k f0 f2) (sym (marked-append x.marks (y.mark ∷ [])))
-          (rose-more (marked x.marks) (marked (y.mark ∷ [])) f0 f1 f2 low high x.failed (rose-mark y.mark f1 f2 high y.cause)));
-    }
+pub Replied-cut : (files : Files) (at : Standing) (script left s0 s1 s2 : List ℕ) (f0 f1 f2 : ℕ) (status : Status) → status ≢ Done → status ≢ stops.ScriptFault → status ≢ stops.ScriptLong → f0 ≤ f1 → f1 ≤ f2 → Unbroken at.line
+    → Advanced files at_start script at s0 s1 f0 f1 → Interrupted files at.state at.number at.line s1 s2 f1 f2 → Replied script left files status s0 s2 f0 f2
+Replied-cut files at script left s0 s1 s2 f0 f1 f2 status not_done not_fault not_long low high h x y = record {
+  marks = x.marks ++ y.mark ∷ [];
+  all = λ d. absurd (not_done d);
+  at_fault = λ d. absurd (not_fault d);
+  at_limit = λ d. absurd (not_long d);
+  front = front-same s0 _ _ s2 (sym (whole-last files at script s0 s1 f0 f1 y.mark h x)) (front-after s0 x.replies (reply_to files at.state at.number at.line y.mark) s1 s2 x.said y.front);
+  failures = failed-last files at script s0 s1 f0 f1 f2 y.mark low high y.cause x;
+}
 
 -- the run ended before the script's end
 pub Replied-halted : (files : Files) (script left bytes rest s0 s1 : List ℕ) (f0 f1 : ℕ) (status : Status) → status ≢ Done → status ≢ stops.ScriptFault → status ≢ stops.ScriptLong → script ≡ bytes ++ rest
-    → Halted files 1 [] bytes s0 s1 f0 f1 → Replied script left files status s0 s1 f0 f1
+    → Halted files at_start bytes s0 s1 f0 f1 → Replied script left files status s0 s1 f0 f1
 Replied-halted files script left bytes rest s0 s1 f0 f1 status not_done not_fault not_long e x = record {
   marks = x.marks;
   all = λ d. absurd (not_done d);
-  front = front-same s0 _ _ s1 (sym (replies_of-joined files script x.marks ∙ ap (λ (l : List ℕ). output_from files 1 l x.marks) e)) (x.front rest);
+  front = front-same s0 _ _ s1 (sym (replies_of-joined files script x.marks ∙ ap (λ (l : List ℕ). output_from files nothing_held 1 l x.marks) e)) (x.front rest);
   at_fault = λ d. absurd (not_fault d);
   at_limit = λ d. absurd (not_long d);
   failures = replies_of-failures files script x.marks f0 f1 x.failed;
 }
 
 -- what was said is the replies to the lines that have ended
-pub said_ended : (files : Files) (n1 : ℕ) (l1 bytes s0 s1 : List ℕ) (f0 f1 : ℕ) → (x : Advanced files 1 [] bytes n1 l1 s0 s1 f0 f1)
+pub said_ended : (files : Files) (at : Standing) (bytes s0 s1 : List ℕ) (f0 f1 : ℕ) → (x : Advanced files at_start bytes at s0 s1 f0 f1)
     → s1 ≡ s0 ++ joined (replies_of files (ended bytes) x.marks)
-said_ended files n1 l1 bytes s0 s1 f0 f1 x =
+said_ended files at bytes s0 s1 f0 f1 x =
     x.said ∙ ap (λ (l : List ℕ). s0 ++ l) (x.ended_lines (All-nil (λ b. eqb b 10 ≡ false)) ∙ sym (replies_of-joined files (ended bytes) x.marks))
 
 -- the source failed where these bytes were taken
-pub Replied-fault : (files : Files) (script left bytes : List ℕ) (n1 : ℕ) (l1 s0 s1 : List ℕ) (f0 f1 : ℕ) → script ≡ bytes ++ left
-    → Advanced files 1 [] bytes n1 l1 s0 s1 f0 f1 → Replied script left files stops.ScriptFault s0 s1 f0 f1
-Replied-fault files script left bytes n1 l1 s0 s1 f0 f1 e x =
+pub Replied-fault : (files : Files) (at : Standing) (script left bytes s0 s1 : List ℕ) (f0 f1 : ℕ) → script ≡ bytes ++ left
+    → Advanced files at_start bytes at s0 s1 f0 f1 → Replied script left files stops.ScriptFault s0 s1 f0 f1
+Replied-fault files at script left bytes s0 s1 f0 f1 e x =
     record {
       marks = x.marks;
       all = λ d. absurd (let f : stops.ScriptFault ≡ Done = d in cc);
-      front = front-same s0 _ _ s1 (sym (replies_of-joined files script x.marks ∙ ap (λ (l : List ℕ). output_from files 1 l x.marks) e)) (Advanced-front files 1 n1 [] l1 bytes s0 s1 f0 f1 x left);
-      at_fault = λ _. record { taken = bytes; split = e; said = said_ended files n1 l1 bytes s0 s1 f0 f1 x };
+      front = front-same s0 _ _ s1 (sym (replies_of-joined files script x.marks ∙ ap (λ (l : List ℕ). output_from files nothing_held 1 l x.marks) e)) (Advanced-front files at_start at bytes s0 s1 f0 f1 x left);
+      at_fault = λ _. record { taken = bytes; split = e; said = said_ended files at bytes s0 s1 f0 f1 x };
       at_limit = λ d. absurd (let f : stops.ScriptFault ≡ stops.ScriptLong = d in cc);
       failures = replies_of-failures files script x.marks f0 f1 x.failed;
     }
 
 -- the script has more than its limit, which these bytes are
-pub Replied-long : (files : Files) (script left bytes rest : List ℕ) (n1 : ℕ) (l1 s0 s1 : List ℕ) (f0 f1 : ℕ) → script ≡ bytes ++ rest → length bytes ≡ 16777216
-    → Advanced files 1 [] bytes n1 l1 s0 s1 f0 f1 → Replied script left files stops.ScriptLong s0 s1 f0 f1
-Replied-long files script left bytes rest n1 l1 s0 s1 f0 f1 e limit x =
+pub Replied-long : (files : Files) (at : Standing) (script left bytes rest s0 s1 : List ℕ) (f0 f1 : ℕ) → script ≡ bytes ++ rest → length bytes ≡ 16777216
+    → Advanced files at_start bytes at s0 s1 f0 f1 → Replied script left files stops.ScriptLong s0 s1 f0 f1
+Replied-long files at script left bytes rest s0 s1 f0 f1 e limit x =
     let within : take 16777216 script ≡ bytes
     = ap (λ (k : ℕ). take k script) (sym limit) ∙ ap (λ (l : List ℕ). take (length bytes) l) e ∙ take-append_seam bytes rest in
     record {
       marks = x.marks;
       all = λ d. absurd (let f : stops.ScriptLong ≡ Done = d in cc);
-      front = front-same s0 _ _ s1 (sym (replies_of-joined files script x.marks ∙ ap (λ (l : List ℕ). output_from files 1 l x.marks) e)) (Advanced-front files 1 n1 [] l1 bytes s0 s1 f0 f1 x rest);
+      front = front-same s0 _ _ s1 (sym (replies_of-joined files script x.marks ∙ ap (λ (l : List ℕ). output_from files nothing_held 1 l x.marks) e)) (Advanced-front files at_start at bytes s0 s1 f0 f1 x rest);
       at_fault = λ d. absurd (let f : stops.ScriptLong ≡ stops.ScriptFault = d in cc);
-      at_limit = λ _. said_ended files n1 l1 bytes s0 s1 f0 f1 x
+      at_limit = λ _. said_ended files at bytes s0 s1 f0 f1 x
           ∙ ap (λ (l : List ℕ). s0 ++ joined (replies_of files (ended l) x.marks)) (sym within);
       failures = replies_of-failures files script x.marks f0 f1 x.failed;
     }
@@ -134,80 +138,79 @@ status_of-not_long DeskFault status e = λ d. let x : stops.DeskFault ≡ stops.
 status_of-not_long NoMemory status e = λ d. let x : stops.NoMemory ≡ stops.ScriptLong = sym e ∙ d in cc
 
 -- A run under way: these bytes were taken
-pub record Underway (files : Files) (script left : List ℕ) (number : ℕ) (line before now : List ℕ) (faults_before faults_now : ℕ) : Type 0 where
+pub record Underway (files : Files) (script left : List ℕ) (at : Standing) (before now : List ℕ) (faults_before faults_now : ℕ) : Type 0 where
   pub taken : List ℕ
   pub split : script ≡ taken ++ left
-  pub advanced : Advanced files 1 [] taken number line before now faults_before faults_now
+  pub advanced : Advanced files at_start taken at before now faults_before faults_now
 
-pub Underway-start : (files : Files) (script : List ℕ) (number : ℕ) (line before : List ℕ) (faults : ℕ) → number ≡ 1 → line ≡ [] → Underway files script script number line before before faults faults
-Underway-start files script number line before faults one none = record {
+pub Underway-start : (files : Files) (script : List ℕ) (at : Standing) (before : List ℕ) (faults : ℕ) → at ≡ at_start → Underway files script script at before before faults faults
+Underway-start files script at before faults is = record {
   taken = [];
   split = refl;
-  advanced = subst (λ (n : ℕ). Advanced files 1 [] [] n line before before faults faults) (sym one)
-      (subst (λ (l : List ℕ). Advanced files 1 [] [] 1 l before before faults faults) (sym none) (Advanced-start files 1 [] before faults));
+  advanced = subst (λ (p : Standing). Advanced files at_start [] p before before faults faults) (sym is) (Advanced-start files at_start before faults);
 }
 
-pub Underway-next : (files files' : Files) (script left0 left1 bytes : List ℕ) (n1 n2 : ℕ) (l1 l2 s0 s1 s2 : List ℕ) (f0 f1 f2 : ℕ)
+pub Underway-next : (files files' : Files) (p q : Standing) (script left0 left1 bytes s0 s1 s2 : List ℕ) (f0 f1 f2 : ℕ)
     → files' ≡ files → f0 ≤ f1 → f1 ≤ f2 → left0 ≡ bytes ++ left1
-    → Underway files script left0 n1 l1 s0 s1 f0 f1 → Advanced files' n1 l1 bytes n2 l2 s1 s2 f1 f2
-    → Underway files script left1 n2 l2 s0 s2 f0 f2
-Underway-next files files' script left0 left1 bytes n1 n2 l1 l2 s0 s1 s2 f0 f1 f2 same low high e x y = record {
+    → Underway files script left0 p s0 s1 f0 f1 → Advanced files' p bytes q s1 s2 f1 f2
+    → Underway files script left1 q s0 s2 f0 f2
+Underway-next files files' p q script left0 left1 bytes s0 s1 s2 f0 f1 f2 same low high e x y = record {
   taken = x.taken ++ bytes;
   split = x.split ∙ ap (λ (l : List ℕ). x.taken ++ l) e ∙ sym (append_assoc x.taken bytes left1);
-  advanced = Advanced-then files 1 n1 n2 [] l1 l2 x.taken bytes s0 s1 s2 f0 f1 f2 low high x.advanced
-      (subst (λ (fs : Files). Advanced fs n1 l1 bytes n2 l2 s1 s2 f1 f2) same y);
+  advanced = Advanced-then files at_start p q x.taken bytes s0 s1 s2 f0 f1 f2 low high x.advanced
+      (subst (λ (fs : Files). Advanced fs p bytes q s1 s2 f1 f2) same y);
 }
 
 -- the source fails at this place
-pub Underway-fault : (files : Files) (script left : List ℕ) (number : ℕ) (line s0 s1 : List ℕ) (f0 f1 : ℕ) (left' : List ℕ) → left' ≡ left
-    → Underway files script left number line s0 s1 f0 f1 → Replied script left' files stops.ScriptFault s0 s1 f0 f1
-Underway-fault files script left number line s0 s1 f0 f1 left' e x =
+pub Underway-fault : (files : Files) (at : Standing) (script left s0 s1 : List ℕ) (f0 f1 : ℕ) (left' : List ℕ) → left' ≡ left
+    → Underway files script left at s0 s1 f0 f1 → Replied script left' files stops.ScriptFault s0 s1 f0 f1
+Underway-fault files at script left s0 s1 f0 f1 left' e x =
     subst (λ (l : List ℕ). Replied script l files stops.ScriptFault s0 s1 f0 f1) (sym e)
-    (Replied-fault files script left x.taken number line s0 s1 f0 f1 x.split x.advanced)
+    (Replied-fault files at script left x.taken s0 s1 f0 f1 x.split x.advanced)
 
 -- the run ends within further bytes
-pub Underway-halted : (files files' : Files) (script left left0 left1 bytes : List ℕ) (number : ℕ) (line s0 s1 s2 : List ℕ) (f0 f1 f2 : ℕ) (stop : Stop) (status : Status) → status ≡ status_of stop
+pub Underway-halted : (files files' : Files) (at : Standing) (script left left0 left1 bytes s0 s1 s2 : List ℕ) (f0 f1 f2 : ℕ) (stop : Stop) (status : Status) → status ≡ status_of stop
     → files' ≡ files → f0 ≤ f1 → f1 ≤ f2 → left0 ≡ bytes ++ left1
-    → Underway files script left0 number line s0 s1 f0 f1 → Halted files' number line bytes s1 s2 f1 f2
+    → Underway files script left0 at s0 s1 f0 f1 → Halted files' at bytes s1 s2 f1 f2
     → Replied script left files status s0 s2 f0 f2
-Underway-halted files files' script left left0 left1 bytes number line s0 s1 s2 f0 f1 f2 stop status is same low high e x y =
+Underway-halted files files' at script left left0 left1 bytes s0 s1 s2 f0 f1 f2 stop status is same low high e x y =
     Replied-halted files script left (x.taken ++ bytes) left1 s0 s2 f0 f2 status (status_of-not_done stop status is) (status_of-not_fault stop status is) (status_of-not_long stop status is)
     (x.split ∙ ap (λ (l : List ℕ). x.taken ++ l) e ∙ sym (append_assoc x.taken bytes left1))
-    (Halted-then files 1 number [] line x.taken bytes s0 s1 s2 f0 f1 f2 low high x.advanced
-    (subst (λ (fs : Files). Halted fs number line bytes s1 s2 f1 f2) same y))
+    (Halted-then files at_start at x.taken bytes s0 s1 s2 f0 f1 f2 low high x.advanced
+    (subst (λ (fs : Files). Halted fs at bytes s1 s2 f1 f2) same y))
 
 -- the script's limit is reached in the further bytes
-pub Underway-long : (files files' : Files) (script left left0 left1 bytes : List ℕ) (room n1 n2 : ℕ) (l1 l2 s0 s1 s2 : List ℕ) (f0 f1 f2 : ℕ)
+pub Underway-long : (files files' : Files) (p q : Standing) (script left left0 left1 bytes s0 s1 s2 : List ℕ) (room f0 f1 f2 : ℕ)
     → files' ≡ files → f0 ≤ f1 → f1 ≤ f2 → left0 ≡ bytes ++ left1 → length bytes ≡ room → length script + room ≡ 16777216 + length left0
-    → Underway files script left0 n1 l1 s0 s1 f0 f1 → Advanced files' n1 l1 bytes n2 l2 s1 s2 f1 f2
+    → Underway files script left0 p s0 s1 f0 f1 → Advanced files' p bytes q s1 s2 f1 f2
     → Replied script left files stops.ScriptLong s0 s2 f0 f2
-Underway-long files files' script left left0 left1 bytes room n1 n2 l1 l2 s0 s1 s2 f0 f1 f2 same low high e fits counted x y =
-    let z : Underway files script left1 n2 l2 s0 s2 f0 f2 = Underway-next files files' script left0 left1 bytes n1 n2 l1 l2 s0 s1 s2 f0 f1 f2 same low high e x y in
+Underway-long files files' p q script left left0 left1 bytes s0 s1 s2 room f0 f1 f2 same low high e fits counted x y =
+    let z : Underway files script left1 q s0 s2 f0 f2 = Underway-next files files' p q script left0 left1 bytes s0 s1 s2 f0 f1 f2 same low high e x y in
     let spent : length z.taken ≡ 16777216
     = omega (arith, ap length z.split, length-append z.taken left1, ap length e, length-append bytes left1, counted, fits) in
-    Replied-long files script left z.taken left1 n2 l2 s0 s2 f0 f2 z.split spent z.advanced
+    Replied-long files q script left z.taken left1 s0 s2 f0 f2 z.split spent z.advanced
 
 -- the script ends here
 pub all_taken : (script taken left : List ℕ) → script ≡ taken ++ left → left ≡ [] → taken ≡ script
 all_taken script taken left e none = sym (e ∙ ap (λ (l : List ℕ). taken ++ l) none ∙ append-nil taken)
 
-pub Underway-done : (files files' : Files) (script left0 left : List ℕ) (number : ℕ) (line s0 s1 s2 : List ℕ) (f0 f1 f2 : ℕ)
-    → files' ≡ files → f0 ≤ f1 → f1 ≤ f2 → Unbroken line → left0 ≡ []
-    → Underway files script left0 number line s0 s1 f0 f1 → Answered files' number line s1 s2 f1 f2
+pub Underway-done : (files files' : Files) (at : Standing) (state' : StateValue) (script left0 left s0 s1 s2 : List ℕ) (f0 f1 f2 : ℕ)
+    → files' ≡ files → f0 ≤ f1 → f1 ≤ f2 → Unbroken at.line → left0 ≡ []
+    → Underway files script left0 at s0 s1 f0 f1 → Answered files' at.state at.number at.line state' s1 s2 f1 f2
     → Replied script left files Done s0 s2 f0 f2
-Underway-done files files' script left0 left number line s0 s1 s2 f0 f1 f2 same low high h none x y =
-    Replied-done files number line script left s0 s1 s2 f0 f1 f2 Done refl low high h
-    (subst (λ (bs : List ℕ). Advanced files 1 [] bs number line s0 s1 f0 f1) (all_taken script x.taken left0 x.split none) x.advanced)
-    (subst (λ (fs : Files). Answered fs number line s1 s2 f1 f2) same y)
+Underway-done files files' at state' script left0 left s0 s1 s2 f0 f1 f2 same low high h none x y =
+    Replied-done files at state' script left s0 s1 s2 f0 f1 f2 Done refl low high h
+    (subst (λ (bs : List ℕ). Advanced files at_start bs at s0 s1 f0 f1) (all_taken script x.taken left0 x.split none) x.advanced)
+    (subst (λ (fs : Files). Answered fs at.state at.number at.line state' s1 s2 f1 f2) same y)
 
-pub Underway-cut : (files files' : Files) (script left0 left : List ℕ) (number : ℕ) (line s0 s1 s2 : List ℕ) (f0 f1 f2 : ℕ) (stop : Stop) (status : Status) → status ≡ status_of stop
-    → files' ≡ files → f0 ≤ f1 → f1 ≤ f2 → Unbroken line → left0 ≡ []
-    → Underway files script left0 number line s0 s1 f0 f1 → Interrupted files' number line s1 s2 f1 f2
+pub Underway-cut : (files files' : Files) (at : Standing) (script left0 left s0 s1 s2 : List ℕ) (f0 f1 f2 : ℕ) (stop : Stop) (status : Status) → status ≡ status_of stop
+    → files' ≡ files → f0 ≤ f1 → f1 ≤ f2 → Unbroken at.line → left0 ≡ []
+    → Underway files script left0 at s0 s1 f0 f1 → Interrupted files' at.state at.number at.line s1 s2 f1 f2
     → Replied script left files status s0 s2 f0 f2
-Underway-cut files files' script left0 left number line s0 s1 s2 f0 f1 f2 stop status is same low high h none x y =
-    Replied-cut files number line script left s0 s1 s2 f0 f1 f2 status (status_of-not_done stop status is) (status_of-not_fault stop status is) (status_of-not_long stop status is) low high h
-    (subst (λ (bs : List ℕ). Advanced files 1 [] bs number line s0 s1 f0 f1) (all_taken script x.taken left0 x.split none) x.advanced)
-    (subst (λ (fs : Files). Interrupted fs number line s1 s2 f1 f2) same y)
+Underway-cut files files' at script left0 left s0 s1 s2 f0 f1 f2 stop status is same low high h none x y =
+    Replied-cut files at script left s0 s1 s2 f0 f1 f2 status (status_of-not_done stop status is) (status_of-not_fault stop status is) (status_of-not_long stop status is) low high h
+    (subst (λ (bs : List ℕ). Advanced files at_start bs at s0 s1 f0 f1) (all_taken script x.taken left0 x.split none) x.advanced)
+    (subst (λ (fs : Files). Interrupted fs at.state at.number at.line s1 s2 f1 f2) same y)
 
 -- What a source gave
 
@@ -230,7 +233,7 @@ given-more m n a b c (inr x) e = inr (omega arith)
 -- nothing was read or said
 pub Replied-nothing : (files : Files) (script left before : List ℕ) (faults : ℕ) (status : Status) → status ≢ Done → status ≢ stops.ScriptFault → status ≢ stops.ScriptLong → Replied script left files status before before faults faults
 Replied-nothing files script left before faults status not_done not_fault not_long =
-    Replied-halted files script left [] script before before faults faults status not_done not_fault not_long refl (Halted-start files 1 [] [] before faults)
+    Replied-halted files script left [] script before before faults faults status not_done not_fault not_long refl (Halted-start files at_start [] before faults)
 
 pub steady : (before now : ℕ) → IsSteady before now → Rose before now → ⊥
 steady before now h (inl x) = omega (arith, h.same)

@@ -1,5 +1,6 @@
--- What a line of the script says.
-use Rattle.std.specs.Prelude.{ℕ, Bool, true, ◌==◌, ◌&&◌, List, [], ◌∷◌, length, drop, codes, nat_le, nat_eq, Option, Some, None, if◌then◌else◌}
+-- Lines of the script.
+use Rattle.std.specs.Prelude.{ℕ, Bool, true, ◌==◌, ◌&&◌, List, [], ◌∷◌, length, drop, nat_le, nat_eq, Option, Some, None, if◌then◌else◌}
+use Rattle.std.specs.Option.{option_and_then}
 use Rattle.std.specs.List.{list_all, starts_with}
 
 -- a visible ASCII character: no space, no control
@@ -7,14 +8,21 @@ abbrev pub is_visible : ℕ → Bool
 is_visible byte = nat_le 33 byte && nat_le byte 126
 
 -- the name of a file: 1 to 255 visible characters
-abbrev pub is_name : List ℕ → Bool
-is_name bytes = nat_le 1 (length bytes) && nat_le (length bytes) 255 && list_all is_visible bytes
+abbrev pub is_word : List ℕ → Bool
+is_word bytes = nat_le 1 (length bytes) && nat_le (length bytes) 255 && list_all is_visible bytes
 
 -- nothing is replied to an empty line, nor to a remark, which begins with '#'
 abbrev pub is_silent : List ℕ → Bool
 is_silent [] = true
 is_silent (byte ∷ more) = byte == 35
 
--- the name on a line `info NAME`; every other line, and so every line over 1,024 bytes, has none
-abbrev pub name_on : List ℕ → Option (List ℕ)
-name_on line = if starts_with nat_eq line (codes "info ") && is_name (drop 5 line) then Some (drop 5 line) else None
+-- what stands behind a verb at the head of the line
+abbrev pub after_verb : List ℕ → List ℕ → Option (List ℕ)
+after_verb verb line = if starts_with nat_eq line verb then Some (drop (length verb) line) else None
+
+abbrev pub word_if : List ℕ → Option (List ℕ)
+word_if bytes = if is_word bytes then Some bytes else None
+
+-- the name that stands alone behind a verb
+abbrev pub word_after : List ℕ → List ℕ → Option (List ℕ)
+word_after verb line = option_and_then word_if (after_verb verb line)

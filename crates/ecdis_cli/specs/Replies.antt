@@ -2,18 +2,31 @@
 use Rattle.std.specs.Prelude.{ℕ, ◌+◌, ◌==◌, if◌then◌else◌, Bool, false, List, [], ◌∷◌, codes, nat_eq, count_by}
 use Rattle.std.specs.List.{flat_map, starts_with}
 use Rattle.std.specs.Str.Lines.{lines}
-use Rattle.ecdis_cli.specs.Reply.{Files, reply_to}
+use Rattle.chart_model.specs.State.{StateValue}
+use Rattle.ecdis_cli.specs.Fetch.{Files}
+use Rattle.ecdis_cli.specs.Load.{nothing_held}
+use Rattle.ecdis_cli.specs.Turn.{reply_to, state_after}
 
--- the replies to lines, the first of which has this number; a mark for each line tells whether its
--- fetch failed, and it didn't where the marks have ended
-abbrev pub replies_from : Files → ℕ → List (List ℕ) → List Bool → List (List ℕ)
-replies_from files number [] marks = []
-replies_from files number (line ∷ more) [] = reply_to files number line false ∷ replies_from files (number + 1) more []
-replies_from files number (line ∷ more) (mark ∷ marks) = reply_to files number line mark ∷ replies_from files (number + 1) more marks
+-- Marks tell of each line whether its fetch failed; it didn't where the marks have ended.
 
--- one for each line of the script, where lines count from 1
+abbrev pub first_mark : List Bool → Bool
+first_mark [] = false
+first_mark (mark ∷ marks) = mark
+
+abbrev pub other_marks : List Bool → List Bool
+other_marks [] = []
+other_marks (mark ∷ marks) = marks
+
+-- the replies to lines, the first of which has this number, from what is held before them
+abbrev pub replies_from : Files → StateValue → ℕ → List (List ℕ) → List Bool → List (List ℕ)
+replies_from files state number [] marks = []
+replies_from files state number (line ∷ more) marks =
+    reply_to files state number line (first_mark marks)
+    ∷ replies_from files (state_after files state number line (first_mark marks)) (number + 1) more (other_marks marks)
+
+-- one for each line of the script: lines count from 1, and nothing is held at the start
 unfoldable pub replies_of : Files → List ℕ → List Bool → List (List ℕ)
-replies_of files script marks = replies_from files 1 (lines script) marks
+replies_of files script marks = replies_from files nothing_held 1 (lines script) marks
 
 -- a byte before the ended part of what follows it: the part stays empty up to the first line feed from the back
 abbrev pub onto_ended : ℕ → List ℕ → List ℕ

@@ -4,7 +4,7 @@ use Rattle.chart_ports.specs.Count.{RoseBy}
 use Rattle.chart_ports.specs.Said.{SaysFront}
 use Rattle.ecdis_cli.specs.declared.status.Status.{Status}
 use Rattle.ecdis_cli.specs.declared.status.Status.TheVariants.{Done, ScriptFault, ScriptLong}
-use Rattle.ecdis_cli.specs.Reply.{Files}
+use Rattle.ecdis_cli.specs.Fetch.{Files}
 use Rattle.ecdis_cli.specs.Replies.{replies_of, joined, ended, fetch_failures}
 
 -- the most bytes of a script

@@ -1,13 +1,20 @@
 //! The general information of a data set, from its DSID field (S-57 Part 3, 7.3.1.1).
 
-ghost use Rattle.std.specs.Prelude.{◌≡◌};
+ghost use Rattle.std.specs.Prelude.{◌≡◌, IfOk};
 ghost use Rattle.chart_model.specs.Key.{IsKey};
 ghost use Rattle.s57_fields.specs.Texts.{key_in};
-ghost use Rattle.ecdis_cli.specs.General.{has_dsid, names_itself, general_of};
+ghost use Rattle.s57_records.specs.Answers.{Gives};
+ghost use Rattle.update_sequence.specs.Answers.{GivesRead};
+ghost use Rattle.ecdis_cli.specs.General.{has_dsid, names_itself, dsid_of, general_of, general_in};
 
 use chart_model::Key;
-use iso8211_records::{RawField, RecordFile};
-use s57_fields::{Dsid, key_in, tags};
+use chart_ports::Steps;
+use iso8211_records::{RawField, RecordFile, read_file};
+use s57_fields::{Dsid, key_in, read_dsid, tags};
+use s57_records::DatasetFault;
+use std::alloc::Global;
+use std::sync::ledger::Ledger;
+use update_sequence::ReadFault;
 
 /// What a file says of itself.
 #[derive(Clone, Copy, Debug)]
@@ -30,7 +37,7 @@ fn has_dsid(fields: &[RawField]) -> bool
 }
 
 /// Whether the first data record has a DSID field.
-pub fn names_itself(file: &RecordFile) -> bool
+fn names_itself(file: &RecordFile) -> bool
     ensures { result ≡ names_itself file.now }
 {
     match file.records.as_slice() {
@@ -51,7 +58,7 @@ fn key_of(name: &[u8]) -> Key
 }
 
 /// What a file of so many data records says of itself. It takes no memory.
-pub fn general_of(dsid: &Dsid, records: usize) -> General
+fn general_of(dsid: &Dsid, records: usize) -> General
     requires { IsKey (key_in dsid.now.dsnm) }
     ensures { result ≡ general_of dsid.now records }
 {
@@ -61,4 +68,29 @@ pub fn general_of(dsid: &Dsid, records: usize) -> General
         update: dsid.updn,
         records,
     }
+}
+
+/// The DSID field of the first data record.
+fn read_first(alloc: Global, file: &RecordFile) -> Result<Dsid, DatasetFault>
+    ensures read { Gives result (dsid_of file.now) }
+    ensures key { IfOk result (λ dsid. IsKey (key_in dsid.dsnm)) }
+{
+    if !names_itself(file) {
+        return Err(DatasetFault::NoGeneral);
+    }
+    Ok(read_dsid(alloc, file, 1)?)
+}
+
+/// What the bytes of a file say of it.
+#[tactic(auto, unfolding(crate::specs::General::general_in))]
+pub fn read_general<C: Ledger>(
+    alloc: Global,
+    bytes: &[u8],
+    steps: &mut Steps<C>,
+) -> Result<General, ReadFault>
+    ensures { GivesRead result (general_in bytes.now) }
+{
+    let file = read_file(alloc, bytes, &[tags::DSID], steps)?;
+    let dsid = read_first(alloc, &file)?;
+    Ok(general_of(&dsid, file.records.as_slice().len()))
 }

@@ -1,15 +1,24 @@
-//! What a line of the script says.
+//! What a line of the script asks for.
 
-ghost use Rattle.std.specs.Prelude.{◌≡◌};
+ghost use Rattle.std.specs.Prelude.{◌≡◌, IfOk};
 ghost use Rattle.std.specs.Option.{option_copied};
-ghost use Rattle.std.specs.List.{list_all};
 ghost use Rattle.std.specs.Str.Lines.{strip_carriage_return};
-ghost use Rattle.ecdis_cli.specs.Line.{is_silent, is_visible, is_name, name_on};
+ghost use Rattle.ecdis_cli.specs.Line.{is_silent, after_verb, word_after};
+ghost use Rattle.ecdis_cli.specs.Event.{event_on};
 
-use std::str;
+use crate::word::Word;
+use std::alloc::{AllocError, Global};
 
-/// The most bytes of a file's name.
-const NAME_LIMIT: usize = 255;
+/// What a line of the script asks for.
+#[derive(Debug, Drop)]
+pub enum Event {
+    /// What the file of this name says of itself.
+    Info(Word),
+    /// The file of this name is taken over.
+    Load(Word),
+    /// The cells that are held.
+    Cells,
+}
 
 /// The line without the one carriage return that stood before its line feed.
 pub fn without_carriage_return(line: &[u8]) -> &[u8]
@@ -29,29 +38,39 @@ pub fn is_silent(line: &[u8]) -> bool
     line.is_empty() || line[0] == b'#'
 }
 
-/// Whether each byte is a visible ASCII character (0x21 to 0x7E).
-fn is_visible(bytes: &[u8]) -> bool
-    ensures { result ≡ list_all is_visible bytes.now }
+/// What stands on the line after a verb and a space.
+fn after_verb<'a>(verb: &[u8], line: &'a [u8]) -> Option<&'a [u8]>
+    ensures { option_copied result ≡ after_verb verb.now line.now }
 {
-    bytes.iter().all(|byte| matches!(byte, 0x21..=0x7E))
+    if line.starts_with(verb) {
+        Some(&line[verb.len()..])
+    } else {
+        None
+    }
 }
 
-/// Whether the bytes are the name of a file: 1 to 255 visible ASCII characters.
-fn is_name(bytes: &[u8]) -> bool
-    ensures { result ≡ is_name bytes.now }
+/// The word that stands alone on the line after a verb and a space.
+fn word_after(alloc: Global, verb: &[u8], line: &[u8]) -> Result<Option<Word>, AllocError>
+    ensures { IfOk result (λ word. word ≡ word_after verb.now line.now) }
 {
-    !bytes.is_empty() && bytes.len() <= NAME_LIMIT && is_visible(bytes)
+    match after_verb(verb, line) {
+        Some(rest) => Word::from_bytes(alloc, rest),
+        None => Ok(None),
+    }
 }
 
-/// The name on a line `info NAME`.
-pub fn name_on(line: &[u8]) -> Option<&str>
-    ensures { option_copied result ≡ name_on line.now }
+/// What the line asks for, unless it has no meaning.
+pub fn event_on(alloc: Global, line: &[u8]) -> Result<Option<Event>, AllocError>
+    ensures { IfOk result (λ event. event ≡ event_on line.now) }
 {
-    if !line.starts_with(b"info ") || !is_name(&line[5..]) {
-        return None;
+    if line == b"cells".as_slice() {
+        return Ok(Some(Event::Cells));
     }
-    match str::from_utf8(&line[5..]) {
-        Ok(name) => Some(name),
-        Err(_) => unreachable!(),
+    if let Some(name) = word_after(alloc, b"info ", line)? {
+        return Ok(Some(Event::Info(name)));
     }
+    if let Some(name) = word_after(alloc, b"load ", line)? {
+        return Ok(Some(Event::Load(name)));
+    }
+    Ok(None)
 }

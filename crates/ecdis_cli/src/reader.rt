@@ -3,10 +3,11 @@
 ghost use Rattle.std.specs.Prelude.{◌≡◌, ◌+◌, ◌^◌, ◌<◌, ◌≤◌, ◌∷◌, ◌++◌, [], IsTrue, OnOk, OnErr, IsErrOf, IsOkUnless, length, All, vec_len, ◌==◌, nat_lt, false, if◌then◌else◌};
 ghost use Rattle.chart_ports.specs.Count.{Rose};
 ghost use Rattle.ecdis_cli.specs.declared.reader.TheConstants.{KEPT};
-ghost use Rattle.ecdis_cli.specs.Progress.{Advanced, Halted, Interrupted, Answered};
+ghost use Rattle.ecdis_cli.specs.Progress.{Advanced, Halted, Interrupted, Answered, at_start};
 
 use crate::answer::answer;
 use crate::line::without_carriage_return;
+use crate::live::LiveCells;
 use crate::stop::Stop;
 use chart_ports::{Desk, Shelf, Steps};
 use std::alloc::Global;
@@ -16,9 +17,11 @@ use std::sync::ledger::Ledger;
 /// without a carriage return at its end, so that its reply is known.
 const KEPT: usize = 1026;
 
-/// Where the reading of a script stands: the number of the line that has begun, and its first bytes.
+/// Where the reading of a script stands: what is held, the number of the line that has begun, and its
+/// first bytes.
 #[derive(Drop)]
 pub struct Reader {
+    pub cells: LiveCells,
     pub number: u64,
     pub line: Vec<u8>,
     ghost short: { vec_len line ≤ KEPT },
@@ -26,12 +29,14 @@ pub struct Reader {
 }
 
 impl Reader {
+    ghost use Rattle.ecdis_cli.specs.Standing.{standing};
+
     /// At the start of the first line.
     pub fn new(alloc: Global) -> Reader
-        ensures number { result.number ≡ 1 }
-        ensures line { result.line.items ≡ [] }
+        ensures { standing result ≡ at_start }
     {
         Reader {
+            cells: LiveCells::new(alloc),
             number: 1,
             line: Vec::new(alloc),
         }
@@ -46,8 +51,8 @@ impl Reader {
         steps: &mut Steps<C>,
     ) -> Result<(), Stop>
         requires { self.old.number + 1 < 2 ^ 64 }
-        ensures ok { IsTrue L.tells → IsTrue D.tells → OnOk result (Advanced (L.files shelf.old) self.old.number self.old.line.items (10 ∷ []) self.new.number self.new.line.items (D.said desk.old) (D.said desk.new) (L.faults shelf.old) (L.faults shelf.new)) }
-        ensures err { IsTrue L.tells → IsTrue D.tells → OnErr result (Halted (L.files shelf.old) self.old.number self.old.line.items (10 ∷ []) (D.said desk.old) (D.said desk.new) (L.faults shelf.old) (L.faults shelf.new)) }
+        ensures ok { IsTrue L.tells → IsTrue D.tells → OnOk result (Advanced (L.files shelf.old) (standing self.old) (10 ∷ []) (standing self.new) (D.said desk.old) (D.said desk.new) (L.faults shelf.old) (L.faults shelf.new)) }
+        ensures err { IsTrue L.tells → IsTrue D.tells → OnErr result (Halted (L.files shelf.old) (standing self.old) (10 ∷ []) (D.said desk.old) (D.said desk.new) (L.faults shelf.old) (L.faults shelf.new)) }
         ensures number { self.new.number ≤ self.old.number + 1 }
         ensures same { IsTrue L.tells → L.files shelf.new ≡ L.files shelf.old }
         ensures shelf_later { L.faults shelf.old ≤ L.faults shelf.new }
@@ -55,7 +60,15 @@ impl Reader {
         ensures desk_failed { IsErrOf result Stop.DeskFault → Rose (D.faults desk.old) (D.faults desk.new) }
     {
         let line = without_carriage_return(&self.line);
-        answer(alloc, self.number, line, shelf, desk, steps)?;
+        answer(
+            alloc,
+            self.number,
+            line,
+            &mut self.cells,
+            shelf,
+            desk,
+            steps,
+        )?;
         self.number += 1;
         self.line.clear();
         Ok(())
@@ -66,6 +79,7 @@ impl Reader {
         requires { (byte == 10) ≡ false }
         ensures ok { OnOk result (self.new.line.items ≡ (if nat_lt (length self.old.line.items) KEPT then self.old.line.items ++ byte ∷ [] else self.old.line.items)) }
         ensures number { self.new.number ≡ self.old.number }
+        ensures cells { self.new.cells ≡ self.old.cells }
         ensures err { IsOkUnless result Stop.NoMemory }
     {
         if self.line.len() < KEPT {
@@ -84,8 +98,8 @@ impl Reader {
         steps: &mut Steps<C>,
     ) -> Result<(), Stop>
         requires { self.old.number + 1 < 2 ^ 64 }
-        ensures ok { IsTrue L.tells → IsTrue D.tells → OnOk result (Advanced (L.files shelf.old) self.old.number self.old.line.items (byte ∷ []) self.new.number self.new.line.items (D.said desk.old) (D.said desk.new) (L.faults shelf.old) (L.faults shelf.new)) }
-        ensures err { IsTrue L.tells → IsTrue D.tells → OnErr result (Halted (L.files shelf.old) self.old.number self.old.line.items (byte ∷ []) (D.said desk.old) (D.said desk.new) (L.faults shelf.old) (L.faults shelf.new)) }
+        ensures ok { IsTrue L.tells → IsTrue D.tells → OnOk result (Advanced (L.files shelf.old) (standing self.old) (byte ∷ []) (standing self.new) (D.said desk.old) (D.said desk.new) (L.faults shelf.old) (L.faults shelf.new)) }
+        ensures err { IsTrue L.tells → IsTrue D.tells → OnErr result (Halted (L.files shelf.old) (standing self.old) (byte ∷ []) (D.said desk.old) (D.said desk.new) (L.faults shelf.old) (L.faults shelf.new)) }
         ensures number { self.new.number ≤ self.old.number + 1 }
         ensures same { IsTrue L.tells → L.files shelf.new ≡ L.files shelf.old }
         ensures shelf_later { L.faults shelf.old ≤ L.faults shelf.new }
@@ -109,8 +123,8 @@ impl Reader {
         steps: &mut Steps<C>,
     ) -> Result<(), Stop>
         requires { self.old.number + length bytes.now < 2 ^ 64 }
-        ensures ok { IsTrue L.tells → IsTrue D.tells → OnOk result (Advanced (L.files shelf.old) self.old.number self.old.line.items bytes.now self.new.number self.new.line.items (D.said desk.old) (D.said desk.new) (L.faults shelf.old) (L.faults shelf.new)) }
-        ensures err { IsTrue L.tells → IsTrue D.tells → OnErr result (Halted (L.files shelf.old) self.old.number self.old.line.items bytes.now (D.said desk.old) (D.said desk.new) (L.faults shelf.old) (L.faults shelf.new)) }
+        ensures ok { IsTrue L.tells → IsTrue D.tells → OnOk result (Advanced (L.files shelf.old) (standing self.old) bytes.now (standing self.new) (D.said desk.old) (D.said desk.new) (L.faults shelf.old) (L.faults shelf.new)) }
+        ensures err { IsTrue L.tells → IsTrue D.tells → OnErr result (Halted (L.files shelf.old) (standing self.old) bytes.now (D.said desk.old) (D.said desk.new) (L.faults shelf.old) (L.faults shelf.new)) }
         ensures number { self.new.number ≤ self.old.number + length bytes.now }
         ensures same { IsTrue L.tells → L.files shelf.new ≡ L.files shelf.old }
         ensures shelf_later { L.faults shelf.old ≤ L.faults shelf.new }
@@ -131,13 +145,21 @@ impl Reader {
         desk: &mut D,
         steps: &mut Steps<C>,
     ) -> Result<(), Stop>
-        ensures ok { IsTrue L.tells → IsTrue D.tells → OnOk result (Answered (L.files shelf.old) self.old.number self.old.line.items (D.said desk.old) (D.said desk.new) (L.faults shelf.old) (L.faults shelf.new)) }
-        ensures err { IsTrue L.tells → IsTrue D.tells → OnErr result (Interrupted (L.files shelf.old) self.old.number self.old.line.items (D.said desk.old) (D.said desk.new) (L.faults shelf.old) (L.faults shelf.new)) }
+        ensures ok { IsTrue L.tells → IsTrue D.tells → OnOk result (Answered (L.files shelf.old) self.old.cells self.old.number self.old.line.items self.new.cells (D.said desk.old) (D.said desk.new) (L.faults shelf.old) (L.faults shelf.new)) }
+        ensures err { IsTrue L.tells → IsTrue D.tells → OnErr result (Interrupted (L.files shelf.old) self.old.cells self.old.number self.old.line.items (D.said desk.old) (D.said desk.new) (L.faults shelf.old) (L.faults shelf.new)) }
         ensures same { IsTrue L.tells → L.files shelf.new ≡ L.files shelf.old }
         ensures shelf_later { L.faults shelf.old ≤ L.faults shelf.new }
         ensures desk_later { D.faults desk.old ≤ D.faults desk.new }
         ensures desk_failed { IsErrOf result Stop.DeskFault → Rose (D.faults desk.old) (D.faults desk.new) }
     {
-        answer(alloc, self.number, &self.line, shelf, desk, steps)
+        answer(
+            alloc,
+            self.number,
+            &self.line,
+            &mut self.cells,
+            shelf,
+            desk,
+            steps,
+        )
     }
 }

@@ -2,14 +2,18 @@
 
 ghost use Rattle.std.specs.Prelude.{◌≡◌, ◌++◌, ◌∷◌, [], OnOk};
 ghost use Rattle.std.specs.Fmt.{decimal};
-ghost use Rattle.ecdis_cli.specs.Refusal.{code_of, values_of, file_code_of, file_values_of, field_code_of, field_values_of, after_spaces};
+ghost use Rattle.ecdis_cli.specs.Refusal.{code_of, values_of, file_code, dataset_code, read_code, sequence_code, change_code, closure_code, build_code, after_spaces};
 
+use crate::values::{push_build, push_numbers, push_read, push_sequence, push_text};
+use chart_closure::ClosureFault;
 use chart_model::Octets;
 use iso8211_records::FileFault;
-use s57_fields::FieldFault;
+use s57_records::DatasetFault;
 use std::alloc::{AllocError, Global};
+use update_apply::ChangeFault;
+use update_sequence::{BuildFault, ReadFault, SequenceFault};
 
-/// Why a line is refused.
+/// Why a line is refused. Want of memory, which some of the faults name too, is no refusal.
 #[derive(Debug, Drop)]
 pub enum Refusal {
     /// The line of this number has no meaning.
@@ -20,16 +24,20 @@ pub enum Refusal {
     ShelfFault,
     /// The file has more bytes than this limit.
     FileLong(u64),
-    /// The file has this fault as a file of records. Want of memory is no refusal.
-    File(FileFault),
-    /// The file has no data record, or the first doesn't say what data set it is.
-    NoGeneral,
-    /// Its DSID field has this fault. Want of memory is no refusal.
-    Field(FieldFault),
+    /// The file is no cell file.
+    Read(ReadFault),
+    /// The file may not follow what is held of its cell.
+    Sequence(SequenceFault),
+    /// So many cells are held, and this is another.
+    CellsFull(usize),
+    /// The file builds no chart.
+    Build(BuildFault),
+    /// The live files would have so many bytes.
+    StoreFull(u64),
 }
 
-fn file_code_of(fault: FileFault) -> u8
-    ensures { result ≡ file_code_of fault }
+fn file_code(fault: FileFault) -> u8
+    ensures { result ≡ file_code fault }
 {
     match fault {
         FileFault::Leader(_) => 10,
@@ -42,68 +50,74 @@ fn file_code_of(fault: FileFault) -> u8
     }
 }
 
-fn field_code_of(fault: FieldFault) -> u8
-    ensures { result ≡ field_code_of fault }
+fn dataset_code(fault: DatasetFault) -> u8
+    ensures { result ≡ dataset_code fault }
 {
     match fault {
-        FieldFault::MissingField { .. } => 21,
-        FieldFault::Value { .. } => 22,
-        FieldFault::NoMemory => 0,
+        DatasetFault::NoGeneral => 20,
+        DatasetFault::MissingField { .. } => 21,
+        DatasetFault::Value { .. } => 22,
+        DatasetFault::Profile(_) => 23,
+        DatasetFault::NoMemory => 0,
     }
 }
 
-/// Adds a space and a number in digits.
-fn push_number(alloc: Global, bytes: &mut Vec<u8>, number: u64) -> Result<(), AllocError>
-    ensures { OnOk result (bytes.new.items ≡ bytes.old.items ++ after_spaces (decimal number ∷ [])) }
-{
-    let text = format!(in alloc; " {number}")?;
-    bytes.extend_from_slice(text.as_bytes())
-}
-
-/// Adds a space and a text.
-fn push_text(bytes: &mut Vec<u8>, text: &[u8]) -> Result<(), AllocError>
-    ensures { OnOk result (bytes.new.items ≡ bytes.old.items ++ after_spaces (text.now ∷ [])) }
-{
-    bytes.push(b' ')?;
-    bytes.extend_from_slice(text)
-}
-
-/// Adds the values of a file's fault.
-fn push_file_values(alloc: Global, bytes: &mut Vec<u8>, fault: FileFault) -> Result<(), AllocError>
-    ensures { OnOk result (bytes.new.items ≡ bytes.old.items ++ after_spaces (file_values_of fault)) }
+fn read_code(fault: ReadFault) -> u8
+    ensures { result ≡ read_code fault }
 {
     match fault {
-        FileFault::Leader(at)
-        | FileFault::Directory(at)
-        | FileFault::Span(at)
-        | FileFault::Terminator(at) => push_number(alloc, bytes, at as u64),
-        FileFault::Descriptor(tag) => push_text(bytes, &tag),
-        FileFault::Subfield(record, tag) => {
-            push_number(alloc, bytes, record as u64)?;
-            push_text(bytes, &tag)
-        }
-        FileFault::NoMemory => Ok(()),
+        ReadFault::File(fault) => file_code(fault),
+        ReadFault::Dataset(fault) => dataset_code(fault),
+        ReadFault::NoMemory => 0,
     }
 }
 
-/// Adds the values of a field's fault.
-fn push_field_values(
-    alloc: Global,
-    bytes: &mut Vec<u8>,
-    fault: FieldFault,
-) -> Result<(), AllocError>
-    ensures { OnOk result (bytes.new.items ≡ bytes.old.items ++ after_spaces (field_values_of fault)) }
+fn sequence_code(fault: SequenceFault) -> u8
+    ensures { result ≡ sequence_code fault }
 {
     match fault {
-        FieldFault::MissingField { record, tag } => {
-            push_number(alloc, bytes, record as u64)?;
-            push_text(bytes, &tag)
-        }
-        FieldFault::Value { record, label } => {
-            push_number(alloc, bytes, record as u64)?;
-            push_text(bytes, &label)
-        }
-        FieldFault::NoMemory => Ok(()),
+        SequenceFault::NoBase(_) => 30,
+        SequenceFault::StaleBase { .. } => 31,
+        SequenceFault::Edition { .. } => 32,
+        SequenceFault::Gap { .. } => 33,
+        SequenceFault::Cancelled(_) => 34,
+    }
+}
+
+fn change_code(fault: ChangeFault) -> u8
+    ensures { result ≡ change_code fault }
+{
+    match fault {
+        ChangeFault::Present { .. } => 40,
+        ChangeFault::Absent { .. } => 41,
+        ChangeFault::Version { .. } => 42,
+        ChangeFault::Foid { .. } => 43,
+        ChangeFault::Index { .. } => 44,
+        ChangeFault::Count { .. } => 45,
+        ChangeFault::NoControl { .. } => 46,
+        ChangeFault::Mixed { .. } => 47,
+        ChangeFault::NoMemory => 0,
+    }
+}
+
+fn closure_code(fault: ClosureFault) -> u8
+    ensures { result ≡ closure_code fault }
+{
+    match fault {
+        ClosureFault::Dangling(_, _) => 50,
+        ClosureFault::EdgeNodes(_) => 51,
+        ClosureFault::RingOpen(_) => 52,
+        ClosureFault::WrongPointer(_) => 53,
+    }
+}
+
+fn build_code(fault: BuildFault) -> u8
+    ensures { result ≡ build_code fault }
+{
+    match fault {
+        BuildFault::Change(fault) => change_code(fault),
+        BuildFault::Closure(fault) => closure_code(fault),
+        BuildFault::NoMemory => 0,
     }
 }
 
@@ -117,9 +131,11 @@ impl Refusal {
             Refusal::NoFile(_) => 71,
             Refusal::ShelfFault => 72,
             Refusal::FileLong(_) => 60,
-            Refusal::File(fault) => file_code_of(*fault),
-            Refusal::NoGeneral => 20,
-            Refusal::Field(fault) => field_code_of(*fault),
+            Refusal::Read(fault) => read_code(*fault),
+            Refusal::Sequence(fault) => sequence_code(*fault),
+            Refusal::CellsFull(_) => 61,
+            Refusal::Build(fault) => build_code(*fault),
+            Refusal::StoreFull(_) => 62,
         }
     }
 
@@ -128,12 +144,15 @@ impl Refusal {
         ensures { OnOk result (bytes.new.items ≡ bytes.old.items ++ after_spaces (values_of self.now)) }
     {
         match self {
-            Refusal::BadLine(number) => push_number(alloc, bytes, *number),
+            Refusal::BadLine(number) => push_numbers(alloc, bytes, &[*number]),
             Refusal::NoFile(name) => push_text(bytes, name.as_slice()),
-            Refusal::FileLong(limit) => push_number(alloc, bytes, *limit),
-            Refusal::File(fault) => push_file_values(alloc, bytes, *fault),
-            Refusal::Field(fault) => push_field_values(alloc, bytes, *fault),
-            Refusal::ShelfFault | Refusal::NoGeneral => Ok(()),
+            Refusal::ShelfFault => Ok(()),
+            Refusal::FileLong(limit) => push_numbers(alloc, bytes, &[*limit]),
+            Refusal::Read(fault) => push_read(alloc, bytes, *fault),
+            Refusal::Sequence(fault) => push_sequence(alloc, bytes, *fault),
+            Refusal::CellsFull(cells) => push_numbers(alloc, bytes, &[*cells as u64]),
+            Refusal::Build(fault) => push_build(alloc, bytes, *fault),
+            Refusal::StoreFull(sum) => push_numbers(alloc, bytes, &[*sum]),
         }
     }
 }

@@ -2,13 +2,14 @@
 use Rattle.std.proofs.Common.{◌≡◌, ◌+◌, ◌-◌, ◌≤◌, length}
 use Rattle.std.specs.Prelude.{IsTrue}
 use Rattle.chart_ports.specs.Count.{RoseBy}
+use Rattle.ecdis_cli.specs.Standing.{standing}
 use Rattle.ecdis_cli.proofs.Runs.{Underway}
 use Rattle.ecdis_cli.proofs.script.run_script.Given as goal
 
 abbrev pub invariant-loop-round : goal.invariant-loop-round
 invariant-loop-round g l = record {
   underway : IsTrue g.S.Source.tells → IsTrue g.L.Shelf.tells → IsTrue g.D.Desk.tells → Underway (g.L.Shelf.files l.initial.shelf) (g.S.Source.left l.initial.script) (g.S.Source.left l.script)
-      l.reader.number l.reader.line.items (g.D.Desk.said l.initial.desk) (g.D.Desk.said l.desk) (g.L.Shelf.faults l.initial.shelf) (g.L.Shelf.faults l.shelf);
+      (standing l.reader) (g.D.Desk.said l.initial.desk) (g.D.Desk.said l.desk) (g.L.Shelf.faults l.initial.shelf) (g.L.Shelf.faults l.shelf);
   counted : IsTrue g.S.Source.tells → length (g.S.Source.left l.initial.script) + l.room ≡ 16777216 + length (g.S.Source.left l.script);
   number : l.reader.number + l.room ≤ 16777217;
   rounds : l._round + l.room ≤ 16777216;

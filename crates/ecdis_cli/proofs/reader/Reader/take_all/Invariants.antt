@@ -2,13 +2,14 @@
 use Rattle.std.proofs.Common.{◌≡◌, ◌+◌, ◌≤◌, take}
 use Rattle.std.specs.Prelude.{IsTrue}
 use Rattle.ecdis_cli.specs.Progress.{Advanced}
+use Rattle.ecdis_cli.specs.Standing.{standing}
 use Rattle.ecdis_cli.proofs.reader.Reader.take_all.Given as goal
 
 abbrev pub invariant-loop-byte : goal.invariant-loop-byte
 invariant-loop-byte g l = record {
   number : l.self.number ≤ l.initial.self.number + l.byte-index;
-  advanced : IsTrue g.L.Shelf.tells → IsTrue g.D.Desk.tells → Advanced (g.L.Shelf.files l.initial.shelf) l.initial.self.number l.initial.self.line.items (take l.byte-index l.bytes)
-      l.self.number l.self.line.items (g.D.Desk.said l.initial.desk) (g.D.Desk.said l.desk) (g.L.Shelf.faults l.initial.shelf) (g.L.Shelf.faults l.shelf);
+  advanced : IsTrue g.L.Shelf.tells → IsTrue g.D.Desk.tells → Advanced (g.L.Shelf.files l.initial.shelf) (standing l.initial.self) (take l.byte-index l.bytes)
+      (standing l.self) (g.D.Desk.said l.initial.desk) (g.D.Desk.said l.desk) (g.L.Shelf.faults l.initial.shelf) (g.L.Shelf.faults l.shelf);
   same : IsTrue g.L.Shelf.tells → g.L.Shelf.files l.shelf ≡ g.L.Shelf.files l.initial.shelf;
   shelf_later : g.L.Shelf.faults l.initial.shelf ≤ g.L.Shelf.faults l.shelf;
   desk_later : g.D.Desk.faults l.initial.desk ≤ g.D.Desk.faults l.desk;

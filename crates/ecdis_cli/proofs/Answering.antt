@@ -1,0 +1,125 @@
+-- What a command answers, step by step.
+use Rattle.std.proofs.Common.{◌≡◌, ℕ, ◌≤◌, Bool, true, false, cond, List, length, leb, Option, Some, None, Result, Ok, Err, refl, sym, ◌∙◌, ap, subst}
+use Rattle.std.specs.Prelude.{IsErrOf, IsTrue}
+use Rattle.chart_ports.specs.Count.{Rose}
+use Rattle.chart_ports.specs.Fetched.{fetched_of}
+use Rattle.chart_ports.specs.declared.shelf.Fetched.TheVariants.{Bytes, Long}
+use Rattle.chart_ports.specs.declared.shelf.ShelfError.{ShelfError}
+use Rattle.chart_ports.specs.declared.shelf.ShelfError.TheVariants as of_shelf
+use Rattle.chart_model.specs.State.{StateValue}
+use Rattle.update_sequence.specs.Answers.{GivesRead, GivesBuilt}
+use Rattle.update_sequence.specs.declared.fault.ReadFault.{ReadFault}
+use Rattle.update_sequence.specs.declared.fault.ReadFault.TheVariants as of_read
+use Rattle.update_sequence.specs.declared.fault.BuildFault.{BuildFault}
+use Rattle.update_sequence.specs.declared.fault.BuildFault.TheVariants as of_build
+use Rattle.ecdis_cli.specs.declared.fault.CommandFault.{CommandFault}
+use Rattle.ecdis_cli.specs.declared.fault.CommandFault.TheVariants.{Refused, NoMemory}
+use Rattle.ecdis_cli.specs.declared.general.General.{General}
+use Rattle.ecdis_cli.specs.declared.line.Event.{Event}
+use Rattle.ecdis_cli.specs.declared.refusal.Refusal.{Refusal}
+use Rattle.ecdis_cli.specs.declared.refusal.Refusal.TheVariants.{FileLong, Read, Build}
+use Rattle.ecdis_cli.specs.declared.reply.Reply.{Reply}
+use Rattle.ecdis_cli.specs.declared.reply.Reply.TheVariants as replies
+use Rattle.ecdis_cli.specs.Commands.{◌>>=◌, or_refused, Gives, fault_of_shelf, fault_of_read, fault_of_build}
+use Rattle.ecdis_cli.specs.Marked.{Marked}
+use Rattle.ecdis_cli.specs.General.{general_in}
+use Rattle.ecdis_cli.specs.Line.{is_silent}
+use Rattle.ecdis_cli.specs.Event.{event_on}
+use Rattle.ecdis_cli.specs.Fetch.{Files, FILE_LIMIT, file_in, file_or_none, fetched}
+use Rattle.ecdis_cli.specs.Info.{info_of}
+use Rattle.ecdis_cli.specs.Load.{Loaded, loaded, load_of}
+use Rattle.ecdis_cli.specs.Turn.{Turn, refused, informed, load_reply, taken_over, turn_of, turn_on, turn_to, silent, GivesTurn}
+
+-- ---- marks
+
+pub Marked-map : (a b : ℕ) (P Q : Bool → Type 0) → ((mark : Bool) → P mark → Q mark) → Marked a b P → Marked a b Q
+Marked-map a b P Q f x = record { mark = x.mark; is_so = f x.mark x.is_so; cause = x.cause }
+
+-- no fetch failed
+pub Marked-served : (a b : ℕ) (P : Bool → Type 0) → P false → Marked a b P
+Marked-served a b P h = record { mark = false; is_so = h; cause = λ t. absurd t }
+
+-- ---- steps
+
+-- a fault ends the command
+pub Gives-stop : {A B : Type 0} (fault : CommandFault) (r : Result A Refusal) (next : A → Result B Refusal) → Gives (Err fault) r → Gives (Err fault) (r >>= next)
+Gives-stop (Refused refusal) r next h = ap (λ s. s >>= next) h
+Gives-stop NoMemory r next h = tt
+
+-- a value goes on to the next step
+pub Gives-next : {A B : Type 0} (answer : Result B CommandFault) (r : Result A Refusal) (x : A) (next : A → Result B Refusal) → Gives (Ok x) r → Gives answer (next x) → Gives answer (r >>= next)
+Gives-next answer r x next h = subst (λ s. Gives answer (s >>= next)) (sym h)
+
+pub Gives-read : {A : Type 0} (fault : ReadFault) (wanted : Result A ReadFault) → GivesRead (Err fault) wanted → Gives (Err (fault_of_read fault)) (or_refused Read wanted)
+Gives-read (of_read.File fault) wanted h = ap (or_refused Read) h
+Gives-read (of_read.Dataset fault) wanted h = ap (or_refused Read) h
+Gives-read of_read.NoMemory wanted h = tt
+
+pub Gives-build : {A : Type 0} (fault : BuildFault) (wanted : Result A BuildFault) → GivesBuilt (Err fault) wanted → Gives (Err (fault_of_build fault)) (or_refused Build wanted)
+Gives-build (of_build.Change fault) wanted h = ap (or_refused Build) h
+Gives-build (of_build.Closure fault) wanted h = ap (or_refused Build) h
+Gives-build of_build.NoMemory wanted h = tt
+
+-- ---- fetches
+
+-- what the shelf has is what it answers
+file_or_none-fetched : (name : List ℕ) (file : Option (List ℕ)) → file_or_none name file ≡ file_in name (fetched_of FILE_LIMIT file)
+file_or_none-fetched name None = refl
+file_or_none-fetched name (Some bytes) =
+    elim (leb (length bytes) FILE_LIMIT) as (λ b. cond b (Ok bytes) (Err (FileLong FILE_LIMIT)) ≡ file_in name (cond b (Bytes bytes) Long)) [ true ↦ refl | false ↦ refl ]
+
+pub fetched-found : (files : Files) (name : List ℕ) (a b : ℕ) (answer : Result (List ℕ) CommandFault) → Gives answer (file_in name (fetched_of FILE_LIMIT (files name)))
+    → Marked a b (λ failed. Gives answer (fetched files failed name))
+unfolding fetched
+fetched-found files name a b answer h =
+    Marked-served a b (λ failed. Gives answer (fetched files failed name)) (subst (Gives answer) (sym (file_or_none-fetched name (files name))) h)
+
+-- a fetch that gives nothing
+pub fetched-failed : (files : Files) (name : List ℕ) (a b : ℕ) (fault : ShelfError) → (IsErrOf {T = Unit {0}} (Err fault) of_shelf.Failed → Rose a b)
+    → Marked a b (λ failed. Gives {A = List ℕ} (Err (fault_of_shelf fault)) (fetched files failed name))
+unfolding fetched
+fetched-failed files name a b of_shelf.Failed cause = record { mark = true; is_so = refl; cause = λ _. cause refl }
+fetched-failed files name a b of_shelf.NoMemory cause = record { mark = false; is_so = tt; cause = λ t. absurd t }
+
+-- ---- info
+
+pub info_of-stop : (fault : CommandFault) (file : Result (List ℕ) Refusal) → Gives (Err fault) file → Gives {A = General} (Err fault) (info_of file)
+unfolding info_of
+info_of-stop fault file h = Gives-stop fault file _ h
+
+pub info_of-next : (answer : Result General CommandFault) (file : Result (List ℕ) Refusal) (bytes : List ℕ) → Gives (Ok bytes) file → Gives answer (or_refused Read (general_in bytes)) → Gives answer (info_of file)
+unfolding info_of
+info_of-next answer file bytes h x = Gives-next answer file bytes _ h x
+
+-- ---- load
+
+pub load_of-stop : (state : StateValue) (fault : CommandFault) (file : Result (List ℕ) Refusal) → Gives (Err fault) file → Gives {A = Loaded} (Err fault) (load_of state file)
+unfolding load_of
+load_of-stop state fault file h = Gives-stop fault file _ h
+
+pub load_of-next : (state : StateValue) (answer : Result Loaded CommandFault) (file : Result (List ℕ) Refusal) (bytes : List ℕ) → Gives (Ok bytes) file → Gives answer (loaded state bytes) → Gives answer (load_of state file)
+unfolding load_of
+load_of-next state answer file bytes h x = Gives-next answer file bytes _ h x
+
+-- ---- turns
+
+pub informed-stop : (state : StateValue) (fault : CommandFault) (r : Result General Refusal) → Gives (Err fault) r → GivesTurn (Err fault) state (informed state r)
+informed-stop state (Refused refusal) r h = ap (informed state) h
+informed-stop state NoMemory r h = tt
+
+pub informed-done : (state : StateValue) (general : General) (r : Result General Refusal) → Gives (Ok general) r → GivesTurn (Ok (replies.Info general)) state (informed state r)
+informed-done state general r h = ap (informed state) h
+
+pub taken_over-stop : (state state' : StateValue) (fault : CommandFault) (r : Result Loaded Refusal) → state' ≡ state → Gives (Err fault) r → GivesTurn (Err fault) state' (taken_over state r)
+taken_over-stop state state' (Refused refusal) r same h = ap (taken_over state) h ∙ ap (λ s. refused s refusal) (sym same)
+taken_over-stop state state' NoMemory r same h = tt
+
+pub taken_over-done : (state : StateValue) (done : Loaded) (r : Result Loaded Refusal) → Gives (Ok done) r → GivesTurn (Ok (load_reply done.key done.held)) done.state (taken_over state r)
+taken_over-done state done r h = ap (taken_over state) h
+
+pub turn_to-event : (files : Files) (state : StateValue) (number : ℕ) (line : List ℕ) (failed : Bool) (event : Event) → is_silent line ≡ false → event_on line ≡ Some event
+    → turn_to files state number line failed ≡ turn_of files state failed event
+unfolding turn_to
+turn_to-event files state number line failed event spoken is =
+    ap (λ (b : Bool). cond b (silent state) (turn_on files state number failed (event_on line))) spoken
+    ∙ ap (turn_on files state number failed) is

@@ -1,0 +1,141 @@
+//! The command `load`.
+
+ghost use Rattle.std.specs.Prelude.{◌≡◌, ◌≤◌, IsTrue, IfOk, OnErr, Ok, Err, Option, length};
+ghost use Rattle.std.specs.Option.{option_copied};
+ghost use Rattle.std.specs.FinMap as map;
+ghost use Rattle.chart_model.specs.State.{IsHolding, IsFileLength};
+ghost use Rattle.ecdis_cli.specs.Load.{held_of, chart_of, held_after, chart_after, IsJudged, taken, loaded, load_of, GivesLoaded};
+ghost use Rattle.ecdis_cli.specs.Marked.{Marked};
+ghost use Rattle.ecdis_cli.specs.Commands.{Gives};
+ghost use Rattle.ecdis_cli.specs.Fetch.{fetched};
+
+use crate::fault::CommandFault;
+use crate::fetch::{FILE_LIMIT, fetch};
+use crate::live::LiveCells;
+use crate::refusal::Refusal;
+use crate::word::Word;
+use chart_model::{Cell, Dataset, Header, Held, Holding, Key, Octets};
+use chart_ports::{Shelf, Steps};
+use std::alloc::Global;
+use std::sync::ledger::Ledger;
+use update_sequence::{Effect, build, judge, read_data_set};
+
+/// The cell of a file that was taken over, and the numbers that are held of it now.
+#[derive(Clone, Copy, Debug)]
+pub struct Accepted {
+    pub key: Key,
+    pub held: Held,
+}
+
+/// What is held of a cell: its numbers.
+fn held_of(before: Option<&Holding>) -> Option<&Held>
+    ensures { option_copied result ≡ held_of (option_copied before.entry) }
+{
+    match before {
+        Some(here) => Some(&here.held),
+        None => None,
+    }
+}
+
+/// What is held of a cell: its chart, unless it is cancelled.
+fn chart_of(before: Option<&Holding>) -> Option<&Cell>
+    ensures { option_copied result ≡ chart_of (option_copied before.entry) }
+{
+    match before {
+        Some(here) => here.chart.as_ref(),
+        None => None,
+    }
+}
+
+/// The numbers that are held of a cell after a file.
+fn held_after(before: Option<&Holding>, effect: Effect, header: &Header) -> Held
+    ensures { result ≡ held_after (option_copied before.entry) effect header.now }
+{
+    let own = Held {
+        edition: header.edition,
+        update: header.update,
+        cancelled: false,
+    };
+    if effect != Effect::Cancel {
+        return own;
+    }
+    let held = held_of(before).copied().unwrap_or(own);
+    Held {
+        cancelled: true,
+        ..held
+    }
+}
+
+/// The chart of a cell after a file.
+fn chart_after(
+    alloc: Global,
+    chart: Option<&Cell>,
+    effect: Effect,
+    dataset: &Dataset,
+) -> Result<Option<Cell>, CommandFault>
+    requires { IsJudged (option_copied chart) effect dataset.now }
+    ensures { Gives result (chart_after (option_copied chart.entry) effect dataset.now) }
+{
+    match effect {
+        Effect::Replace => Ok(Some(build(alloc, None, dataset)?)),
+        Effect::Extend => Ok(Some(build(alloc, chart, dataset)?)),
+        Effect::Cancel => Ok(None),
+    }
+}
+
+/// Takes over a data set and its file.
+fn take(
+    alloc: Global,
+    dataset: &Dataset,
+    file: Octets,
+    live: &mut LiveCells,
+) -> Result<Accepted, CommandFault>
+    requires { IsFileLength (length file) }
+    ensures taken { GivesLoaded result live.new (taken live.old dataset.now file (map.get live.old.cells dataset.now.header.key)) }
+    ensures err { OnErr result (live.new ≡ live.old) }
+{
+    let key = dataset.header.key;
+    let before = live.cells().get(key);
+    let effect = judge(held_of(before), dataset)?;
+    live.check_room(key)?;
+    let chart = chart_after(alloc, chart_of(before), effect, dataset)?;
+    let held = held_after(before, effect, &dataset.header);
+    live.put(alloc, key, effect, held, chart, file)?;
+    Ok(Accepted { key, held })
+}
+
+/// Takes over a cell file: a base file replaces what is held of its cell, an update extends it, and an
+/// update of edition 0 cancels it.
+#[tactic(auto, unfolding(crate::specs::Load::loaded))]
+fn take_over<C: Ledger>(
+    alloc: Global,
+    file: Octets,
+    live: &mut LiveCells,
+    steps: &mut Steps<C>,
+) -> Result<Accepted, CommandFault>
+    ensures loaded { GivesLoaded result live.new (loaded live.old file) }
+    ensures err { OnErr result (live.new ≡ live.old) }
+{
+    if file.as_slice().len() as u64 > FILE_LIMIT {
+        return Err(CommandFault::Refused(Refusal::FileLong(FILE_LIMIT)));
+    }
+    let dataset = read_data_set(alloc, file.as_slice(), steps)?;
+    take(alloc, &dataset, file, live)
+}
+
+/// Takes over the cell file of this name.
+pub fn load<L: Shelf, C: Ledger>(
+    alloc: Global,
+    name: &Word,
+    live: &mut LiveCells,
+    shelf: &mut L,
+    steps: &mut Steps<C>,
+) -> Result<Accepted, CommandFault>
+    ensures loaded { IsTrue L.tells → Marked (L.faults shelf.old) (L.faults shelf.new) (λ failed. GivesLoaded result live.new (load_of live.old (fetched (L.files shelf.old) failed name.now))) }
+    ensures err { OnErr result (live.new ≡ live.old) }
+    ensures same { IsTrue L.tells → L.files shelf.new ≡ L.files shelf.old }
+    ensures later { L.faults shelf.old ≤ L.faults shelf.new }
+{
+    let file = fetch(alloc, name, shelf)?;
+    take_over(alloc, file, live, steps)
+}
