@@ -1,0 +1,5 @@
+pub mod Reading
+pub mod Judged
+pub mod Built
+pub mod Rebuilt
+pub mod Answers

@@ -1,0 +1,49 @@
+//! Why a file is not taken.
+
+use chart_closure::ClosureFault;
+use chart_model::Key;
+use iso8211_records::FileFault;
+use s57_records::DatasetFault;
+use update_apply::ChangeFault;
+
+/// Why a file may not follow what is held of its cell (S-57 Appendix B.1, 5.7 and 8.3.1).
+#[derive(Clone, Copy, Debug)]
+pub enum SequenceFault {
+    /// An update of a cell that isn't held.
+    NoBase(Key),
+    /// A base file whose edition and update come before the held ones.
+    StaleBase {
+        held_edition: u32,
+        held_update: u32,
+        edition: u32,
+        update: u32,
+    },
+    /// An update of another edition than the held one.
+    Edition { held: u32, given: u32 },
+    /// An update whose number isn't the held one plus 1.
+    Gap { wanted: u32, given: u32 },
+    /// An update of a cell that is cancelled.
+    Cancelled(Key),
+}
+
+/// Why a data set builds no chart.
+#[derive(Clone, Copy, Debug)]
+pub enum BuildFault {
+    /// The first change that can't be made.
+    Change(ChangeFault),
+    /// The chart that the changes leave isn't closed.
+    Closure(ClosureFault),
+    /// There was no memory for the chart.
+    NoMemory,
+}
+
+/// Why bytes are no cell file.
+#[derive(Clone, Copy, Debug, PartialEq, Eq)]
+pub enum ReadFault {
+    /// They are no file of records (ISO/IEC 8211).
+    File(FileFault),
+    /// Its records are no data set (S-57).
+    Dataset(DatasetFault),
+    /// There was no memory for the data set.
+    NoMemory,
+}
