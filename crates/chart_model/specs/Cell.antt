@@ -28,6 +28,10 @@ cell_code =
     (λ fields. record { header = fields.0; vectors = fields.1.0; features = fields.1.1 })
     (λ _. refl)
 
+-- a cell without a record
+abbrev pub empty_cell : Header → CellValue
+empty_cell header = record { header = header; vectors = map.empty; features = map.empty }
+
 -- edition and update of a chart: no chart has the edition 0, which cancels
 pub record IsChartHeader (header : Header) : Type 0 where
   pub edition : IsInRange 1 999999999 header.edition

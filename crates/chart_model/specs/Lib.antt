@@ -1,4 +1,5 @@
 pub mod Key
+pub mod Keys
 pub mod Names
 pub mod Attrs
 pub mod Record

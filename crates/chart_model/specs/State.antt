@@ -2,21 +2,20 @@
 use Rattle.std.specs.Prelude.{◌≡◌, ◌≤◌, ◌↔◌, ℕ, List, length, All, None, IfSome, true, refl}
 use Rattle.std.specs.Coded.{Coded, code_by, coded_list, coded_ℕ}
 use Rattle.std.specs.Int.{IsInRange}
-use Rattle.std.specs.Ordering.{nat_cmp}
-use Rattle.std.specs.Cmp.Lexicographic.{slice_cmp}
 use Rattle.std.specs.FinMap as map
 use Rattle.chart_model.specs.declared.state.Held.{Held}
 use Rattle.chart_model.specs.declared.state.Holding.{Holding}
 use Rattle.chart_model.specs.contracts.state.Holding as holding
+use Rattle.chart_model.specs.Keys.{key_cmp}
 use Rattle.chart_model.specs.Cell.{CellValue, IsCell}
 
 pub record StateValue : Type 0 where
-  pub cells : map.FinMap (slice_cmp nat_cmp) Holding
+  pub cells : map.FinMap key_cmp Holding
 
 -- a state is stored as its one field
 abbrev pub state_code : Coded StateValue
 state_code =
-    code_by (map.FinMap (slice_cmp nat_cmp) Holding) (map.code (coded_list coded_ℕ) holding.the_row.coded)
+    code_by (map.FinMap key_cmp Holding) (map.code (coded_list coded_ℕ) holding.the_row.coded)
     (λ state. state.cells) (λ cells. record { cells = cells }) (λ _. refl)
 
 -- the edition and the update that are held: those of a chart

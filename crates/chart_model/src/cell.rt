@@ -1,10 +1,14 @@
 //! Cells and their records (S-57 Part 3, section 3).
 
+ghost use Rattle.std.specs.Prelude.{◌≡◌};
+ghost use Rattle.chart_model.specs.Cell.{IsChartHeader, empty_cell};
+
 use crate::attr_map::AttrMap;
 use crate::dataset::Header;
 use crate::name::Foid;
 use crate::name_map::NameMap;
 use crate::record::{Coords, Pointers, RelatedList};
+use std::alloc::Global;
 use std::marker::Model;
 
 /// A vector record: an isolated node, a connected node or an edge.
@@ -61,4 +65,18 @@ impl Model for Cell {
     ghost view = { λ cell. record { header = cell.header; vectors = cell.vectors; features = cell.features } };
 
     ghost invariant = { λ cell. IsCell (record { header = cell.header; vectors = cell.vectors; features = cell.features }) };
+}
+
+impl Cell {
+    /// A cell without a record. It takes no memory.
+    pub fn new(alloc: Global, header: Header) -> Cell
+        requires { IsChartHeader header }
+        ensures { result ≡ empty_cell header }
+    {
+        Cell {
+            header,
+            vectors: NameMap::new(alloc),
+            features: NameMap::new(alloc),
+        }
+    }
 }

@@ -3,9 +3,10 @@
 ghost use Rattle.std.specs.Prelude.{◌≡◌, ◌≤◌, ◌↔◌, length, IsTrue, All};
 ghost use Rattle.std.specs.Option.{SomeIff};
 ghost use Rattle.std.specs.Prelude.{nat_eq, refl};
-ghost use Rattle.std.specs.Ordering.{as_partial_cmp, nat_cmp};
+ghost use Rattle.std.specs.Ordering.{as_partial_cmp};
 ghost use Rattle.std.specs.Cmp.{partial_equiv_from_equiv};
-ghost use Rattle.std.specs.Cmp.Lexicographic.{nat_list_cmp_total, nat_list_eq_equiv, pointwise, slice_cmp, texts_po, texts_ties};
+ghost use Rattle.std.specs.Cmp.Lexicographic.{nat_list_cmp_total, nat_list_eq_equiv, pointwise, texts_po, texts_ties};
+ghost use Rattle.chart_model.specs.Keys.{key_cmp};
 ghost use Rattle.chart_model.specs.Key.{IsKey, IsVisible, stored};
 
 use std::cmp::Ordering;
@@ -102,7 +103,7 @@ impl Eq for Key {
 }
 
 impl PartialOrd for Key {
-    ghost partial_cmp = { as_partial_cmp (slice_cmp nat_cmp) };
+    ghost partial_cmp = { as_partial_cmp key_cmp };
 
     ghost laws = { texts_po };
 
@@ -113,7 +114,7 @@ impl PartialOrd for Key {
 
 /// By bytes: a key stands before those that it begins.
 impl Ord for Key {
-    ghost cmp = { slice_cmp nat_cmp };
+    ghost cmp = { key_cmp };
 
     ghost total = { nat_list_cmp_total };
 

@@ -22,10 +22,9 @@ impl<V> Model for KeyMap<V> {
     ghost use Rattle.std.specs.FinMap as map;
     ghost use Rattle.std.specs.Prelude.{List, ℕ};
     ghost use Rattle.std.specs.Coded.{coded_list, coded_ℕ};
-    ghost use Rattle.std.specs.Ordering.{nat_cmp};
-    ghost use Rattle.std.specs.Cmp.Lexicographic.{slice_cmp};
+    ghost use Rattle.chart_model.specs.Keys.{key_cmp};
 
-    ghost Value = { map.FinMap (slice_cmp nat_cmp) V };
+    ghost Value = { map.FinMap key_cmp V };
 
     ghost coded = { map.code (coded_list coded_ℕ) V.code };
 
