@@ -1,5 +1,3 @@
+pub mod Answers
 pub mod Reading
 pub mod Judged
-pub mod Built
-pub mod Rebuilt
-pub mod Answers

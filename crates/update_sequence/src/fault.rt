@@ -1,10 +1,47 @@
 //! Why a file is not taken.
 
-use chart_closure::ClosureFault;
 use chart_model::Key;
 use iso8211_records::FileFault;
 use s57_records::DatasetFault;
-use update_apply::ChangeFault;
+
+/// Why bytes are no cell file.
+#[derive(Clone, Copy, Debug, PartialEq, Eq)]
+pub enum ReadFault {
+    /// They are no file of records (ISO/IEC 8211).
+    File(FileFault),
+    /// Its records are no data set (S-57).
+    Dataset(DatasetFault),
+    /// There was no memory for the data set.
+    NoMemory,
+}
+
+impl From<FileFault> for ReadFault {
+    ghost use Rattle.std.specs.Prelude.{◌≡◌};
+    ghost use Rattle.update_sequence.specs.Reading.{fault_of_file};
+
+    ghost from_gives = { λ fault e. e ≡ fault_of_file fault };
+
+    fn from(fault: FileFault) -> ReadFault {
+        match fault {
+            FileFault::NoMemory => ReadFault::NoMemory,
+            _ => ReadFault::File(fault),
+        }
+    }
+}
+
+impl From<DatasetFault> for ReadFault {
+    ghost use Rattle.std.specs.Prelude.{◌≡◌};
+    ghost use Rattle.update_sequence.specs.Reading.{fault_of_records};
+
+    ghost from_gives = { λ fault e. e ≡ fault_of_records fault };
+
+    fn from(fault: DatasetFault) -> ReadFault {
+        match fault {
+            DatasetFault::NoMemory => ReadFault::NoMemory,
+            _ => ReadFault::Dataset(fault),
+        }
+    }
+}
 
 /// Why a file may not follow what is held of its cell (S-57 Appendix B.1, 5.7 and 8.3.1).
 #[derive(Clone, Copy, Debug)]
@@ -19,31 +56,15 @@ pub enum SequenceFault {
         update: u32,
     },
     /// An update of another edition than the held one.
-    Edition { held: u32, given: u32 },
+    Edition {
+        held: u32,
+        given: u32,
+    },
     /// An update whose number isn't the held one plus 1.
-    Gap { wanted: u32, given: u32 },
+    Gap {
+        wanted: u64,
+        given: u32,
+    },
     /// An update of a cell that is cancelled.
     Cancelled(Key),
-}
-
-/// Why a data set builds no chart.
-#[derive(Clone, Copy, Debug)]
-pub enum BuildFault {
-    /// The first change that can't be made.
-    Change(ChangeFault),
-    /// The chart that the changes leave isn't closed.
-    Closure(ClosureFault),
-    /// There was no memory for the chart.
-    NoMemory,
-}
-
-/// Why bytes are no cell file.
-#[derive(Clone, Copy, Debug, PartialEq, Eq)]
-pub enum ReadFault {
-    /// They are no file of records (ISO/IEC 8211).
-    File(FileFault),
-    /// Its records are no data set (S-57).
-    Dataset(DatasetFault),
-    /// There was no memory for the data set.
-    NoMemory,
 }

@@ -5,16 +5,10 @@
 //! after the other, and it is taken only where it is closed.
 #![tactic(auto)]
 
-mod build;
+mod effect;
 mod fault;
-mod judge;
 mod read;
-mod rebuild;
-#[cfg(test)]
-mod tests;
 
-pub use build::build;
-pub use fault::{BuildFault, ReadFault, SequenceFault};
-pub use judge::{Effect, judge};
+pub use effect::{Effect, judge};
+pub use fault::{ReadFault, SequenceFault};
 pub use read::read_data_set;
-pub use rebuild::rebuild;

@@ -3,22 +3,22 @@
 ghost use Rattle.std.specs.Prelude.{◌≡◌, ◌≢◌, ◌+◌, ◌≤◌};
 ghost use Rattle.iso8211_records.specs.RecordFile.{data_records_in};
 ghost use Rattle.update_sequence.specs.Answers.{GivesRead};
-ghost use Rattle.update_sequence.specs.Reading.{READ_TAGS, data_set_in};
+ghost use Rattle.update_sequence.specs.Reading.{tags_read, data_set_in};
 
 use crate::fault::ReadFault;
 use chart_model::Dataset;
 use chart_ports::Steps;
-use iso8211_records::{FileFault, read_file};
+use iso8211_records::read_file;
 use s57_fields::tags::{
     ATTF, ATTV, DSID, DSPM, DSSI, FFPC, FFPT, FOID, FRID, FSPC, FSPT, SG2D, SG3D, SGCC, VRID, VRPC,
     VRPT,
 };
-use s57_records::{DatasetFault, read_dataset};
+use s57_records::read_dataset;
 use std::alloc::Global;
 use std::sync::ledger::Ledger;
 
-/// The fields that are read.
-const READ_TAGS: [[u8; 4]; 17] = [
+/// The tags of the fields that are read.
+const TAGS: [[u8; 4]; 17] = [
     DSID, DSSI, DSPM, VRID, ATTV, VRPC, VRPT, SGCC, SG2D, SG3D, FRID, FOID, ATTF, FFPC, FFPT, FSPC,
     FSPT,
 ];
@@ -35,17 +35,9 @@ pub fn read_data_set<C: Ledger>(
     steps: &mut Steps<C>,
 ) -> Result<Dataset, ReadFault>
     ensures exact { GivesRead result (data_set_in bytes.now) }
-    ensures come_to { result ≢ Err ReadFault.NoMemory → steps.new ≡ steps.old + data_records_in READ_TAGS bytes.now }
-    ensures at_most { steps.new ≤ steps.old + data_records_in READ_TAGS bytes.now }
+    ensures come_to { result ≢ Err ReadFault.NoMemory → steps.new ≡ steps.old + data_records_in tags_read bytes.now }
+    ensures at_most { steps.new ≤ steps.old + data_records_in tags_read bytes.now }
 {
-    let file = match read_file(alloc, bytes, &READ_TAGS, steps) {
-        Ok(file) => file,
-        Err(FileFault::NoMemory) => return Err(ReadFault::NoMemory),
-        Err(fault) => return Err(ReadFault::File(fault)),
-    };
-    match read_dataset(alloc, &file) {
-        Ok(dataset) => Ok(dataset),
-        Err(DatasetFault::NoMemory) => Err(ReadFault::NoMemory),
-        Err(fault) => Err(ReadFault::Dataset(fault)),
-    }
+    let file = read_file(alloc, bytes, &TAGS, steps)?;
+    Ok(read_dataset(alloc, &file)?)
 }

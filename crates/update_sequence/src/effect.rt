@@ -2,7 +2,7 @@
 
 ghost use Rattle.std.specs.Prelude.{◌≡◌};
 ghost use Rattle.std.specs.Option.{option_copied};
-ghost use Rattle.update_sequence.specs.Judged.{judged, base_judged, update_judged, is_older};
+ghost use Rattle.update_sequence.specs.Judged.{judged, judged_base, judged_update, is_older};
 
 use crate::fault::SequenceFault;
 use chart_model::{Dataset, Header, Held};
@@ -22,12 +22,12 @@ pub enum Effect {
 fn is_older(given: &Header, held: &Held) -> bool
     ensures { result ≡ is_older given.now held.now }
 {
-    given.edition < held.edition
-        || (given.edition == held.edition && given.update < held.update)
+    given.edition < held.edition || (given.edition == held.edition && given.update < held.update)
 }
 
+/// Judges a base file: it may come again, and isn't older than what is held.
 fn judge_base(held: Option<&Held>, given: &Header) -> Result<Effect, SequenceFault>
-    ensures { result ≡ base_judged (option_copied held) given.now }
+    ensures { result ≡ judged_base (option_copied held.entry) given.now }
 {
     match held {
         Some(held) if is_older(given, held) => Err(SequenceFault::StaleBase {
@@ -40,12 +40,9 @@ fn judge_base(held: Option<&Held>, given: &Header) -> Result<Effect, SequenceFau
     }
 }
 
-fn judge_update(
-    held: Option<&Held>,
-    given: &Header,
-    cancels: bool,
-) -> Result<Effect, SequenceFault>
-    ensures { result ≡ update_judged (option_copied held) given.now cancels }
+/// Judges an update. Of one that cancels its cell the numbers aren't looked at.
+fn judge_update(held: Option<&Held>, given: &Header, cancels: bool) -> Result<Effect, SequenceFault>
+    ensures { result ≡ judged_update (option_copied held.entry) given.now cancels }
 {
     let Some(held) = held else {
         return Err(SequenceFault::NoBase(given.key));
@@ -62,8 +59,8 @@ fn judge_update(
             given: given.edition,
         });
     }
-    let wanted = held.update + 1;
-    if given.update != wanted {
+    let wanted = u64::from(held.update) + 1;
+    if u64::from(given.update) != wanted {
         return Err(SequenceFault::Gap {
             wanted,
             given: given.update,
@@ -73,12 +70,14 @@ fn judge_update(
 }
 
 /// Judges whether a file may follow what is held of its cell, `None` where nothing is held, and what
-/// becomes of the live files then (S-57 Appendix B.1, updating). It takes no memory.
+/// becomes of the live files then (S-57 Appendix B.1, 5.7 and 8.3.1). It takes no memory.
 ///
 /// A base file whose edition and update aren't before the held ones replaces what is held: a new
-/// edition or a re-issue.
+/// edition or a re-issue. An update needs a cell that is held and not cancelled, and unless it cancels
+/// the cell it has the held edition and the next update number.
+#[tactic(auto, unfolding(crate::specs::Judged::judged))]
 pub fn judge(held: Option<&Held>, dataset: &Dataset) -> Result<Effect, SequenceFault>
-    ensures { result ≡ judged (option_copied held) dataset.now }
+    ensures { result ≡ judged (option_copied held.entry) dataset.now }
 {
     if dataset.base {
         judge_base(held, &dataset.header)
