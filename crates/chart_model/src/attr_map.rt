@@ -1,6 +1,6 @@
 //! The attributes of a record by their codes.
 
-ghost use Rattle.std.specs.Prelude.{◌≡◌, ◌+◌, ◌<◌, ◌≤◌, ◌↔◌, [], ◌∷◌, IsTrue, IfOk, IfErr, OnOk, OnErr, length, nat_eq};
+ghost use Rattle.std.specs.Prelude.{◌≡◌, ◌+◌, ◌<◌, ◌≤◌, IfOk, IfErr, OnOk, OnErr, length, nat_eq};
 ghost use Rattle.std.specs.Option.{option_copied};
 ghost use Rattle.std.specs.List.{HoldsAt};
 ghost use Rattle.std.specs.List.Sorted.{IsPartitionPoint, IsSearchInRange};
@@ -16,8 +16,8 @@ use crate::record::Attr;
 use std::alloc::{AllocError, Global};
 use std::marker::Model;
 
-/// The text that removes an attribute (S-57 Appendix B.1, 3.7).
-const REMOVED: u8 = 0x7F;
+/// The text that removes an attribute: the delete character alone (S-57 Part 3).
+const DELETED: [u8; 1] = [0x7F];
 
 /// Attributes by code. Contracts see a finite map from codes to texts.
 ///
@@ -86,6 +86,34 @@ fn take_out(attrs: &mut Vec<Attr>, code: u16) -> Option<Octets>
     }
 }
 
+/// Sets or removes one attribute. It takes no memory.
+fn set_one(attrs: &mut Vec<Attr>, setting: Attr)
+    requires rising { AreRising attrs.old.items }
+    requires room { vec_len attrs.old < vec_capacity attrs.old }
+    ensures map { attrs_of attrs.new.items ≡ set_attr (attrs_of attrs.old.items) setting }
+    ensures rising { AreRising attrs.new.items }
+    ensures len { vec_len attrs.new ≤ vec_len attrs.old + 1 }
+    ensures capacity { vec_capacity attrs.old ≤ vec_capacity attrs.new }
+{
+    if setting.value.as_slice() == DELETED.as_slice() {
+        let _ = take_out(attrs, setting.code);
+    } else {
+        put(attrs, setting.code, setting.value);
+    }
+}
+
+/// Sets or removes attributes one after the other. It takes no memory.
+fn set_each(attrs: &mut Vec<Attr>, settings: Vec<Attr>)
+    requires rising { AreRising attrs.old.items }
+    requires room { vec_len attrs.old + vec_len settings ≤ vec_capacity attrs.old }
+    ensures map { attrs_of attrs.new.items ≡ set_attrs (attrs_of attrs.old.items) settings.items }
+    ensures rising { AreRising attrs.new.items }
+{
+    for setting in settings {
+        set_one(attrs, setting);
+    }
+}
+
 impl AttrMap {
     /// A map without an attribute. It takes no memory.
     pub fn new(alloc: Global) -> AttrMap
@@ -136,5 +164,27 @@ impl AttrMap {
         ensures map { self.new ≡ map.remove self.old code }
     {
         take_out(&mut self.attrs, code)
+    }
+
+    /// Sets attributes one after the other, where the single byte 0x7F removes one. Where there is no
+    /// memory nothing changes.
+    pub fn set_all(&mut self, alloc: Global, settings: &[Attr]) -> Result<(), AllocError>
+        ensures ok { OnOk result (self.new ≡ set_attrs self.old settings.now) }
+        ensures err { OnErr result (self.new ≡ self.old) }
+    {
+        let settings = settings.to_vec(alloc)?;
+        self.attrs.reserve(settings.len())?;
+        set_each(&mut self.attrs, settings);
+        Ok(())
+    }
+}
+
+impl Clone for AttrMap {
+    ghost is_clone = { λ attrs copy. copy ≡ attrs };
+
+    fn clone(&self) -> Result<AttrMap, AllocError> {
+        Ok(AttrMap {
+            attrs: self.attrs.clone()?,
+        })
     }
 }

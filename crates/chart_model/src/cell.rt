@@ -1,6 +1,6 @@
 //! Cells and their records (S-57 Part 3, section 3).
 
-ghost use Rattle.std.specs.Prelude.{◌≡◌};
+ghost use Rattle.std.specs.Prelude.{◌≡◌, IfOk};
 ghost use Rattle.chart_model.specs.Cell.{IsChartHeader, empty_cell};
 
 use crate::attr_map::AttrMap;
@@ -8,7 +8,7 @@ use crate::dataset::Header;
 use crate::name::Foid;
 use crate::name_map::NameMap;
 use crate::record::{Coords, Pointers, RelatedList};
-use std::alloc::Global;
+use std::alloc::{AllocError, Global};
 use std::marker::Model;
 
 /// A vector record: an isolated node, a connected node or an edge.
@@ -39,6 +39,36 @@ pub struct Feature {
     pub related: RelatedList,
     /// The vector records that give the feature its shape.
     pub pointers: Pointers,
+}
+
+impl Clone for Vector {
+    ghost is_clone = { λ vector copy. copy ≡ vector };
+
+    fn clone(&self) -> Result<Vector, AllocError> {
+        Ok(Vector {
+            version: self.version,
+            attrs: self.attrs.clone()?,
+            pointers: self.pointers.clone()?,
+            coords: self.coords.clone()?,
+        })
+    }
+}
+
+impl Clone for Feature {
+    ghost is_clone = { λ feature copy. copy ≡ feature };
+
+    fn clone(&self) -> Result<Feature, AllocError> {
+        Ok(Feature {
+            prim: self.prim,
+            grup: self.grup,
+            class: self.class,
+            version: self.version,
+            foid: self.foid,
+            attrs: self.attrs.clone()?,
+            related: self.related.clone()?,
+            pointers: self.pointers.clone()?,
+        })
+    }
 }
 
 /// Vector records by name.
@@ -78,5 +108,24 @@ impl Cell {
             vectors: NameMap::new(alloc),
             features: NameMap::new(alloc),
         }
+    }
+
+    /// An equal cell.
+    pub fn copy(&self, _alloc: Global) -> Result<Cell, AllocError>
+        ensures { IfOk result (λ copy. copy ≡ self.now) }
+    {
+        self.clone()
+    }
+}
+
+impl Clone for Cell {
+    ghost is_clone = { λ cell copy. copy ≡ cell };
+
+    fn clone(&self) -> Result<Cell, AllocError> {
+        Ok(Cell {
+            header: self.header,
+            vectors: self.vectors.clone()?,
+            features: self.features.clone()?,
+        })
     }
 }

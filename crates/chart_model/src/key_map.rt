@@ -103,3 +103,14 @@ impl<V: Drop> KeyMap<V> {
         self.tree.iter()
     }
 }
+
+impl<V: Clone> Clone for KeyMap<V> {
+    /// Where the clones of the values are equal to them, so is the clone of the map.
+    ghost is_clone = { λ m copy. ((x y : V) → V.is_clone x y → y ≡ x) → copy ≡ m };
+
+    fn clone(&self) -> Result<KeyMap<V>, AllocError> {
+        Ok(KeyMap {
+            tree: self.tree.clone()?,
+        })
+    }
+}

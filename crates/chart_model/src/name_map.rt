@@ -102,3 +102,14 @@ impl<V: Drop> NameMap<V> {
         self.tree.iter()
     }
 }
+
+impl<V: Clone> Clone for NameMap<V> {
+    /// Where the clones of the values are equal to them, so is the clone of the map.
+    ghost is_clone = { λ m copy. ((x y : V) → V.is_clone x y → y ≡ x) → copy ≡ m };
+
+    fn clone(&self) -> Result<NameMap<V>, AllocError> {
+        Ok(NameMap {
+            tree: self.tree.clone()?,
+        })
+    }
+}
