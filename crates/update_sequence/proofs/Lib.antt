@@ -1,1 +1,4 @@
 mod Failing
+mod Places
+mod Folding
+mod Rebuilding

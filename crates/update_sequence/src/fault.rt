@@ -1,8 +1,14 @@
 //! Why a file is not taken.
 
+ghost use Rattle.std.specs.Prelude.{◌≡◌};
+ghost use Rattle.update_sequence.specs.declared.fault.BuildFault.TheVariants.{NoMemory as NoMemoryForChart};
+
+use chart_closure::ClosureFault;
 use chart_model::Key;
 use iso8211_records::FileFault;
 use s57_records::DatasetFault;
+use std::alloc::AllocError;
+use update_apply::ChangeFault;
 
 /// Why bytes are no cell file.
 #[derive(Clone, Copy, Debug, PartialEq, Eq)]
@@ -67,4 +73,48 @@ pub enum SequenceFault {
     },
     /// An update of a cell that is cancelled.
     Cancelled(Key),
+}
+
+/// Why a data set builds no chart.
+#[derive(Clone, Copy, Debug)]
+pub enum BuildFault {
+    /// The first change that can't be made.
+    Change(ChangeFault),
+    /// The chart that the changes leave isn't closed.
+    Closure(ClosureFault),
+    /// There was no memory for the chart.
+    NoMemory,
+}
+
+impl From<ChangeFault> for BuildFault {
+    ghost use Rattle.std.specs.Prelude.{◌≡◌};
+    ghost use Rattle.update_sequence.specs.Answers.{fault_of_change};
+
+    ghost from_gives = { λ fault e. e ≡ fault_of_change fault };
+
+    fn from(fault: ChangeFault) -> BuildFault {
+        match fault {
+            ChangeFault::NoMemory => BuildFault::NoMemory,
+            _ => BuildFault::Change(fault),
+        }
+    }
+}
+
+impl From<ClosureFault> for BuildFault {
+    ghost use Rattle.std.specs.Prelude.{◌≡◌};
+    ghost use Rattle.update_sequence.specs.declared.fault.BuildFault.TheVariants.{Closure};
+
+    ghost from_gives = { λ fault e. e ≡ Closure fault };
+
+    fn from(fault: ClosureFault) -> BuildFault {
+        BuildFault::Closure(fault)
+    }
+}
+
+impl From<AllocError> for BuildFault {
+    ghost from_gives = { λ _ e. e ≡ NoMemoryForChart };
+
+    fn from(_: AllocError) -> BuildFault {
+        BuildFault::NoMemory
+    }
 }

@@ -5,10 +5,14 @@
 //! after the other, and it is taken only where it is closed.
 #![tactic(auto)]
 
+mod chart;
 mod effect;
 mod fault;
+mod files;
 mod read;
 
+pub use chart::build;
 pub use effect::{Effect, judge};
-pub use fault::{ReadFault, SequenceFault};
+pub use fault::{BuildFault, ReadFault, SequenceFault};
+pub use files::rebuild;
 pub use read::read_data_set;
