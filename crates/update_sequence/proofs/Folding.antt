@@ -14,10 +14,10 @@ use Rattle.update_sequence.specs.Built.{unless, ◌>>=◌, folded}
 use Rattle.update_sequence.proofs.Places.{from_place}
 
 -- what a change and those after it make, by the fault of the change
-abbrev after_change : CellValue → Change → List Change → Option ChangeFault → Result CellValue BuildFault
+abbrev pub after_change : CellValue → Change → List Change → Option ChangeFault → Result CellValue BuildFault
 after_change cell change rest fault = unless (option_map of_build.Change fault) (changed cell change) >>= (λ after. folded after rest)
 
-folded-cons : (cell : CellValue) (change : Change) (rest : List Change) → folded cell (change ∷ rest) ≡ after_change cell change rest (fault_of cell change)
+pub folded-cons : (cell : CellValue) (change : Change) (rest : List Change) → folded cell (change ∷ rest) ≡ after_change cell change rest (fault_of cell change)
 unfolding folded
 folded-cons cell change rest = refl
 

@@ -9,10 +9,15 @@ mod chart;
 mod effect;
 mod fault;
 mod files;
+mod laws;
 mod read;
 
 pub use chart::build;
 pub use effect::{Effect, judge};
 pub use fault::{BuildFault, ReadFault, SequenceFault};
 pub use files::rebuild;
+pub use laws::{
+    charts_are_cells, charts_are_closed, files_are_data_sets, headers_follow, one_file_more,
+    sound_lists_are_held, sound_lists_grow,
+};
 pub use read::read_data_set;
