@@ -1,0 +1,4 @@
+pub mod Choice
+pub mod Edge
+pub mod Rings
+pub mod Shape
