@@ -27,11 +27,15 @@ place_of cell name = do
   coord ← slice_get node.coords 0
   Some (point_of coord)
 
+-- two pointers are to a begin node and to an end node
+abbrev pub begins_and_ends : Pointer → Pointer → Bool
+begins_and_ends p q = (p.topi == 1) && (q.topi == 2)
+
 -- the begin node and the end node, where there is one pointer to each and no other
 unfoldable pub ends_of : List Pointer → Option (Name × Name)
 ends_of (p ∷ q ∷ []) =
-    if (p.topi == 1) && (q.topi == 2) then Some (p.target, q.target) else (
-    if (p.topi == 2) && (q.topi == 1) then Some (q.target, p.target) else None)
+    if begins_and_ends p q then Some (p.target, q.target) else (
+    if begins_and_ends q p then Some (q.target, p.target) else None)
 ends_of pointers = None
 
 -- an edge on the way from one of its nodes to the other, with all points of the way

@@ -5,6 +5,7 @@ use Rattle.chart_model.specs.declared.name.Name.{Name}
 use Rattle.chart_model.specs.declared.record.Pointer.{Pointer}
 use Rattle.chart_model.specs.Cell.{CellValue}
 use Rattle.plane_geometry.specs.declared.point.Pt.{Pt}
+use Rattle.area_rings.specs.declared.trace.OpenRing.{OpenRing}
 use Rattle.area_rings.specs.Choice.{◌>>=◌, each}
 use Rattle.area_rings.specs.Edge.{EdgeValue, edge_along}
 
@@ -46,18 +47,14 @@ pub record HasRings (cell : CellValue) (pointers : List Pointer) (rings : List (
 abbrev pub same_name : Name → Name → Bool
 same_name a b = (a.rcnm == b.rcnm) && (a.rcid == b.rcid)
 
--- a ring that isn't closed yet: the node where it begins, and the node to which it has come
-pub record OpenRing : Type 0 where
-  pub home : Name
-  pub at : Name
-
--- how a ring stands after an edge: none where it is closed; nothing where the edge begins elsewhere
-abbrev pub followed : Option OpenRing → EdgeValue → Option (Option OpenRing)
-followed None edge =
-    Some (if same_name edge.to edge.from then None else Some (record { home = edge.from; at = edge.to }))
-followed (Some ring) edge =
-    if same_name edge.from ring.at then
-      Some (if same_name edge.to ring.home then None else Some (record { home = ring.home; at = edge.to }))
+-- how a ring stands after an edge from a node to another: no ring is left where the edge closes it;
+-- nothing where the edge begins elsewhere than the ring has come to
+abbrev pub followed : Option OpenRing → Name → Name → Option (Option OpenRing)
+followed None from to =
+    Some (if same_name to from then None else Some (record { home = from; at = to }))
+followed (Some ring) from to =
+    if same_name ring.at from then
+    Some (if same_name to ring.home then None else Some (record { home = ring.home; at = to }))
     else None
 
 -- an edge before the edges of the first ring, where that is open, or as a ring by itself
@@ -68,17 +65,14 @@ before_rings edge (Some begun) (ring ∷ rings) = (edge ∷ ring) ∷ rings
 
 -- edges as rings one after the other, the first of which may have begun before them
 unfoldable pub chains_of : Option OpenRing → List EdgeValue → Option (List (List EdgeValue))
-chains_of None [] = Some []
-chains_of (Some begun) [] = None
+chains_of begun [] = if is_some begun then None else Some []
 chains_of begun (edge ∷ rest) = do
-  next ← followed begun edge
-  rings ← chains_of next rest
-  Some (before_rings edge next rings)
+  next ← followed begun edge.from edge.to
+  option_map (before_rings edge next) (chains_of next rest)
 
--- the rings, by code
+-- the rings that an area's pointers make
 unfoldable pub rings_of : CellValue → List Pointer → Option (List (List Pt))
 rings_of cell [] = None
 rings_of cell (pointer ∷ rest) = do
   edges ← each (edge_along cell) (pointer ∷ rest)
-  chains ← chains_of None edges
-  Some (map ring_points chains)
+  option_map (map ring_points) (chains_of None edges)

@@ -2,6 +2,10 @@
 //! topology).
 #![tactic(auto)]
 
+mod edge;
+mod presence;
 mod shape;
+mod trace;
 
-pub use shape::{Line, LineList, RingList, Shape, edge_line, feature_shape, has_shape, rings};
+pub use presence::has_shape;
+pub use shape::{Line, LineList, RingList, Shape, edge_line, feature_shape, rings};

@@ -1,11 +1,23 @@
 //! The shape of a feature.
 
-ghost use Rattle.std.specs.Prelude.{◌≡◌, ◌↔◌, IfOk, IsTrue, IsSome};
+ghost use Rattle.std.specs.Prelude.{◌≡◌, IfOk};
 ghost use Rattle.area_rings.specs.Shape.{line_of, rings_of, shape_of};
 
 use chart_model::{Cell, Coords, Feature, Name, Sequence};
 use plane_geometry::{Pt, Ring};
 use std::alloc::{AllocError, Global};
+
+/// The geometric primitives.
+pub(crate) const POINT: u8 = 1;
+
+pub(crate) const LINE: u8 = 2;
+
+pub(crate) const AREA: u8 = 3;
+
+pub(crate) const BARE: u8 = 255;
+
+/// The orientation of a pointer that takes its edge from the end node to the begin node.
+pub(crate) const REVERSE: u8 = 2;
 
 /// The points of an edge from one of its nodes to the other.
 pub type Line = Sequence<Pt>;
@@ -40,11 +52,7 @@ pub fn edge_line(
     Err(AllocError)
 }
 
-pub fn rings(
-    alloc: Global,
-    cell: &Cell,
-    feature: &Feature,
-) -> Result<Option<RingList>, AllocError>
+pub fn rings(alloc: Global, cell: &Cell, feature: &Feature) -> Result<Option<RingList>, AllocError>
     ensures { IfOk result (λ rings. rings ≡ rings_of cell.now feature.now.pointers) }
 {
     Err(AllocError)
@@ -58,10 +66,4 @@ pub fn feature_shape(
     ensures { IfOk result (λ shape. shape ≡ shape_of cell.now feature.now) }
 {
     Err(AllocError)
-}
-
-pub fn has_shape(cell: &Cell, feature: &Feature) -> bool
-    ensures { IsTrue result ↔ IsSome (shape_of cell.now feature.now) }
-{
-    false
 }
