@@ -1,9 +1,12 @@
 //! What is drawn of a feature.
 
+ghost use Rattle.std.specs.Prelude.{◌≡◌, IfOk};
+
 use crate::key::Key;
 use crate::name::Name;
 use crate::octets::Octets;
 use crate::sequence::Sequence;
+use std::alloc::{AllocError, Global};
 
 /// The geometric primitive of a drawn feature, in the order of drawing.
 #[derive(Clone, Copy, Debug, PartialEq, Eq, PartialOrd, Ord)]
@@ -31,6 +34,17 @@ pub struct Item {
     pub text: Octets,
 }
 
+impl Clone for Item {
+    ghost is_clone = { λ item copy. copy ≡ item };
+
+    fn clone(&self) -> Result<Item, AllocError> {
+        Ok(Item {
+            target: self.target,
+            text: self.text.clone()?,
+        })
+    }
+}
+
 /// Draw instructions in order.
 pub type ItemList = Sequence<Item>;
 
@@ -41,6 +55,19 @@ pub struct Block {
     pub priority: u8,
     pub geom: Geom,
     pub items: ItemList,
+}
+
+impl Block {
+    /// An equal block.
+    pub fn copy(&self, _alloc: Global) -> Result<Block, AllocError>
+        ensures { IfOk result (λ copy. copy ≡ self.now) }
+    {
+        Ok(Block {
+            priority: self.priority,
+            geom: self.geom,
+            items: self.items.clone()?,
+        })
+    }
 }
 
 /// The feature that a panel shows a block of: its cell and its name. Ordered by cell, then by name.

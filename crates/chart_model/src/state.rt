@@ -1,9 +1,12 @@
 //! The cells that are held: their files and their charts.
 
+ghost use Rattle.std.specs.Prelude.{◌≡◌, IfOk};
+
 use crate::cell::Cell;
 use crate::key_map::KeyMap;
 use crate::octets::Octets;
 use crate::sequence::Sequence;
+use std::alloc::{AllocError, Global};
 use std::marker::Model;
 
 /// The edition and the update of a cell that is held: those of its last file that doesn't cancel it.
@@ -27,6 +30,18 @@ pub struct Holding {
     pub chart: Option<Cell>,
 }
 
+impl Clone for Holding {
+    ghost is_clone = { λ holding copy. copy ≡ holding };
+
+    fn clone(&self) -> Result<Holding, AllocError> {
+        Ok(Holding {
+            held: self.held,
+            files: self.files.clone()?,
+            chart: self.chart.clone()?,
+        })
+    }
+}
+
 /// What is held, by the keys of the cells.
 pub type HoldingMap = KeyMap<Holding>;
 
@@ -46,4 +61,15 @@ impl Model for State {
     ghost view = { λ state. record { cells = state.cells } };
 
     ghost invariant = { λ state. IsState (record { cells = state.cells }) };
+}
+
+impl State {
+    /// An equal state.
+    pub fn copy(&self, _alloc: Global) -> Result<State, AllocError>
+        ensures { IfOk result (λ copy. copy ≡ self.now) }
+    {
+        Ok(State {
+            cells: self.cells.clone()?,
+        })
+    }
 }

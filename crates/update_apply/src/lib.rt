@@ -1,0 +1,11 @@
+//! One change of a record, made to a cell (S-57 Part 3, section 8).
+#![tactic(auto)]
+
+mod apply;
+mod fault;
+mod judge;
+mod laws;
+
+pub use apply::apply_record;
+pub use fault::ChangeFault;
+pub use laws::headers_are_kept;
