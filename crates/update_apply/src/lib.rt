@@ -8,4 +8,4 @@ mod laws;
 
 pub use apply::apply_record;
 pub use fault::ChangeFault;
-pub use laws::headers_are_kept;
+pub use laws::{cells_are_kept, headers_are_kept, one_cell_follows};
