@@ -1,9 +1,12 @@
 -- A change without a fault keeps what holds of every cell.
-use Rattle.std.proofs.Common.{◌≡◌, ⊎_elim, true, false, if◌then◌else◌, ◌==◌, Option, Some, None, IfSome, ℕ, arith, refl, subst}
+use Rattle.std.proofs.Common.{◌≡◌, ⊎_elim, Bool, true, false, if◌then◌else◌, ◌==◌, Option, Some, None, IfSome, ℕ, arith, refl, subst, ◌≢◌, Result, Ok, Err, OnOk, OnErr, sym, ap, ◌∙◌}
 use Rattle.std.specs.Int.{IsInRange}
+use Rattle.std.specs.declared.alloc.AllocError.{AllocError}
 use Rattle.std.specs.FinMap as map
-use Rattle.std.proofs.lemmas.Bool.{eqb-true, eqb-false, eq-eqb}
+use Rattle.std.proofs.lemmas.Bool.{eqb-true, eqb-false, eq-eqb, ne_eqb}
 use Rattle.chart_model.specs.declared.name.Name.{Name}
+use Rattle.chart_model.specs.declared.cell.Vector.{Vector}
+use Rattle.chart_model.specs.declared.cell.Feature.{Feature}
 use Rattle.chart_model.specs.Cell.{CellValue, IsCell, IsVector, IsFeature}
 use Rattle.chart_model.specs.Change.{Change, IsChange}
 use Rattle.chart_model.specs.Record.{IsVectorName, IsFeatureName}
@@ -83,3 +86,26 @@ module _ (cell : CellValue) (change : Change) (is : IsCell cell) (has : IsChange
         | true ↦ λ so. record { header = is.header; vectors = is.vectors; features = features-kept (eqb-true change.target.rcnm 100 so) }
         | false ↦ λ other. record { header = is.header; vectors = vectors-kept other (vector-name other); features = is.features }
       ] refl
+
+-- the cell with its records of one kind changed, or as they were
+pub features-changed : (cell : CellValue) (change : Change) (after : map.FinMap name_cmp Feature) (r : Result (Unit {0}) AllocError) → change.target.rcnm ≡ 100
+    → IsCell cell → IsChange change → fault_of cell change ≡ None
+    → OnOk r (after ≡ changed_in inserted_feature modified_feature cell.features change) → OnErr r (after ≡ cell.features) → IsCell (record cell { features = after })
+features-changed cell change after (Ok done) so is has none ok err =
+    subst IsCell
+    (sym (ap (λ features. record cell { features = features }) ok
+    ∙ ap (λ (b : Bool). if b then record cell { features = changed_in inserted_feature modified_feature cell.features change }
+    else record cell { vectors = changed_in inserted_vector modified_vector cell.vectors change }) (sym (eq-eqb change.target.rcnm 100 so))))
+    (cells-kept cell change is has none)
+features-changed cell change after (Err e) so is has none ok err = subst (λ features. IsCell (record cell { features = features })) (sym err) is
+
+pub vectors-changed : (cell : CellValue) (change : Change) (after : map.FinMap name_cmp Vector) (r : Result (Unit {0}) AllocError) → change.target.rcnm ≢ 100
+    → IsCell cell → IsChange change → fault_of cell change ≡ None
+    → OnOk r (after ≡ changed_in inserted_vector modified_vector cell.vectors change) → OnErr r (after ≡ cell.vectors) → IsCell (record cell { vectors = after })
+vectors-changed cell change after (Ok done) other is has none ok err =
+    subst IsCell
+    (sym (ap (λ vectors. record cell { vectors = vectors }) ok
+    ∙ ap (λ (b : Bool). if b then record cell { features = changed_in inserted_feature modified_feature cell.features change }
+    else record cell { vectors = changed_in inserted_vector modified_vector cell.vectors change }) (sym (ne_eqb change.target.rcnm 100 other))))
+    (cells-kept cell change is has none)
+vectors-changed cell change after (Err e) other is has none ok err = subst (λ vectors. IsCell (record cell { vectors = vectors })) (sym err) is

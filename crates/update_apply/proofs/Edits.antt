@@ -1,5 +1,5 @@
 -- A list that is edited is as the rule of its instruction says, and nothing else is.
-use Rattle.std.proofs.Common.{◌≡◌, ◌≤◌, Bool, true, false, true≢false, ◌==◌, nat_lt, if◌then◌else◌, List, [], ◌+◌, ◌-◌, ◌++◌, length, take, drop, Option, Some, None, ℕ, arith, refl, sym, ap, ◌∙◌, subst}
+use Rattle.std.proofs.Common.{◌≡◌, ◌≤◌, Bool, true, false, true≢false, not, ◌&&◌, ◌==◌, nat_lt, if◌then◌else◌, List, [], ◌+◌, ◌-◌, ◌++◌, length, take, drop, Option, Some, None, ℕ, arith, refl, sym, ap, ◌∙◌, subst}
 use Rattle.std.specs.Option.{is_some}
 use Rattle.std.proofs.lemmas.Bool.{eqb-true, eqb-false, ltb-false, or_parts}
 use Rattle.std.proofs.lemmas.List.{append-nil, append_assoc, take-append-drop, drop-drop, length-drop, length-take-le, length-append}
@@ -9,8 +9,8 @@ use Rattle.chart_model.specs.declared.update_record.Control.{Control}
 use Rattle.chart_model.specs.Change.{IsEdit, IsInstruction}
 use Rattle.update_apply.specs.declared.fault.ChangeFault.{ChangeFault}
 use Rattle.update_apply.specs.declared.fault.ChangeFault.TheVariants as fault
-use Rattle.update_apply.specs.Edited.{edited, edited_by, IsEdited, IsEditedBy}
-use Rattle.update_apply.specs.Fault.{index_fault, behind, when}
+use Rattle.update_apply.specs.Edited.{edited, edited_by, IsEdited, IsEditedBy, FitsEach}
+use Rattle.update_apply.specs.Fault.{index_fault, count_fault, behind, when}
 
 quiet : (so : Bool) (what : ChangeFault) → when so what ≡ None → so ≡ false
 quiet true what e = absurd (true≢false (ap is_some e))
@@ -141,3 +141,31 @@ module _ {A : Type 0} (control : Control) (given old new : List A) where
 pub only-edited : {A : Type 0} (edit : Option Control) (given old new : List A) → IsEdit edit → IsEdited edit given old new → new ≡ edited edit given old
 only-edited None given old new range is = is
 only-edited (Some control) given old new range is = only-edited-by control given old new range is
+
+-- a replacement without a fault of its count states how many items are given
+stated : {A : Type 0} (name : Name) (control : Control) (given : List A) → control.instruction ≡ 3 → count_fault name (Some control) given ≡ None → control.count ≡ length given
+stated name control given three none =
+    let so = quiet (not (control.instruction == 2) && not (control.count == length given)) (fault.Count name control.count (length given)) none in
+    same control.count (length given) (sym (ap (λ n. not (n == 2) && not (control.count == length given)) three) ∙ so)
+  where
+    same : (m n : ℕ) → not (m == n) ≡ false → m ≡ n
+    same m n e = by (m == n) refl e
+      where
+        by : (b : Bool) → m == n ≡ b → not b ≡ false → m ≡ n
+        by true is not-not = eqb-true m n is
+        by false is not-not = absurd (true≢false not-not)
+
+-- an edit without a fault of index and count fits the list
+pub fits : {A : Type 0} (name : Name) (edit : Option Control) (given items : List A) → IsEdit edit
+    → index_fault name edit (length items) ≡ None → count_fault name edit given ≡ None → FitsEach edit given items
+fits name None given items range index count = tt
+fits name (Some control) given items range index count =
+    let at = placed name control (length items) index in
+    let apart : (k : ℕ) → control.instruction ≡ k → k == 1 ≡ false → control.instruction == 1 ≡ false = λ k is not. ap (λ n. n == 1) is ∙ not in
+    record {
+      instruction = range;
+      first = at.first;
+      insert = at.insert;
+      delete = λ two. at.others (apart 2 two refl);
+      modify = λ three. (at.others (apart 3 three refl), stated name control given three count);
+    }

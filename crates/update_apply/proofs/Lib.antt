@@ -2,7 +2,8 @@ pub mod Told
 pub mod Headers
 pub mod Texts
 pub mod Alike
+pub mod Edits
 pub mod NoFault
 pub mod CellsKept
-pub mod Edits
 pub mod OneChange
+pub mod Swaps

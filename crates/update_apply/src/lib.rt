@@ -2,9 +2,11 @@
 #![tactic(auto)]
 
 mod apply;
+mod edit;
 mod fault;
 mod judge;
 mod laws;
+mod record;
 
 pub use apply::apply_record;
 pub use fault::ChangeFault;
