@@ -12,6 +12,7 @@ mod feature;
 mod general;
 mod laws;
 mod reader;
+mod rows;
 mod vector;
 
 pub use dataset::read_dataset;
