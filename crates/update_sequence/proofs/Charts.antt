@@ -51,7 +51,7 @@ folded-keeps P Q keeps cell after (change ∷ rest) here each e =
 
 -- ---- cells
 
-begun-header : (dataset : DatasetValue) → IsDataset dataset → dataset.cancels ≡ false → IsChartHeader dataset.header
+pub begun-header : (dataset : DatasetValue) → IsDataset dataset → dataset.cancels ≡ false → IsChartHeader dataset.header
 begun-header dataset is stands = record {
   edition = (above dataset.header.edition (λ none. true≢false (sym (is.cancels.1 none) ∙ stands)), is.edition);
   update = is.update;

@@ -6,3 +6,4 @@ mod Folding
 mod Charts
 mod Rebuilding
 mod SoundLists
+mod Held

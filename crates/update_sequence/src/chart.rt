@@ -7,7 +7,7 @@ ghost use Rattle.update_sequence.specs.Answers.{GivesBuilt};
 ghost use Rattle.update_sequence.specs.Built.{begun, built, folded, header_after};
 
 use crate::fault::BuildFault;
-use chart_closure::check_cell;
+use chart_closure::check;
 use chart_model::{Cell, Dataset, Header, UpdateRecord};
 use std::alloc::{AllocError, Global};
 use update_apply::apply_record;
@@ -80,6 +80,6 @@ pub fn build(alloc: Global, chart: Option<&Cell>, dataset: &Dataset) -> Result<C
     let chart = copy_of(alloc, chart)?;
     let cell = begin(alloc, chart, &dataset.header);
     let cell = make_all(alloc, cell, dataset.changes.as_slice())?;
-    check_cell(&cell)?;
+    check(&cell)?;
     Ok(cell)
 }

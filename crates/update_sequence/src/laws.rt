@@ -12,6 +12,7 @@ ghost use Rattle.update_sequence.specs.Built.{built, header_after};
 ghost use Rattle.update_sequence.specs.Rebuilt.{chart_after, held_after, held_by, rebuilt};
 ghost use Rattle.update_sequence.specs.Sound.{Follows, IsSoundList};
 
+use chart_closure::first_is_least;
 use s57_records::{changes_are_kept, data_sets_are_kept};
 use update_apply::{cells_are_kept, headers_are_kept};
 
@@ -27,7 +28,9 @@ pub fn files_are_data_sets()
 /// A chart that is built is closed.
 pub fn charts_are_closed()
     ensures { (chart : Option CellValue) (dataset : DatasetValue) (cell : CellValue) → built chart dataset ≡ Ok cell → IsClosed cell }
-{}
+{
+    first_is_least();
+}
 
 /// A chart that is built on a cell is a cell.
 pub fn charts_are_cells()
