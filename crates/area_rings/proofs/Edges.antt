@@ -1,5 +1,5 @@
 -- Nodes and edges by the steps in which they are found.
-use Rattle.std.proofs.Common.{◌≡◌, ◌≢◌, ℕ, ◌<◌, ◌≤◌, suc, zero, Bool, true, false, ◌&&◌, eqb, List, [], ◌∷◌, ◌++◌, map, length, get_or, slice_get, Option, Some, None, refl, sym, ap, ◌∙◌, arith}
+use Rattle.std.proofs.Common.{◌≡◌, ◌≢◌, ◌<◌, ◌≤◌, true, false, List, [], ◌∷◌, ◌++◌, map, length, get_or, slice_get, Some, None, refl, arith}
 use Rattle.std.specs.FinMap as finite
 use Rattle.std.proofs.lemmas.Bool.{eq-eqb, ne_eqb}
 use Rattle.chart_model.specs.declared.name.Name.{Name}
@@ -8,7 +8,7 @@ use Rattle.chart_model.specs.declared.record.Pointer.{Pointer}
 use Rattle.chart_model.specs.declared.cell.Vector.{Vector}
 use Rattle.chart_model.specs.Cell.{CellValue}
 use Rattle.plane_geometry.specs.declared.point.Pt.{Pt}
-use Rattle.area_rings.specs.Edge.{node_of, point_of, place_of, begins_and_ends, ends_of, EdgeValue, edge_of}
+use Rattle.area_rings.specs.Edge.{node_of, point_of, place_of, begins_and_ends, ends_of, edge_of}
 
 pub no_node : (cell : CellValue) (name : Name) → node_of cell name ≡ None → place_of cell name ≡ None
 unfolding place_of

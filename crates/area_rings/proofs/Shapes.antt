@@ -1,7 +1,7 @@
 -- Whether there is a shape, by the kind of the feature.
-use Rattle.std.proofs.Common.{◌≡◌, ◌≢◌, ◌↔◌, ℕ, ◌<◌, suc, zero, Bool, true, false, List, [], ◌∷◌, length, get_or, All, Option, Some, None, is_some, IsSome, IsTrue, option_map, eqb, if◌then◌else◌, refl, sym, ap, ◌∙◌, arith}
+use Rattle.std.proofs.Common.{◌≡◌, ◌≢◌, ◌↔◌, suc, zero, Bool, true, false, List, [], ◌∷◌, get_or, All, Option, Some, None, is_some, IsSome, option_map, eqb, if◌then◌else◌, refl, sym, ◌∙◌, arith}
 use Rattle.std.specs.List.{flat_map}
-use Rattle.std.proofs.lemmas.Bool.{false≢true, eq-eqb, ne_eqb, eqb-true}
+use Rattle.std.proofs.lemmas.Bool.{false≢true, ne_eqb}
 use Rattle.chart_model.specs.declared.record.Pointer.{Pointer}
 use Rattle.chart_model.specs.declared.cell.Feature.{Feature}
 use Rattle.chart_model.specs.Cell.{CellValue}

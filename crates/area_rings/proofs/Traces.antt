@@ -1,5 +1,5 @@
 -- Rings that are traced pointer by pointer.
-use Rattle.std.proofs.Common.{◌≡◌, ◌↔◌, ℕ, ◌<◌, ◌≤◌, ◌+◌, suc, Bool, true, false, not, ◌&&◌, List, [], ◌∷◌, map, length, drop, get_or, eqb, Option, Some, None, is_some, IsSome, IsTrue, option_map, refl, sym, ap, ◌∙◌, arith, add-one, drop-cons}
+use Rattle.std.proofs.Common.{◌≡◌, ℕ, ◌<◌, ◌≤◌, ◌+◌, not, List, [], ◌∷◌, map, length, drop, get_or, Option, Some, None, is_some, IsSome, option_map, refl, sym, ap, ◌∙◌, arith, add-one, drop-cons}
 use Rattle.std.proofs.lemmas.Bool.{false≢true}
 use Rattle.std.proofs.Math.ListN.{drop_of_length-le}
 use Rattle.chart_model.specs.declared.record.Pointer.{Pointer}

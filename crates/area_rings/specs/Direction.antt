@@ -1,5 +1,5 @@
 -- The edge that the code keeps in parts.
-use Rattle.std.specs.Prelude.{Bool, if◌then◌else◌, List, [], ◌∷◌, ◌++◌, map, reverse}
+use Rattle.std.specs.Prelude.{if◌then◌else◌, [], ◌∷◌, ◌++◌, map, reverse}
 use Rattle.area_rings.specs.declared.edge.DirectedEdge.{DirectedEdge}
 use Rattle.area_rings.specs.Edge.{EdgeValue, point_of}
 

@@ -7,5 +7,5 @@ mod presence;
 mod shape;
 mod trace;
 
-pub use presence::has_shape;
+pub use presence::{has_line, has_shape};
 pub use shape::{Line, LineList, RingList, Shape, edge_line, feature_shape, rings};

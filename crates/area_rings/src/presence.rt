@@ -1,13 +1,13 @@
 //! Whether a feature has a shape.
 
-ghost use Rattle.std.specs.Prelude.{◌↔◌, IsTrue, IsSome, All};
-ghost use Rattle.area_rings.specs.Shape.{rings_of, shape_of};
+ghost use Rattle.std.specs.Prelude.{◌↔◌, IsTrue, IsSome, All, false};
+ghost use Rattle.area_rings.specs.Shape.{line_of, rings_of, shape_of};
 ghost use Rattle.area_rings.specs.Edge.{node_of, edge_of};
 
 use crate::edge::{edge, node};
 use crate::shape::{AREA, BARE, LINE, POINT, REVERSE};
 use crate::trace::follow;
-use chart_model::{Cell, Feature, Pointer};
+use chart_model::{Cell, Feature, Name, Pointer};
 
 /// Whether each of the pointers is to a node.
 fn all_nodes(cell: &Cell, pointers: &[Pointer]) -> bool
@@ -45,6 +45,13 @@ fn all_rings(cell: &Cell, pointers: &[Pointer]) -> bool
         open = next;
     }
     open.is_none()
+}
+
+/// Whether `edge_line` gives a line of that edge. It takes no memory.
+pub fn has_line(cell: &Cell, name: Name) -> bool
+    ensures { IsTrue result ↔ IsSome (line_of cell.now name false) }
+{
+    edge(cell, name, false).is_some()
 }
 
 /// Whether `feature_shape` gives a shape. It takes no memory.

@@ -1,7 +1,6 @@
 use Rattle.std.proofs.Common.{sym, ◌∙◌, ap, slice_get, List}
 use Rattle.std.specs.Option.{option_copied}
 use Rattle.chart_model.specs.declared.record.Coord.{Coord}
-use Rattle.area_rings.specs.Edge.{point_of}
 use Rattle.area_rings.proofs.Edges.{no_node, no_coordinate, coordinate}
 use Rattle.area_rings.proofs.edge.place.Goals as goal
 

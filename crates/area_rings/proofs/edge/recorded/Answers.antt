@@ -1,8 +1,6 @@
-use Rattle.std.proofs.Common.{◌≡◌, sym, ◌∙◌, ap, Some, None, List, map}
-use Rattle.std.specs.Option.{option_copied, option_map}
+use Rattle.std.proofs.Common.{sym, ◌∙◌, ap}
+use Rattle.std.specs.Option.{option_copied}
 use Rattle.std.specs.FinMap as finite
-use Rattle.chart_model.specs.declared.record.Pointer.{Pointer}
-use Rattle.chart_model.specs.declared.record.Coord.{Coord}
 use Rattle.chart_model.specs.Cell.{CellValue}
 use Rattle.area_rings.specs.Edge.{ends_of}
 use Rattle.area_rings.proofs.Edges.{no_edge_name, no_edge, no_ends, no_begin, no_end, whole_edge}

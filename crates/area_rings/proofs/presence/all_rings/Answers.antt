@@ -1,9 +1,9 @@
-use Rattle.std.proofs.Common.{◌≡◌, ◌<◌, length, List, sym, ◌∙◌, ap, refl, true, false, Bool, is_some, IsTrue, IsSome, eqb, not, Some, None, arith}
+use Rattle.std.proofs.Common.{◌≡◌, ◌<◌, length, List, sym, ◌∙◌, ap, refl, true, false, Bool, is_some, eqb, not, arith}
 use Rattle.std.specs.Option.{option_map}
 use Rattle.std.proofs.lemmas.Bool.{false≢true, eqb-true, eqb-false}
 use Rattle.chart_model.specs.declared.record.Pointer.{Pointer}
 use Rattle.area_rings.specs.Direction.{value_of}
-use Rattle.area_rings.proofs.Traces.{Remains, no_line_left, broken_left, remains_more, has_rings, ends_closed, no_pointers}
+use Rattle.area_rings.proofs.Traces.{no_line_left, broken_left, remains_more, has_rings, ends_closed, no_pointers}
 use Rattle.area_rings.proofs.presence.all_rings.Goals as goal
 
 -- what stands past the end of a list of pointers
