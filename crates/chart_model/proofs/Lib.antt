@@ -1,1 +1,7 @@
 pub mod StoredKey
+pub mod Names
+pub mod Keys
+pub mod Trees
+pub mod Maps
+pub mod SortedEntries
+pub mod AttrMaps

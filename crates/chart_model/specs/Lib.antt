@@ -1,5 +1,10 @@
 pub mod Key
+pub mod Keys
+pub mod Names
+pub mod Attrs
 pub mod Record
+pub mod Cell
+pub mod State
 pub mod Change
 pub mod ChangeView
 pub mod Dataset

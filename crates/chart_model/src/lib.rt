@@ -1,20 +1,36 @@
 //! The plain values that the chart kernel speaks of.
 #![tactic(auto)]
 
+mod attr_map;
+mod cell;
+mod command;
 mod dataset;
+mod drawing;
 mod key;
+mod key_map;
 mod name;
+mod name_map;
 mod octets;
 mod record;
 mod sequence;
+mod settings;
+mod state;
 #[cfg(test)]
 mod tests;
 mod update_record;
 
+pub use attr_map::AttrMap;
+pub use cell::{Cell, Feature, FeatureMap, Vector, VectorMap};
+pub use command::Command;
 pub use dataset::{ChangeList, Dataset, Header};
+pub use drawing::{Block, Geom, Item, ItemList, PanelKey, Target};
 pub use key::Key;
+pub use key_map::KeyMap;
 pub use name::{Foid, Name};
+pub use name_map::NameMap;
 pub use octets::Octets;
 pub use record::{Attr, AttrList, Coord, Coords, Pointer, Pointers, Related, RelatedList};
 pub use sequence::Sequence;
+pub use settings::{Settings, Shades};
+pub use state::{FileList, Held, Holding, HoldingMap, State};
 pub use update_record::{Control, UpdateRecord};

@@ -52,3 +52,13 @@ impl Octets {
         self.bytes.as_slice()
     }
 }
+
+impl Clone for Octets {
+    ghost is_clone = { λ octets copy. copy ≡ octets };
+
+    fn clone(&self) -> Result<Octets, AllocError> {
+        Ok(Octets {
+            bytes: self.bytes.clone()?,
+        })
+    }
+}

@@ -1,8 +1,11 @@
 //! The parts of vector and feature records (S-57 Part 3).
 
+ghost use Rattle.std.specs.Prelude.{◌≡◌};
+
 use crate::name::{Foid, Name};
 use crate::octets::Octets;
 use crate::sequence::Sequence;
+use std::alloc::AllocError;
 
 /// An attribute: its code and its text, as bytes without 0x1E and 0x1F. An empty text means that the
 /// value is unknown.
@@ -10,6 +13,17 @@ use crate::sequence::Sequence;
 pub struct Attr {
     pub code: u16,
     pub value: Octets,
+}
+
+impl Clone for Attr {
+    ghost is_clone = { λ attr copy. copy ≡ attr };
+
+    fn clone(&self) -> Result<Attr, AllocError> {
+        Ok(Attr {
+            code: self.code,
+            value: self.value.clone()?,
+        })
+    }
 }
 
 /// Attributes in the order in which they are set.

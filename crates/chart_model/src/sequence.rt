@@ -3,6 +3,7 @@
 //! A `Vec` in a public struct would show its capacity to every contract that compares such structs.
 
 ghost use Rattle.std.specs.Prelude.{◌≡◌, ◌++◌, ◌∷◌, [], length, OnOk, OnErr};
+ghost use Rattle.std.specs.List.{AllZip};
 
 use std::alloc::{AllocError, Global};
 use std::marker::Model;
@@ -61,5 +62,15 @@ impl<T: Drop> Sequence<T> {
     {
         self.items.push(item)?;
         Ok(())
+    }
+}
+
+impl<T: Clone> Clone for Sequence<T> {
+    ghost is_clone = { λ sequence copy. AllZip T.is_clone sequence copy };
+
+    fn clone(&self) -> Result<Sequence<T>, AllocError> {
+        Ok(Sequence {
+            items: self.items.clone()?,
+        })
     }
 }

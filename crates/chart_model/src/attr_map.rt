@@ -1,0 +1,190 @@
+//! The attributes of a record by their codes.
+
+ghost use Rattle.std.specs.Prelude.{◌≡◌, ◌+◌, ◌<◌, ◌≤◌, IfOk, IfErr, OnOk, OnErr, length, nat_eq};
+ghost use Rattle.std.specs.Option.{option_copied};
+ghost use Rattle.std.specs.List.{HoldsAt};
+ghost use Rattle.std.specs.List.Sorted.{IsPartitionPoint, IsSearchInRange};
+ghost use Rattle.std.specs.Ordering.{nat_cmp};
+ghost use Rattle.std.specs.declared.cmp.Ordering.TheVariants.{Less, Equal, Greater};
+ghost use Rattle.std.specs.Cmp.Lexicographic.{pointwise};
+ghost use Rattle.std.specs.Vec.{vec_len, vec_capacity};
+ghost use Rattle.std.specs.FinMap as map;
+ghost use Rattle.chart_model.specs.Attrs.{AreRising, attrs_of, set_attr, set_attrs, texts_by_code};
+
+use crate::octets::Octets;
+use crate::record::Attr;
+use std::alloc::{AllocError, Global};
+use std::marker::Model;
+
+/// The text that removes an attribute: the delete character alone (S-57 Part 3).
+const DELETED: [u8; 1] = [0x7F];
+
+/// Attributes by code. Contracts see a finite map from codes to texts.
+///
+/// Records have few attributes, so these stand in one block, in the order of their codes.
+#[derive(Debug, Drop)]
+pub struct AttrMap {
+    attrs: Vec<Attr>,
+}
+
+impl Model for AttrMap {
+    ghost use Rattle.std.specs.Prelude.{List, ℕ};
+    ghost use Rattle.std.specs.Coded.{coded_list, coded_ℕ};
+    ghost use Rattle.std.specs.Ordering.{nat_cmp};
+    ghost use Rattle.std.specs.FinMap as map;
+    ghost use Rattle.chart_model.specs.Attrs.{AreRising, attrs_of};
+
+    ghost Value = { map.FinMap nat_cmp (List ℕ) };
+
+    ghost coded = { map.code coded_ℕ (coded_list coded_ℕ) };
+
+    ghost view = { λ a. attrs_of a.attrs.items };
+
+    ghost invariant = { λ a. AreRising a.attrs.items };
+}
+
+/// Where the attribute with a code stands, or where it would have to stand.
+fn place_of(attrs: &[Attr], code: u16) -> Result<usize, usize>
+    requires { AreRising attrs.now }
+    ensures bound { IsSearchInRange result (length attrs.now) }
+    ensures found { IfOk result (HoldsAt (λ attr. nat_cmp attr.code code ≡ Equal) attrs.now) }
+    ensures parted { IfErr result (IsPartitionPoint (λ attr. nat_cmp attr.code code ≡ Less) (λ attr. nat_cmp attr.code code ≡ Greater) attrs.now) }
+{
+    attrs.binary_search_by_key(&code, |attr| attr.code)
+}
+
+/// Puts a text under a code, in place of what is there. It takes no memory.
+fn put(attrs: &mut Vec<Attr>, code: u16, value: Octets)
+    requires rising { AreRising attrs.old.items }
+    requires room { vec_len attrs.old < vec_capacity attrs.old }
+    ensures map { attrs_of attrs.new.items ≡ map.insert (attrs_of attrs.old.items) code value }
+    ensures rising { AreRising attrs.new.items }
+    ensures len { vec_len attrs.new ≤ vec_len attrs.old + 1 }
+    ensures capacity { vec_capacity attrs.old ≤ vec_capacity attrs.new }
+{
+    match place_of(attrs.as_slice(), code) {
+        Ok(place) => attrs[place] = Attr { code, value },
+        Err(place) => match attrs.insert(place, Attr { code, value }) {
+            Ok(()) => {}
+            Err(_) => unreachable!(),
+        },
+    }
+}
+
+/// Takes out the attribute with a code. It takes no memory.
+fn take_out(attrs: &mut Vec<Attr>, code: u16) -> Option<Octets>
+    requires { AreRising attrs.old.items }
+    ensures value { result ≡ map.get (attrs_of attrs.old.items) code }
+    ensures map { attrs_of attrs.new.items ≡ map.remove (attrs_of attrs.old.items) code }
+    ensures rising { AreRising attrs.new.items }
+    ensures len { vec_len attrs.new ≤ vec_len attrs.old }
+    ensures capacity { vec_capacity attrs.old ≤ vec_capacity attrs.new }
+{
+    match place_of(attrs.as_slice(), code) {
+        Ok(place) => Some(attrs.remove(place).value),
+        Err(_) => None,
+    }
+}
+
+/// Sets or removes one attribute. It takes no memory.
+fn set_one(attrs: &mut Vec<Attr>, setting: Attr)
+    requires rising { AreRising attrs.old.items }
+    requires room { vec_len attrs.old < vec_capacity attrs.old }
+    ensures map { attrs_of attrs.new.items ≡ set_attr (attrs_of attrs.old.items) setting }
+    ensures rising { AreRising attrs.new.items }
+    ensures len { vec_len attrs.new ≤ vec_len attrs.old + 1 }
+    ensures capacity { vec_capacity attrs.old ≤ vec_capacity attrs.new }
+{
+    if setting.value.as_slice() == DELETED.as_slice() {
+        let _ = take_out(attrs, setting.code);
+    } else {
+        put(attrs, setting.code, setting.value);
+    }
+}
+
+/// Sets or removes attributes one after the other. It takes no memory.
+fn set_each(attrs: &mut Vec<Attr>, settings: Vec<Attr>)
+    requires rising { AreRising attrs.old.items }
+    requires room { vec_len attrs.old + vec_len settings ≤ vec_capacity attrs.old }
+    ensures map { attrs_of attrs.new.items ≡ set_attrs (attrs_of attrs.old.items) settings.items }
+    ensures rising { AreRising attrs.new.items }
+{
+    for setting in settings {
+        set_one(attrs, setting);
+    }
+}
+
+impl AttrMap {
+    /// A map without an attribute. It takes no memory.
+    pub fn new(alloc: Global) -> AttrMap
+        ensures { result ≡ map.empty }
+    {
+        AttrMap {
+            attrs: Vec::new(alloc),
+        }
+    }
+
+    /// The number of attributes. It takes no memory.
+    pub fn len(&self) -> usize
+        ensures { result ≡ map.len self.now }
+    {
+        self.attrs.len()
+    }
+
+    /// The attributes in the order of their codes. It takes no memory.
+    pub fn as_slice(&self) -> &[Attr]
+        ensures { texts_by_code result.now ≡ map.entries self.now }
+    {
+        self.attrs.as_slice()
+    }
+
+    /// The text under a code. It takes no memory.
+    pub fn get(&self, code: u16) -> Option<&Octets>
+        ensures { option_copied result ≡ map.get self.now code }
+    {
+        match place_of(self.attrs.as_slice(), code) {
+            Ok(place) => Some(&self.attrs[place].value),
+            Err(_) => None,
+        }
+    }
+
+    /// Puts a text under a code, in place of what is there. Where there is no memory nothing changes.
+    pub fn set(&mut self, code: u16, value: Octets) -> Result<(), AllocError>
+        ensures ok { OnOk result (self.new ≡ map.insert self.old code value) }
+        ensures err { OnErr result (self.new ≡ self.old) }
+    {
+        self.attrs.reserve(1)?;
+        put(&mut self.attrs, code, value);
+        Ok(())
+    }
+
+    /// Takes out the text under a code, and answers it. It takes no memory.
+    pub fn remove(&mut self, code: u16) -> Option<Octets>
+        ensures value { result ≡ map.get self.old code }
+        ensures map { self.new ≡ map.remove self.old code }
+    {
+        take_out(&mut self.attrs, code)
+    }
+
+    /// Sets attributes one after the other, where the single byte 0x7F removes one. Where there is no
+    /// memory nothing changes.
+    pub fn set_all(&mut self, alloc: Global, settings: &[Attr]) -> Result<(), AllocError>
+        ensures ok { OnOk result (self.new ≡ set_attrs self.old settings.now) }
+        ensures err { OnErr result (self.new ≡ self.old) }
+    {
+        let settings = settings.to_vec(alloc)?;
+        self.attrs.reserve(settings.len())?;
+        set_each(&mut self.attrs, settings);
+        Ok(())
+    }
+}
+
+impl Clone for AttrMap {
+    ghost is_clone = { λ attrs copy. copy ≡ attrs };
+
+    fn clone(&self) -> Result<AttrMap, AllocError> {
+        Ok(AttrMap {
+            attrs: self.attrs.clone()?,
+        })
+    }
+}

@@ -1,0 +1,15 @@
+//! Changes of what is held.
+
+use crate::key::Key;
+use crate::octets::Octets;
+
+/// A change of what is held.
+#[derive(Debug, Drop)]
+pub enum Command {
+    /// Takes over a whole cell file.
+    Load(Octets),
+    /// Keeps the files of a cell up to the one with this update number, and takes away a cancellation.
+    Rollback(Key, u32),
+    /// Takes away a cell with its files.
+    Drop(Key),
+}

@@ -1,0 +1,3 @@
+pub mod Orientation
+pub mod Segment
+pub mod EvenOdd

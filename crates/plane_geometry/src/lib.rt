@@ -1,0 +1,17 @@
+//! Points, segments and rings of the plane, in whole numbers and exact.
+#![tactic(auto)]
+
+mod even_odd;
+mod laws;
+mod orientation;
+mod point;
+mod ray;
+mod segment;
+#[cfg(test)]
+mod tests;
+
+pub use even_odd::inside_even_odd;
+pub use laws::crossing_is_a_place;
+pub use orientation::orient;
+pub use point::{Pt, Ring};
+pub use segment::on_segment;

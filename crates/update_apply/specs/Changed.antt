@@ -1,0 +1,109 @@
+-- A cell after a change of a record.
+use Rattle.std.specs.Prelude.{◌≡◌, ◌+◌, if◌then◌else◌, Option, Some, None}
+use Rattle.std.specs.Option.{unwrap_or}
+use Rattle.std.specs.FinMap as map
+use Rattle.chart_model.specs.declared.cell.Vector.{Vector}
+use Rattle.chart_model.specs.declared.cell.Feature.{Feature}
+use Rattle.chart_model.specs.Attrs.{set_attrs}
+use Rattle.chart_model.specs.Cell.{CellValue}
+use Rattle.chart_model.specs.Change.{Change}
+use Rattle.chart_model.specs.Record.{IsVectorName, IsFeatureName}
+use Rattle.chart_model.specs.Names.{name_cmp}
+use Rattle.update_apply.specs.Edited.{edited, IsEdited}
+use Rattle.update_apply.specs.Fault.{inserts, deletes, is_feature}
+
+-- ---- as a function
+
+-- what an insertion puts
+abbrev pub inserted_vector : Change → Vector
+inserted_vector change = record {
+  version = change.version;
+  attrs = set_attrs map.empty change.attrs;
+  pointers = change.pointers;
+  coords = change.coords;
+}
+
+-- every insertion of a feature has an identifier
+abbrev pub inserted_feature : Change → Feature
+inserted_feature change = record {
+  prim = change.prim;
+  grup = change.grup;
+  class = change.class;
+  version = change.version;
+  foid = unwrap_or change.foid (record { agen = 0; fidn = 0; fids = 0 });
+  attrs = set_attrs map.empty change.attrs;
+  related = change.related;
+  pointers = change.pointers;
+}
+
+-- what a modification makes of a record
+abbrev pub modified_vector : Change → Vector → Vector
+modified_vector change kept = record {
+  version = kept.version + 1;
+  attrs = set_attrs kept.attrs change.attrs;
+  pointers = edited change.pointer_edit change.pointers kept.pointers;
+  coords = edited change.coord_edit change.coords kept.coords;
+}
+
+abbrev pub modified_feature : Change → Feature → Feature
+modified_feature change kept = record {
+  prim = kept.prim;
+  grup = kept.grup;
+  class = kept.class;
+  version = kept.version + 1;
+  foid = kept.foid;
+  attrs = set_attrs kept.attrs change.attrs;
+  related = edited change.related_edit change.related kept.related;
+  pointers = edited change.pointer_edit change.pointers kept.pointers;
+}
+
+module _ {V : Type 0} (inserted : Change → V) (modified : Change → V → V) where
+  -- a record modified under its name, where there is one
+  abbrev pub modified_in : map.FinMap name_cmp V → Change → Option V → map.FinMap name_cmp V
+  modified_in records change None = records
+  modified_in records change (Some kept) = map.insert records change.target (modified change kept)
+
+  abbrev pub changed_in : map.FinMap name_cmp V → Change → map.FinMap name_cmp V
+  changed_in records change =
+      if inserts change then map.insert records change.target (inserted change)
+      else if deletes change then map.remove records change.target
+      else modified_in records change (map.get records change.target)
+
+-- the cell after the change
+abbrev pub changed : CellValue → Change → CellValue
+changed cell change =
+    if is_feature change.target
+    then record cell { features = changed_in inserted_feature modified_feature cell.features change }
+    else record cell { vectors = changed_in inserted_vector modified_vector cell.vectors change }
+
+-- ---- as a relation
+
+-- the version follows, attributes are set and lists edited
+pub record IsModifiedVector (change : Change) (kept made : Vector) : Type 0 where
+  pub version : made.version ≡ kept.version + 1
+  pub attrs : made.attrs ≡ set_attrs kept.attrs change.attrs
+  pub pointers : IsEdited change.pointer_edit change.pointers kept.pointers made.pointers
+  pub coords : IsEdited change.coord_edit change.coords kept.coords made.coords
+
+-- the same of a feature, which keeps what it is
+pub record IsModifiedFeature (change : Change) (kept made : Feature) : Type 0 where
+  pub prim : made.prim ≡ kept.prim
+  pub grup : made.grup ≡ kept.grup
+  pub class : made.class ≡ kept.class
+  pub foid : made.foid ≡ kept.foid
+  pub version : made.version ≡ kept.version + 1
+  pub attrs : made.attrs ≡ set_attrs kept.attrs change.attrs
+  pub related : IsEdited change.related_edit change.related kept.related made.related
+  pub pointers : IsEdited change.pointer_edit change.pointers kept.pointers made.pointers
+
+-- a record is new, is taken out, or is another under its name; all others stay
+pub record ChangesIn {V : Type 0} (inserted : Change → V) (IsModified : Change → V → V → Type 0) (change : Change) (records after : map.FinMap name_cmp V) : Type 0 where
+  pub insert : change.ruin ≡ 1 → (map.get records change.target ≡ None) × (after ≡ map.insert records change.target (inserted change))
+  pub delete : change.ruin ≡ 2 → after ≡ map.remove records change.target
+  pub modify : change.ruin ≡ 3 → (kept : V) × (made : V) × (map.get records change.target ≡ Some kept) × IsModified change kept made × (after ≡ map.insert records change.target made)
+
+-- the header and the records of the other kind stay
+pub record Changes (cell : CellValue) (change : Change) (after : CellValue) : Type 0 where
+  pub header : after.header ≡ cell.header
+  pub vector : IsVectorName change.target → ChangesIn inserted_vector IsModifiedVector change cell.vectors after.vectors × (after.features ≡ cell.features)
+  pub feature : IsFeatureName change.target → ChangesIn inserted_feature IsModifiedFeature change cell.features after.features × (after.vectors ≡ cell.vectors)

@@ -1,0 +1,158 @@
+-- The first fault of a change of a record, judged by what the cell has under its name.
+use Rattle.std.specs.Prelude.{ℕ, ◌+◌, ◌==◌, nat_lt, Bool, false, not, ◌&&◌, ◌||◌, if◌then◌else◌, List, [], ◌∷◌, length, Option, Some, None, Result, Ok, Err}
+use Rattle.std.specs.Option.{option_map, is_some}
+use Rattle.std.specs.Bool.{beq}
+use Rattle.std.specs.FinMap as map
+use Rattle.chart_model.specs.declared.name.Name.{Name}
+use Rattle.chart_model.specs.declared.name.Foid.{Foid}
+use Rattle.chart_model.specs.declared.record.Coord.{Coord}
+use Rattle.chart_model.specs.declared.cell.Vector.{Vector}
+use Rattle.chart_model.specs.declared.cell.Feature.{Feature}
+use Rattle.chart_model.specs.declared.update_record.Control.{Control}
+use Rattle.chart_model.specs.Cell.{CellValue}
+use Rattle.chart_model.specs.Change.{Change}
+use Rattle.update_apply.specs.declared.judge.Kept.{Kept}
+use Rattle.update_apply.specs.declared.fault.ChangeFault.{ChangeFault}
+use Rattle.update_apply.specs.declared.fault.ChangeFault.TheVariants as fault
+
+-- ---- what is kept
+
+-- the coordinates of one record are alike, so the first tells
+abbrev pub have_depths : List Coord → Bool
+have_depths [] = false
+have_depths (coord ∷ more) = is_some coord.z
+
+abbrev pub kept_vector : Vector → Kept
+kept_vector vector = record {
+  version = vector.version;
+  foid = None;
+  pointers = length vector.pointers;
+  coords = length vector.coords;
+  depths = have_depths vector.coords;
+  related = 0;
+}
+
+abbrev pub kept_feature : Feature → Kept
+kept_feature feature = record {
+  version = feature.version;
+  foid = Some feature.foid;
+  pointers = length feature.pointers;
+  coords = 0;
+  depths = false;
+  related = length feature.related;
+}
+
+abbrev pub is_feature : Name → Bool
+is_feature name = name.rcnm == 100
+
+abbrev pub kept_under : CellValue → Name → Option Kept
+kept_under cell name =
+    if is_feature name
+    then option_map kept_feature (map.get cell.features name)
+    else option_map kept_vector (map.get cell.vectors name)
+
+-- ---- the conditions
+
+abbrev pub inserts : Change → Bool
+inserts change = change.ruin == 1
+
+abbrev pub deletes : Change → Bool
+deletes change = change.ruin == 2
+
+abbrev pub modifies : Change → Bool
+modifies change = change.ruin == 3
+
+-- a fault where it is so
+abbrev pub when : Bool → ChangeFault → Option ChangeFault
+when so what = if so then Some what else None
+
+-- the kept version and 1, and in a deletion the kept version too
+abbrev pub fits_version : Change → ℕ → Bool
+fits_version change kept = (change.version == kept + 1) || (deletes change && (change.version == kept))
+
+abbrev pub same_foid : Foid → Foid → Bool
+same_foid x y = (x.agen == y.agen) && (x.fidn == y.fidn) && (x.fids == y.fids)
+
+-- an identifier that is given and isn't the one that is kept
+abbrev pub foid_fault : Name → Option Foid → Option Foid → Option ChangeFault
+foid_fault name (Some kept) (Some given) = when (not (same_foid kept given)) (fault.Foid name kept given)
+foid_fault name (Some kept) None = None
+foid_fault name None given = None
+
+-- items that are given without a control field
+abbrev pub control_fault : {A : Type 0} → Name → Option Control → List A → Option ChangeFault
+control_fault name None (item ∷ given) = Some (fault.NoControl name)
+control_fault name None [] = None
+control_fault name (Some control) given = None
+
+-- another number of items than the control field of an insertion or a replacement states
+abbrev pub count_fault : {A : Type 0} → Name → Option Control → List A → Option ChangeFault
+count_fault name None given = None
+count_fault name (Some control) given =
+    when (not (control.instruction == 2) && not (control.count == length given)) (fault.Count name control.count (length given))
+
+-- the place behind the last item that is deleted or replaced, from 1; of an insertion its own place
+abbrev pub behind : Control → ℕ
+behind control = if control.instruction == 1 then control.index else control.index + control.count
+
+-- a place 0, or one that is over the list's length
+abbrev pub index_fault : Name → Option Control → ℕ → Option ChangeFault
+index_fault name None kept = None
+index_fault name (Some control) kept = when ((control.index == 0) || nat_lt (kept + 1) (behind control)) (fault.Index name kept control.index)
+
+-- coordinates with depths put among coordinates without, or the other way round
+abbrev pub mixed_fault : Name → Option Control → Kept → List Coord → Option ChangeFault
+mixed_fault name None kept given = None
+mixed_fault name (Some control) kept [] = None
+mixed_fault name (Some control) kept (coord ∷ more) =
+    when (not (control.instruction == 2) && not (kept.coords == 0) && not (beq kept.depths (is_some coord.z))) (fault.Mixed name)
+
+-- ---- the first fault
+
+abbrev pub first_of : List (Option ChangeFault) → Option ChangeFault
+first_of [] = None
+first_of (None ∷ more) = first_of more
+first_of (Some what ∷ more) = Some what
+
+-- the faults of the three edits of a modification, in the order in which they count
+abbrev pub edit_faults : Change → Kept → List (Option ChangeFault)
+edit_faults change kept =
+    control_fault change.target change.pointer_edit change.pointers
+    ∷ control_fault change.target change.coord_edit change.coords
+    ∷ control_fault change.target change.related_edit change.related
+    ∷ count_fault change.target change.pointer_edit change.pointers
+    ∷ count_fault change.target change.coord_edit change.coords
+    ∷ count_fault change.target change.related_edit change.related
+    ∷ index_fault change.target change.pointer_edit kept.pointers
+    ∷ index_fault change.target change.coord_edit kept.coords
+    ∷ index_fault change.target change.related_edit kept.related
+    ∷ mixed_fault change.target change.coord_edit kept change.coords
+    ∷ []
+
+-- other changes edit no list
+abbrev pub edits_fault : Change → Kept → Option ChangeFault
+edits_fault change kept = if modifies change then first_of (edit_faults change kept) else None
+
+-- the faults of a change of a record that is kept, in the order in which they count
+abbrev pub kept_faults : Change → Kept → List (Option ChangeFault)
+kept_faults change kept =
+    when (inserts change) (fault.Present change.target)
+    ∷ when (not (fits_version change kept.version)) (fault.Version change.target kept.version change.version)
+    ∷ foid_fault change.target kept.foid change.foid
+    ∷ edits_fault change kept
+    ∷ []
+
+-- the first fault of a change, by what is kept under its name
+abbrev pub fault_by : Option Kept → Change → Option ChangeFault
+fault_by None change = when (not (inserts change)) (fault.Absent change.target)
+fault_by (Some kept) change = first_of (kept_faults change kept)
+
+-- the first fault of a change of a record of the cell
+abbrev pub fault_of : CellValue → Change → Option ChangeFault
+fault_of cell change = fault_by (kept_under cell change.target) change
+
+-- the fault that an answer tells: want of memory is none of the change
+abbrev pub told : Result (Unit {0}) ChangeFault → Option ChangeFault
+told (Ok done) = None
+told (Err fault.NoMemory) = None
+told (Err what) = Some what

@@ -1,0 +1,227 @@
+//! Whether a change fits the cell.
+
+ghost use Rattle.std.specs.Prelude.{◌≡◌, IsTrue, if◌then◌else◌};
+ghost use Rattle.update_apply.specs.Fault as spec;
+
+use crate::fault::ChangeFault;
+use chart_model::{Cell, Control, Coord, Feature, Foid, Name, UpdateRecord, Vector};
+
+/// The kind of features (S-57 Part 3, RCNM).
+pub const FEATURE: u8 = 100;
+
+/// The update instruction of a record or of a list (S-57 Part 3, RUIN).
+pub const INSERT: u8 = 1;
+
+/// The update instruction of a record or of a list (S-57 Part 3, RUIN).
+pub const DELETE: u8 = 2;
+
+/// The update instruction of a record or of a list (S-57 Part 3, RUIN).
+pub const MODIFY: u8 = 3;
+
+/// What a cell has under a name, as far as changes are judged by it.
+#[derive(Clone, Copy, Debug)]
+pub struct Kept {
+    pub version: u16,
+    /// `None` for a vector record.
+    pub foid: Option<Foid>,
+    /// How many pointers there are.
+    pub pointers: usize,
+    /// How many coordinates there are.
+    pub coords: usize,
+    /// Whether the coordinates have depths.
+    pub depths: bool,
+    /// How many related objects there are.
+    pub related: usize,
+}
+
+/// Whether coordinates have depths: those of one record are alike.
+fn have_depths(coords: &[Coord]) -> bool
+    ensures { result ≡ spec.have_depths coords.now }
+{
+    match coords.first() {
+        Some(coord) => coord.z.is_some(),
+        None => false,
+    }
+}
+
+fn kept_vector(vector: &Vector) -> Kept
+    ensures { result ≡ spec.kept_vector vector.now }
+{
+    let coords = vector.coords.as_slice();
+    Kept {
+        version: vector.version,
+        foid: None,
+        pointers: vector.pointers.as_slice().len(),
+        coords: coords.len(),
+        depths: have_depths(coords),
+        related: 0,
+    }
+}
+
+fn kept_feature(feature: &Feature) -> Kept
+    ensures { result ≡ spec.kept_feature feature.now }
+{
+    Kept {
+        version: feature.version,
+        foid: Some(feature.foid),
+        pointers: feature.pointers.as_slice().len(),
+        coords: 0,
+        depths: false,
+        related: feature.related.as_slice().len(),
+    }
+}
+
+/// What a cell has under a name.
+fn kept_under(cell: &Cell, name: Name) -> Option<Kept>
+    ensures { result ≡ spec.kept_under cell.now name }
+{
+    if name.rcnm == FEATURE {
+        cell.features.get(name).map(kept_feature)
+    } else {
+        cell.vectors.get(name).map(kept_vector)
+    }
+}
+
+/// The first fault of several.
+fn first_of(faults: &[Option<ChangeFault>]) -> Option<ChangeFault>
+    ensures { result ≡ spec.first_of faults.now }
+{
+    for fault in faults {
+        if fault.is_some() {
+            return *fault;
+        }
+    }
+    None
+}
+
+/// A fault where it is so.
+fn when(so: bool, fault: ChangeFault) -> Option<ChangeFault>
+    ensures { result ≡ spec.when so fault }
+{
+    if so { Some(fault) } else { None }
+}
+
+/// An identifier that is given and isn't the one that is kept.
+fn foid_fault(name: Name, kept: Option<Foid>, given: Option<Foid>) -> Option<ChangeFault>
+    ensures { result ≡ spec.foid_fault name kept given }
+{
+    match (kept, given) {
+        (Some(kept), Some(given)) => when(kept != given, ChangeFault::Foid { name, kept, given }),
+        _ => None,
+    }
+}
+
+/// Items that are given without a control field.
+fn control_fault<T>(name: Name, edit: Option<Control>, given: &[T]) -> Option<ChangeFault>
+    ensures { result ≡ spec.control_fault name edit given.now }
+{
+    let so = edit.is_none() && !given.is_empty();
+    when(so, ChangeFault::NoControl { name })
+}
+
+/// Another number of items than the control field of an insertion or a replacement states.
+fn count_fault<T>(name: Name, edit: Option<Control>, given: &[T]) -> Option<ChangeFault>
+    ensures { result ≡ spec.count_fault name edit given.now }
+{
+    let control = edit?;
+    let found = given.len();
+    let so = control.instruction != DELETE && control.count as usize != found;
+    when(
+        so,
+        ChangeFault::Count {
+            name,
+            stated: control.count,
+            found,
+        },
+    )
+}
+
+/// A place 0, or one that is over the list's length.
+fn index_fault(name: Name, edit: Option<Control>, length: usize) -> Option<ChangeFault>
+    ensures { result ≡ spec.index_fault name edit length }
+{
+    let control = edit?;
+    let index = control.index;
+    let mut behind = index as usize;
+    if control.instruction != INSERT {
+        behind += control.count as usize;
+    }
+    let so = index == 0 || behind - 1 > length;
+    when(
+        so,
+        ChangeFault::Index {
+            name,
+            length,
+            index,
+        },
+    )
+}
+
+/// Coordinates with depths put among coordinates without, or the other way round.
+fn mixed_fault(
+    name: Name,
+    edit: Option<Control>,
+    kept: &Kept,
+    given: &[Coord],
+) -> Option<ChangeFault>
+    ensures { result ≡ spec.mixed_fault name edit kept.now given.now }
+{
+    let control = edit?;
+    let coord = given.first()?;
+    let so = control.instruction != DELETE && kept.coords != 0 && kept.depths != coord.z.is_some();
+    when(so, ChangeFault::Mixed { name })
+}
+
+/// The first fault of the three edits of a modification.
+fn edits_fault(change: &UpdateRecord, kept: &Kept) -> Option<ChangeFault>
+    ensures { result ≡ spec.edits_fault change.now kept.now }
+{
+    if change.ruin != MODIFY {
+        return None;
+    }
+    let name = change.target;
+    let pointers = change.pointers.as_slice();
+    let coords = change.coords.as_slice();
+    let related = change.related.as_slice();
+    first_of(&[
+        control_fault(name, change.pointer_edit, pointers),
+        control_fault(name, change.coord_edit, coords),
+        control_fault(name, change.related_edit, related),
+        count_fault(name, change.pointer_edit, pointers),
+        count_fault(name, change.coord_edit, coords),
+        count_fault(name, change.related_edit, related),
+        index_fault(name, change.pointer_edit, kept.pointers),
+        index_fault(name, change.coord_edit, kept.coords),
+        index_fault(name, change.related_edit, kept.related),
+        mixed_fault(name, change.coord_edit, kept, coords),
+    ])
+}
+
+/// Whether a version follows the one that is kept, or in a deletion is the same.
+fn fits_version(change: &UpdateRecord, kept: u16) -> bool
+    ensures { result ≡ spec.fits_version change.now kept }
+{
+    change.version as u32 == kept as u32 + 1 || change.ruin == DELETE && change.version == kept
+}
+
+/// The first fault of a change of a record.
+pub fn fault_of(cell: &Cell, change: &UpdateRecord) -> Option<ChangeFault>
+    ensures { result ≡ spec.fault_of cell.now change.now }
+{
+    let name = change.target;
+    let inserts = change.ruin == INSERT;
+    let Some(kept) = kept_under(cell, name) else {
+        return when(!inserts, ChangeFault::Absent { name });
+    };
+    let version = ChangeFault::Version {
+        name,
+        kept: kept.version,
+        given: change.version,
+    };
+    first_of(&[
+        when(inserts, ChangeFault::Present { name }),
+        when(!fits_version(change, kept.version), version),
+        foid_fault(name, kept.foid, change.foid),
+        edits_fault(change, &kept),
+    ])
+}

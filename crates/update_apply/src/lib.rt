@@ -1,0 +1,13 @@
+//! One change of a record, made to a cell (S-57 Part 3, section 8).
+#![tactic(auto)]
+
+mod apply;
+mod edit;
+mod fault;
+mod judge;
+mod laws;
+mod record;
+
+pub use apply::apply_record;
+pub use fault::ChangeFault;
+pub use laws::{cells_are_kept, headers_are_kept, one_cell_follows};
