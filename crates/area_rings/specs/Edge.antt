@@ -1,0 +1,68 @@
+-- Nodes, and edges between them (S-57 Part 3, chain-node topology).
+use Rattle.std.specs.Prelude.{Bool, ◌&&◌, ◌||◌, ◌==◌, if◌then◌else◌, List, [], ◌∷◌, ◌++◌, map, reverse, slice_get, Option, Some, None, option_map}
+use Rattle.std.specs.FinMap as finite
+use Rattle.chart_model.specs.declared.name.Name.{Name}
+use Rattle.chart_model.specs.declared.record.Coord.{Coord}
+use Rattle.chart_model.specs.declared.record.Pointer.{Pointer}
+use Rattle.chart_model.specs.declared.cell.Vector.{Vector}
+use Rattle.chart_model.specs.Cell.{CellValue}
+use Rattle.plane_geometry.specs.declared.point.Pt.{Pt}
+use Rattle.area_rings.specs.Choice.{◌>>=◌}
+
+-- an isolated node or a connected node
+abbrev pub is_node : Name → Bool
+is_node name = (name.rcnm == 110) || (name.rcnm == 120)
+
+-- the node of that name
+abbrev pub node_of : CellValue → Name → Option Vector
+node_of cell name = if is_node name then finite.get cell.vectors name else None
+
+abbrev pub point_of : Coord → Pt
+point_of coord = record { x = coord.x; y = coord.y }
+
+-- where a node is: its first coordinate
+unfoldable pub place_of : CellValue → Name → Option Pt
+place_of cell name = do
+  node ← node_of cell name
+  coord ← slice_get node.coords 0
+  Some (point_of coord)
+
+-- two pointers are to a begin node and to an end node
+abbrev pub begins_and_ends : Pointer → Pointer → Bool
+begins_and_ends p q = (p.topi == 1) && (q.topi == 2)
+
+-- the begin node and the end node, where there is one pointer to each and no other
+unfoldable pub ends_of : List Pointer → Option (Name × Name)
+ends_of (p ∷ q ∷ []) =
+    if begins_and_ends p q then Some (p.target, q.target) else (
+    if begins_and_ends q p then Some (q.target, p.target) else None)
+ends_of pointers = None
+
+-- an edge on the way from one of its nodes to the other, with all points of the way
+pub record EdgeValue : Type 0 where
+  pub from : Name
+  pub to : Name
+  pub points : List Pt
+
+-- an edge from its begin node by its own points to its end node
+unfoldable pub edge_of : CellValue → Name → Option EdgeValue
+edge_of cell name =
+    if name.rcnm == 130 then (do
+      edge ← finite.get cell.vectors name
+      ends ← ends_of edge.pointers
+      begin ← place_of cell ends.0
+      end ← place_of cell ends.1
+      Some (record { from = ends.0; to = ends.1; points = begin ∷ map point_of edge.coords ++ end ∷ [] })) else None
+
+-- the same edge, in reverse or as it is
+abbrev pub turned : Bool → EdgeValue → EdgeValue
+turned reversed edge =
+    if reversed then record { from = edge.to; to = edge.from; points = reverse edge.points } else edge
+
+-- the line of an edge
+abbrev pub line_of : CellValue → Name → Bool → Option (List Pt)
+line_of cell name reversed = option_map (λ edge. (turned reversed edge).points) (edge_of cell name)
+
+-- the edge that a pointer gives: orientation 2 is reverse
+abbrev pub edge_along : CellValue → Pointer → Option EdgeValue
+edge_along cell pointer = option_map (turned (pointer.ornt == 2)) (edge_of cell pointer.target)

@@ -1,0 +1,5 @@
+pub mod Choice
+pub mod Edge
+pub mod Direction
+pub mod Rings
+pub mod Shape

@@ -1,0 +1,61 @@
+//! Where records point to.
+
+ghost use Rattle.std.specs.Prelude.{◌≡◌};
+ghost use Rattle.std.specs.List.{list_all};
+ghost use Rattle.chart_closure.specs.Closed.{has_record, absent_target, may_point, may_show};
+
+use chart_model::{Cell, Name, Pointer};
+
+const POINT: u8 = 1;
+
+const LINE: u8 = 2;
+
+const AREA: u8 = 3;
+
+const ISOLATED_NODE: u8 = 110;
+
+const CONNECTED_NODE: u8 = 120;
+
+pub(crate) const EDGE: u8 = 130;
+
+/// Whether the cell has a record of that name.
+fn is_in(cell: &Cell, name: Name) -> bool
+    ensures { result ≡ has_record cell.now name }
+{
+    cell.vectors.contains(name) || cell.features.contains(name)
+}
+
+/// The first target of which the cell has no record.
+pub(crate) fn first_absent(cell: &Cell, pointers: &[Pointer]) -> Option<Name>
+    ensures { result ≡ absent_target cell.now pointers.now }
+{
+    pointers
+        .iter()
+        .map(|pointer| pointer.target)
+        .find(|target| !is_in(cell, *target))
+}
+
+/// Whether each pointer of a vector record is one that it may have.
+pub(crate) fn points_rightly(name: Name, pointers: &[Pointer]) -> bool
+    ensures { result ≡ list_all (λ pointer. may_point name pointer.target) pointers.now }
+{
+    pointers.iter().all(|pointer| name.rcnm == EDGE && pointer.target.rcnm == CONNECTED_NODE)
+}
+
+/// Whether a feature of that primitive may point to that record.
+fn is_fit(prim: u8, target: Name) -> bool
+    ensures { result ≡ may_show prim target }
+{
+    match prim {
+        POINT => matches!(target.rcnm, ISOLATED_NODE | CONNECTED_NODE),
+        LINE | AREA => target.rcnm == EDGE,
+        _ => true,
+    }
+}
+
+/// Whether each pointer of a feature is one that it may have.
+pub(crate) fn shows_rightly(prim: u8, pointers: &[Pointer]) -> bool
+    ensures { result ≡ list_all (λ pointer. may_show prim pointer.target) pointers.now }
+{
+    pointers.iter().all(|pointer| is_fit(prim, pointer.target))
+}
