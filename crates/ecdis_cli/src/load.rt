@@ -1,6 +1,7 @@
 //! The command `load`.
 
-ghost use Rattle.std.specs.Prelude.{◌≡◌, ◌≤◌, IsTrue, IfOk, OnErr, Ok, Err, Option, length};
+ghost use Rattle.std.specs.Prelude.{◌≡◌, ◌≤◌, IsTrue, IfOk, OnErr, Ok, Err, Option, length, All};
+ghost use Rattle.chart_model.specs.Change.{IsChange};
 ghost use Rattle.std.specs.Option.{option_copied};
 ghost use Rattle.std.specs.FinMap as map;
 ghost use Rattle.chart_model.specs.State.{IsHolding, IsFileLength};
@@ -18,7 +19,9 @@ use chart_model::{Cell, Dataset, Header, Held, Holding, Key, Octets};
 use chart_ports::{Shelf, Steps};
 use std::alloc::Global;
 use std::sync::ledger::Ledger;
-use update_sequence::{Effect, build, judge, read_data_set};
+use update_sequence::{
+    Effect, build, charts_are_cells, files_are_data_sets, headers_follow, judge, read_data_set,
+};
 
 /// The cell of a file that was taken over, and the numbers that are held of it now.
 #[derive(Clone, Copy, Debug)]
@@ -90,10 +93,13 @@ fn take(
     file: Octets,
     live: &mut LiveCells,
 ) -> Result<Accepted, CommandFault>
-    requires { IsFileLength (length file) }
+    requires short { IsFileLength (length file) }
+    requires changes { All IsChange dataset.now.changes }
     ensures taken { GivesLoaded result live.new (taken live.old dataset.now file (map.get live.old.cells dataset.now.header.key)) }
     ensures err { OnErr result (live.new ≡ live.old) }
 {
+    charts_are_cells();
+    headers_follow();
     let key = dataset.header.key;
     let before = live.cells().get(key);
     let effect = judge(held_of(before), dataset)?;
@@ -116,6 +122,7 @@ fn take_over<C: Ledger>(
     ensures loaded { GivesLoaded result live.new (loaded live.old file) }
     ensures err { OnErr result (live.new ≡ live.old) }
 {
+    files_are_data_sets();
     if file.as_slice().len() as u64 > FILE_LIMIT {
         return Err(CommandFault::Refused(Refusal::FileLong(FILE_LIMIT)));
     }
