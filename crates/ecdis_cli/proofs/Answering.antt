@@ -1,8 +1,10 @@
 -- What a command answers, step by step.
 use Rattle.std.proofs.Common.{◌≡◌, ℕ, ◌≤◌, Bool, true, false, cond, List, length, leb, Option, Some, None, Result, Ok, Err, refl, sym, ◌∙◌, ap, subst}
-use Rattle.std.specs.Prelude.{IsErrOf, IsTrue}
+use Rattle.std.specs.Prelude.{IsErrOf, IsErrAnd, IsTrue}
+use Rattle.std.proofs.lemmas.Result.{err_from_is_err_and}
 use Rattle.chart_ports.specs.Count.{Rose}
 use Rattle.chart_ports.specs.Fetched.{fetched_of}
+use Rattle.chart_ports.specs.declared.shelf.Fetched.{Fetched}
 use Rattle.chart_ports.specs.declared.shelf.Fetched.TheVariants.{Bytes, Long}
 use Rattle.chart_ports.specs.declared.shelf.ShelfError.{ShelfError}
 use Rattle.chart_ports.specs.declared.shelf.ShelfError.TheVariants as of_shelf
@@ -37,7 +39,14 @@ Marked-map a b P Q f x = record { mark = x.mark; is_so = f x.mark x.is_so; cause
 
 -- no fetch failed
 pub Marked-served : (a b : ℕ) (P : Bool → Type 0) → P false → Marked a b P
-Marked-served a b P h = record { mark = false; is_so = h; cause = λ t. absurd t }
+Marked-served a b P h = record { mark = false; is_so = h; cause = λ t. absurd (let f : false ≡ true = t in cc) }
+
+-- a fault ends the command, whatever its fetch was
+pub Marked-stop : {A : Type 0} (a b : ℕ) (r : Result A CommandFault) (fault : CommandFault) (wanted : Bool → Result A Refusal) → IsErrAnd r (λ y. y ≡ fault)
+    → Marked a b (λ failed. Gives (Err fault) (wanted failed)) → Marked a b (λ failed. Gives r (wanted failed))
+Marked-stop {A = A} a b r fault wanted stopped x =
+    let p = err_from_is_err_and r stopped in
+    subst (λ (s : Result A CommandFault). Marked a b (λ failed. Gives s (wanted failed))) (sym (p.1 ∙ ap Err p.2)) x
 
 -- ---- steps
 
@@ -68,18 +77,20 @@ file_or_none-fetched name None = refl
 file_or_none-fetched name (Some bytes) =
     elim (leb (length bytes) FILE_LIMIT) as (λ b. cond b (Ok bytes) (Err (FileLong FILE_LIMIT)) ≡ file_in name (cond b (Bytes bytes) Long)) [ true ↦ refl | false ↦ refl ]
 
-pub fetched-found : (files : Files) (name : List ℕ) (a b : ℕ) (answer : Result (List ℕ) CommandFault) → Gives answer (file_in name (fetched_of FILE_LIMIT (files name)))
+pub fetched-found : (files : Files) (name shown : List ℕ) (a b : ℕ) (answer : Result (List ℕ) CommandFault) (fetched' : Fetched)
+    → shown ≡ name → fetched' ≡ fetched_of FILE_LIMIT (files shown) → Gives answer (file_in name fetched')
     → Marked a b (λ failed. Gives answer (fetched files failed name))
 unfolding fetched
-fetched-found files name a b answer h =
-    Marked-served a b (λ failed. Gives answer (fetched files failed name)) (subst (Gives answer) (sym (file_or_none-fetched name (files name))) h)
+fetched-found files name shown a b answer fetched' same is h =
+    Marked-served a b (λ failed. Gives answer (fetched files failed name))
+    (subst (Gives answer) (ap (file_in name) (is ∙ ap (λ (n : List ℕ). fetched_of FILE_LIMIT (files n)) same) ∙ sym (file_or_none-fetched name (files name))) h)
 
 -- a fetch that gives nothing
-pub fetched-failed : (files : Files) (name : List ℕ) (a b : ℕ) (fault : ShelfError) → (IsErrOf {T = Unit {0}} (Err fault) of_shelf.Failed → Rose a b)
+pub fetched-failed : (files : Files) (name : List ℕ) (a b : ℕ) (fault : ShelfError) → (IsErrOf {T = Fetched} (Err fault) of_shelf.Failed → Rose a b)
     → Marked a b (λ failed. Gives {A = List ℕ} (Err (fault_of_shelf fault)) (fetched files failed name))
 unfolding fetched
 fetched-failed files name a b of_shelf.Failed cause = record { mark = true; is_so = refl; cause = λ _. cause refl }
-fetched-failed files name a b of_shelf.NoMemory cause = record { mark = false; is_so = tt; cause = λ t. absurd t }
+fetched-failed files name a b of_shelf.NoMemory cause = record { mark = false; is_so = tt; cause = λ t. absurd (let f : false ≡ true = t in cc) }
 
 -- ---- info
 
@@ -87,9 +98,17 @@ pub info_of-stop : (fault : CommandFault) (file : Result (List ℕ) Refusal) →
 unfolding info_of
 info_of-stop fault file h = Gives-stop fault file _ h
 
-pub info_of-next : (answer : Result General CommandFault) (file : Result (List ℕ) Refusal) (bytes : List ℕ) → Gives (Ok bytes) file → Gives answer (or_refused Read (general_in bytes)) → Gives answer (info_of file)
+-- the file that was fetched is none that tells of itself
+pub info_of-read : (file : Result (List ℕ) Refusal) (bytes shown : List ℕ) (fault : ReadFault) → shown ≡ bytes → GivesRead (Err fault) (general_in shown) → Gives (Ok bytes) file → Gives {A = General} (Err (fault_of_read fault)) (info_of file)
 unfolding info_of
-info_of-next answer file bytes h x = Gives-next answer file bytes _ h x
+info_of-read file bytes shown fault same h x =
+    Gives-next (Err (fault_of_read fault)) file bytes _ x
+    (Gives-read fault (general_in bytes) (subst (λ (l : List ℕ). GivesRead (Err fault) (general_in l)) same h))
+
+pub info_of-done : (file : Result (List ℕ) Refusal) (bytes shown : List ℕ) (general : General) → shown ≡ bytes → general_in shown ≡ Ok general → Gives (Ok bytes) file → Gives (Ok general) (info_of file)
+unfolding info_of
+info_of-done file bytes shown general same h x =
+    Gives-next (Ok general) file bytes (λ l. or_refused Read (general_in l)) x (ap (λ (l : List ℕ). or_refused Read (general_in l)) (sym same) ∙ ap (or_refused Read) h)
 
 -- ---- load
 

@@ -213,3 +213,53 @@ pub store_within-room : (cells : HoldingsByKey) (count : ℕ) → live_bytes cel
 store_within-room cells count is within =
     ap (λ (n : ℕ). cond (leb n STORE_LIMIT) (Ok (record { cells = cells })) (Err (StoreFull n))) is
     ∙ ap (λ (b : Bool). cond b (Ok (record { cells = cells })) (Err (StoreFull count))) (let yes : leb count STORE_LIMIT ≡ true = grind (arith, nat_tests) in yes)
+
+-- ---- a cell put in
+
+-- the cells with this one, its files as they follow
+abbrev pub cells_after : StateValue → List ℕ → Effect → Held → Option CellValue → List ℕ → HoldingsByKey
+cells_after state key effect held chart file =
+    map.insert state.cells key (record { held = held; files = files_after (map.get state.cells key) effect file; chart = chart })
+
+pub IsState-after : (state : StateValue) (cells : HoldingsByKey) (key : List ℕ) (effect : Effect) (held : Held) (chart : Option CellValue) (file : List ℕ)
+    → cells ≡ cells_after state key effect held chart file
+    → IsState state → IsHeld held → IsFileLength (length file) → (chart ≡ None) ↔ (held.cancelled ≡ true) → IfSome chart (IsChartOf key held)
+    → IsState (record { cells = cells })
+IsState-after state cells key effect held chart file e h numbers short cancelled is =
+    subst (λ (m : HoldingsByKey). IsState (record { cells = m })) (sym e)
+    (IsState-insert state key _ h (IsHolding-after state key effect held chart file h numbers short cancelled is))
+
+-- the count that is kept of the bytes, after the file
+pub count-after : (state : StateValue) (count replaced : ℕ) (before : Option Holding) (key : List ℕ) (effect : Effect) (held : Held) (chart : Option CellValue) (file bytes : List ℕ)
+    → count ≡ live_bytes state.cells → before ≡ map.get state.cells key → replaced ≡ replaced_bytes before effect → bytes ≡ file
+    → live_bytes (cells_after state key effect held chart file) ≡ count - replaced + length bytes
+count-after state count replaced before key effect held chart file bytes counted found same whole =
+    live_bytes-put state.cells key effect file _ count counted refl
+    ∙ ap (λ (n : ℕ). count - n + length file) (sym (same ∙ ap (λ (o : Option Holding). replaced_bytes o effect) found))
+    ∙ ap (λ (l : List ℕ). count - replaced + length l) (sym whole)
+
+pub put-full : (state now : StateValue) (count replaced : ℕ) (before : Option Holding) (key : List ℕ) (effect : Effect) (held : Held) (chart : Option CellValue) (file bytes : List ℕ)
+    → state ≡ now → count ≡ live_bytes state.cells → before ≡ map.get state.cells key → replaced ≡ replaced_bytes before effect → bytes ≡ file
+    → STORE_LIMIT < count - replaced + length bytes
+    → store_within (cells_after now key effect held chart file) ≡ Err (StoreFull (count - replaced + length bytes))
+put-full state now count replaced before key effect held chart file bytes seen counted found same whole over =
+    ap (λ (s : StateValue). store_within (cells_after s key effect held chart file)) (sym seen)
+    ∙ store_within-full (cells_after state key effect held chart file) (count - replaced + length bytes) (count-after state count replaced before key effect held chart file bytes counted found same whole) over
+
+pub put-counted : (state after : StateValue) (count replaced : ℕ) (before : Option Holding) (key : List ℕ) (effect : Effect) (held : Held) (chart : Option CellValue) (file bytes : List ℕ)
+    → after ≡ record { cells = cells_after state key effect held chart file } → count ≡ live_bytes state.cells → before ≡ map.get state.cells key → replaced ≡ replaced_bytes before effect → bytes ≡ file
+    → count - replaced + length bytes ≤ STORE_LIMIT
+    → IsCounted after (count - replaced + length bytes)
+put-counted state after count replaced before key effect held chart file bytes done counted found same whole within = record {
+  counted = sym (ap (λ (s : StateValue). live_bytes s.cells) done ∙ count-after state count replaced before key effect held chart file bytes counted found same whole);
+  within = within;
+}
+
+pub put-done : (state now after : StateValue) (count replaced : ℕ) (before : Option Holding) (key : List ℕ) (effect : Effect) (held : Held) (chart : Option CellValue) (file bytes : List ℕ)
+    → state ≡ now → after ≡ record { cells = cells_after state key effect held chart file } → count ≡ live_bytes state.cells → before ≡ map.get state.cells key → replaced ≡ replaced_bytes before effect → bytes ≡ file
+    → count - replaced + length bytes ≤ STORE_LIMIT
+    → store_within (cells_after now key effect held chart file) ≡ Ok after
+put-done state now after count replaced before key effect held chart file bytes seen done counted found same whole within =
+    ap (λ (s : StateValue). store_within (cells_after s key effect held chart file)) (sym seen)
+    ∙ store_within-room (cells_after state key effect held chart file) (count - replaced + length bytes) (count-after state count replaced before key effect held chart file bytes counted found same whole) within
+    ∙ ap Ok (sym done)

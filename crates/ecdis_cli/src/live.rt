@@ -119,6 +119,26 @@ fn holding(state: &State, key: Key) -> Option<&Holding>
 }
 
 /// Puts a file in: it replaces the live files of its cell or follows them.
+fn put_in(
+    alloc: Global,
+    cells: &mut HoldingMap,
+    key: Key,
+    effect: Effect,
+    held: Held,
+    chart: Option<Cell>,
+    file: Octets,
+) -> Result<(), AllocError>
+    ensures ok { OnOk result (cells.new ≡ map.insert cells.old key (record { held = held; files = files_after (map.get cells.old key) effect file; chart = chart })) }
+    ensures err { OnErr result (cells.new ≡ cells.old) }
+{
+    if effect == Effect::Replace || !cells.contains(key) {
+        begin(alloc, cells, key, held, chart, file)
+    } else {
+        follow(alloc, cells, key, held, chart, file)
+    }
+}
+
+/// Puts a file and what it leaves of its cell into what is held.
 fn put(
     alloc: Global,
     state: &mut State,
@@ -135,12 +155,8 @@ fn put(
     ensures ok { OnOk result (state.new ≡ record { cells = map.insert state.old.cells key (record { held = held; files = files_after (map.get state.old.cells key) effect file; chart = chart }) }) }
     ensures err { OnErr result (state.new ≡ state.old) }
 {
-    let cells = &mut state.cells;
-    if effect == Effect::Replace || !cells.contains(key) {
-        begin(alloc, cells, key, held, chart, file)
-    } else {
-        follow(alloc, cells, key, held, chart, file)
-    }
+    put_in(alloc, &mut state.cells, key, effect, held, chart, file)?;
+    Ok(())
 }
 
 impl LiveCells {
