@@ -19,8 +19,14 @@ use Rattle.update_sequence.specs.declared.fault.SequenceFault.TheVariants.{Editi
 use Rattle.update_sequence.specs.declared.fault.BuildFault.{BuildFault}
 use Rattle.ecdis_cli.specs.declared.refusal.Refusal.{Refusal}
 use Rattle.ecdis_cli.specs.declared.refusal.Refusal.TheVariants.{Build}
-use Rattle.ecdis_cli.specs.Commands.{◌>>=◌, or_refused}
-use Rattle.ecdis_cli.specs.Load.{held_of, chart_of, held_after, chart_after, IsBuildable, IsJudged}
+use Rattle.ecdis_cli.specs.Commands.{◌>>=◌, or_refused, Gives}
+use Rattle.ecdis_cli.specs.Marked.{Marked}
+use Rattle.ecdis_cli.specs.declared.fault.CommandFault.{CommandFault}
+use Rattle.ecdis_cli.specs.declared.load.Accepted.{Accepted}
+use Rattle.chart_model.specs.State.{StateValue}
+use Rattle.std.specs.Result.{IsErrAnd}
+use Rattle.std.proofs.lemmas.Result.{err_from_is_err_and}
+use Rattle.ecdis_cli.specs.Load.{held_of, chart_of, held_after, chart_after, IsBuildable, IsJudged, Loaded, GivesLoaded}
 
 -- ---- what is judged
 
@@ -184,3 +190,12 @@ module _
   pub judged-chart : (before : Option Holding) (dataset : DatasetValue) (effect : Effect) (chart : Option CellValue) → IfSome before (IsHolding dataset.header.key) → IsDataset dataset → All IsChange dataset.changes →
     judged (held_of before) dataset ≡ Ok effect → chart_after (chart_of before) effect dataset ≡ Ok chart → IfSome chart (IsChartOf dataset.header.key (held_after before effect dataset.header))
   judged-chart before dataset effect chart h is changes e made = chart_by_effect before dataset effect chart h is changes (effect_says (held_of before) dataset effect e) made
+
+-- ---- the command
+
+-- a fault ends the command, whatever its fetch was
+pub Marked-refused : (a b : ℕ) (r : Result Accepted CommandFault) (state : StateValue) (fault : CommandFault) (wanted : Bool → Result Loaded Refusal) → IsErrAnd r (λ y. y ≡ fault)
+    → Marked a b (λ failed. Gives {A = Loaded} (Err fault) (wanted failed)) → Marked a b (λ failed. GivesLoaded r state (wanted failed))
+Marked-refused a b r state fault wanted stopped x =
+    let p = err_from_is_err_and r stopped in
+    subst (λ (s : Result Accepted CommandFault). Marked a b (λ failed. GivesLoaded s state (wanted failed))) (sym (p.1 ∙ ap Err p.2)) x
