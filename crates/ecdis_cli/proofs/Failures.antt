@@ -136,6 +136,9 @@ or_refused-served : {A E : Type 0} (refusal : E → Refusal) (r : Result A E) �
 or_refused-served refusal (Ok x) apart = λ e. cc
 or_refused-served refusal (Err fault) apart = λ e. apart fault (let same : refusal fault ≡ ShelfFault = cc in same)
 
+ok-served : {A : Type 0} (x : A) → Served (Ok x)
+ok-served x = λ e. cc
+
 within_limit-served : (file : List ℕ) → Served (within_limit file)
 within_limit-served file = elim (leb (length file) 8388608) as (λ b. Served (cond b (Ok file) (Err (FileLong 8388608)))) [ true ↦ λ e. cc | false ↦ λ e. cc ]
 
@@ -153,11 +156,11 @@ info_of-served file h = then-served file (λ bytes. or_refused Read (general_in 
 
 cells_within-served : (cells : HoldingsByKey) (key : List ℕ) → Served (cells_within cells key)
 cells_within-served cells key =
-    elim (not (map.contains_key cells key) && leb 32 (map.len cells)) as (λ b. Served (cond b (Err (CellsFull 32)) (Ok tt))) [ true ↦ λ e. cc | false ↦ λ e. cc ]
+    elim (not (map.contains_key cells key) && leb 32 (map.len cells)) as (λ b. Served (cond b (Err (CellsFull 32)) (Ok tt))) [ true ↦ λ e. cc | false ↦ ok-served tt ]
 
 store_within-served : (cells : HoldingsByKey) → Served (store_within cells)
 store_within-served cells =
-    elim (leb (live_bytes cells) 67108864) as (λ b. Served (cond b (Ok (record { cells = cells })) (Err (StoreFull (live_bytes cells))))) [ true ↦ λ e. cc | false ↦ λ e. cc ]
+    elim (leb (live_bytes cells) 67108864) as (λ b. Served {A = StateValue} (cond b (Ok (record { cells = cells })) (Err (StoreFull (live_bytes cells))))) [ true ↦ ok-served {A = StateValue} (record { cells = cells }) | false ↦ λ e. cc ]
 
 some-served : {A : Type 0} (r : Result A Refusal) → Served r → Served (r >>= λ x. Ok (Some x))
 some-served r h = then-served r (λ x. Ok (Some x)) h (λ x e. cc)

@@ -6,7 +6,7 @@ use Rattle.std.proofs.lemmas.Bool.Decides.{nat_tests}
 use Rattle.std.proofs.lemmas.List.{append-nil, take-append-drop, take_more}
 use Rattle.std.proofs.lemmas.List.Elements.{All-nil, All-cons, All-head, All-tail, All-append}
 use Rattle.std.proofs.lemmas.List.Sums.{sum_by-append, sum_by-cons}
-use Rattle.std.proofs.lemmas.Result.{on_err_weaker}
+use Rattle.std.proofs.lemmas.Result.{on_ok_weaker, on_err_weaker}
 use Rattle.std.proofs.Math.Seq.{take-append-add, take-append_seam}
 use Rattle.chart_ports.specs.Count.{Rose, RoseBy}
 use Rattle.chart_ports.specs.Said.{SaysFront}
@@ -121,9 +121,22 @@ Interrupted-said files state state' number line before now a b reply x f = recor
   cause = x.cause;
 }
 
--- nothing of a reply was said
-pub Interrupted-unsaid : (files : Files) (state : StateValue) (number : ℕ) (line before : List ℕ) (a b : ℕ) → Interrupted files state number line before before a b
-Interrupted-unsaid files state number line before a b = record { mark = false; front = (0, sym (append-nil before)); cause = λ t. absurd t }
+-- the answer to a line, by what is replied to it
+
+pub answer-silent : (files : Files) (state state' : StateValue) (number : ℕ) (line before : List ℕ) (a b : ℕ) (reply : Option Reply) → reply ≡ None
+    → Marked a b (IsTurn files state number line reply state') → Answered files state number line state' before before a b
+answer-silent files state state' number line before a b reply is x =
+    Answered-said files state state' number line before before a b reply x (sym (ap (λ (o : Option Reply). before ++ said_of o) is ∙ append-nil before))
+
+pub answer-said : {T E : Type 0} (r : Result T E) (files : Files) (state state' : StateValue) (number : ℕ) (line before now : List ℕ) (a b : ℕ) (reply : Option Reply) (spoken : Reply) → reply ≡ Some spoken
+    → Marked a b (IsTurn files state number line reply state') → OnOk r (now ≡ before ++ printed spoken) → OnOk r (Answered files state number line state' before now a b)
+answer-said r files state state' number line before now a b reply spoken is x = on_ok_weaker r (λ (said : now ≡ before ++ printed spoken).
+    Answered-said files state state' number line before now a b reply x (said ∙ ap (λ (o : Option Reply). before ++ said_of o) (sym is)))
+
+pub answer-front : {T E : Type 0} (r : Result T E) (files : Files) (state state' : StateValue) (number : ℕ) (line before now : List ℕ) (a b : ℕ) (reply : Option Reply) (spoken : Reply) → reply ≡ Some spoken
+    → Marked a b (IsTurn files state number line reply state') → OnErr r (SaysFront before (printed spoken) now) → OnErr r (Interrupted files state number line before now a b)
+answer-front r files state state' number line before now a b reply spoken is x = on_err_weaker r (λ (front : SaysFront before (printed spoken) now).
+    Interrupted-said files state state' number line before now a b spoken (subst (λ (o : Option Reply). Marked a b (IsTurn files state number line o state')) is x) front)
 
 -- Steps
 

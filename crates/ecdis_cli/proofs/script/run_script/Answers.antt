@@ -1,15 +1,16 @@
 -- The run goes on by the bytes that were pulled.
 use Rattle.std.proofs.Common.{◌≡◌, ◌≤◌, length-take-le, arith, refl, ap, ◌∙◌, inl}
 use Rattle.std.specs.Prelude.{Ok}
+use Rattle.ecdis_cli.specs.Progress.{Standing}
 use Rattle.ecdis_cli.proofs.Steps.{rose-fewer}
 use Rattle.ecdis_cli.proofs.Runs.{Underway-start, Underway-next, Underway-fault, Underway-long, Underway-halted, Underway-done, Underway-cut, pull-part, pull-whole, length-pull, given-more}
 use Rattle.ecdis_cli.proofs.script.run_script.Goals as goal
 
 pub loop-round-init : goal.loop-round-init
 loop-round-init g c = record {
-  underway = λ s l d. Underway-start _ _ _ _ _ _ c.new-reader.ensures.number c.new-reader.ensures.line;
+  underway = λ s l d. Underway-start _ _ _ _ _ c.new-reader.ensures;
   counted = λ s. omega arith;
-  number = omega arith;
+  number = omega (arith, ap (λ (at : Standing). at.number) c.new-reader.ensures);
   rounds = omega arith;
   given = inl (omega arith);
   same = λ l. refl;
@@ -19,11 +20,11 @@ loop-round-init g c = record {
 }
 
 pub returns-in-Err-clause-output : goal.returns-in-Err-clause-output
-returns-in-Err-clause-output g c = λ s l d. Underway-fault _ _ _ _ _ _ _ _ _ _ (c.in-Err.ensures.err s) (c.loop-round.invariant.underway s l d)
+returns-in-Err-clause-output g c = λ s l d. Underway-fault _ _ _ _ _ _ _ _ _ (c.in-Err.ensures.err s) (c.loop-round.invariant.underway s l d)
 
 pub returns-in-Err-finish-clause-output : goal.returns-in-Err-finish-clause-output
 returns-in-Err-finish-clause-output g c = λ s l d.
-    Underway-cut _ _ _ _ _ _ _ _ _ _ _ _ _ _ _ c.status.ensures (c.loop-round.invariant.same l)
+    Underway-cut _ _ _ _ _ _ _ _ _ _ _ _ _ _ c.status.ensures (c.loop-round.invariant.same l)
     c.loop-round.invariant.shelf_later c.finish.ensures.shelf_later c.loop-round.reader.unbroken (c.in-Ok.ensures.end s (omega arith) (let none : c.in-Ok.count ≡ 0 = omega arith in ap Ok none))
     (c.loop-round.invariant.underway s l d) (c.in-Err-finish.ensures.err l d)
 
@@ -35,14 +36,14 @@ returns-then-count-eq0-clause-output g c = λ s l d.
 
 pub returns-in-Err-take_all-clause-output : goal.returns-in-Err-take_all-clause-output
 returns-in-Err-take_all-clause-output g c = λ s l d.
-    Underway-halted _ _ _ _ _ _ _ _ _ _ _ _ _ _ _ _ _ c.status-in-Err-take_all.ensures (c.loop-round.invariant.same l)
+    Underway-halted _ _ _ _ _ _ _ _ _ _ _ _ _ _ _ _ c.status-in-Err-take_all.ensures (c.loop-round.invariant.same l)
     c.loop-round.invariant.shelf_later c.take_all.ensures.shelf_later
     (let part : c.min.result ≤ c.in-Ok.count = omega (arith, c.min.ensures) in pull-part c.min.result c.in-Ok.count c.pull.new.buf _ _ part (c.in-Ok.ensures.bytes s))
     (c.loop-round.invariant.underway s l d) (c.in-Err-take_all.ensures.err l d)
 
 pub returns-then-count-room-clause-output : goal.returns-then-count-room-clause-output
 returns-then-count-room-clause-output g c = λ s l d.
-    Underway-long _ _ _ _ _ _ _ c.loop-round.room _ _ _ _ _ _ _ _ _ _ (c.loop-round.invariant.same l)
+    Underway-long _ _ _ _ _ _ _ _ _ _ _ _ c.loop-round.room _ _ _ (c.loop-round.invariant.same l)
     c.loop-round.invariant.shelf_later c.take_all.ensures.shelf_later
     (let part : c.min.result ≤ c.in-Ok.count = omega (arith, c.min.ensures) in pull-part c.min.result c.in-Ok.count c.pull.new.buf _ _ part (c.in-Ok.ensures.bytes s))
     (length-take-le c.min.result c.pull.new.buf (omega (arith, c.in-Ok.ensures.within, c.min.ensures)) ∙ (let room : c.min.result ≡ c.loop-round.room = omega (arith, c.min.ensures) in room))
@@ -56,7 +57,7 @@ returns-then-count-room-clause-script_over g c = λ s e.
 pub loop-round-preserved : goal.loop-round-preserved
 loop-round-preserved g c = record {
   underway = λ s l d.
-      Underway-next _ _ _ _ _ _ _ _ _ _ _ _ _ _ _ _ (c.loop-round.invariant.same l)
+      Underway-next _ _ _ _ _ _ _ _ _ _ _ _ _ _ (c.loop-round.invariant.same l)
       c.loop-round.invariant.shelf_later c.take_all.ensures.shelf_later
       (let whole : c.min.result ≡ c.in-Ok.count = omega (arith, c.min.ensures) in pull-whole c.min.result c.in-Ok.count c.pull.new.buf _ _ whole (c.in-Ok.ensures.bytes s))
       (c.loop-round.invariant.underway s l d) (c.in_default-take_all.ensures.ok l d);
