@@ -1,11 +1,11 @@
 -- Whether there is a shape, by the kind of the feature.
-use Rattle.std.proofs.Common.{◌≡◌, ◌≢◌, ◌↔◌, suc, zero, Bool, true, false, List, [], ◌∷◌, get_or, All, Option, Some, None, is_some, IsSome, option_map, eqb, if◌then◌else◌, refl, sym, ◌∙◌, arith}
+use Rattle.std.proofs.Common.{◌≡◌, ◌≢◌, ◌↔◌, suc, zero, Bool, true, false, List, [], ◌∷◌, get_or, All, Option, Some, None, is_some, IsSome, IsSomeAnd, MatchOption, option_map, eqb, if◌then◌else◌, refl, sym, ap, ◌∙◌, arith}
 use Rattle.std.specs.List.{flat_map}
 use Rattle.std.proofs.lemmas.Bool.{false≢true, ne_eqb}
 use Rattle.chart_model.specs.declared.record.Pointer.{Pointer}
 use Rattle.chart_model.specs.declared.cell.Feature.{Feature}
 use Rattle.chart_model.specs.Cell.{CellValue}
-use Rattle.area_rings.specs.declared.shape.Shape.TheVariants.{Bare}
+use Rattle.area_rings.specs.declared.shape.Shape.TheVariants.{Points, Lines, Rings, Bare}
 use Rattle.area_rings.specs.Choice.{◌>>=◌, each}
 use Rattle.area_rings.specs.Edge.{node_of, edge_of, turned}
 use Rattle.area_rings.specs.Shape.{points_of, lines_of, rings_of, shape_of}
@@ -69,3 +69,29 @@ bare_shape cell feature f g h = rw (ne_eqb feature.prim 1 f, ne_eqb feature.prim
     some_where : (b : Bool) → b ≡ is_some (if b then Some Bare else None)
     some_where true = refl
     some_where false = refl
+
+-- what `map` makes of a value that may be absent
+pub mapped : {X Y : Type 0} (f : X → Y) (o : Option X) (r : Option Y) → MatchOption o (r ≡ None) (λ x. IsSomeAnd r (λ y. y ≡ f x)) → r ≡ option_map f o
+mapped f None r h = h
+mapped f (Some x) None h = absurd h
+mapped f (Some x) (Some y) h = ap Some h
+
+pub point_shape_is : (cell : CellValue) (feature : Feature) → feature.prim ≡ 1 → shape_of cell feature ≡ option_map Points (points_of cell feature.pointers)
+unfolding shape_of
+point_shape_is cell feature e = rw e refl
+
+pub line_shape_is : (cell : CellValue) (feature : Feature) → feature.prim ≡ 2 → shape_of cell feature ≡ option_map Lines (lines_of cell feature.pointers)
+unfolding shape_of
+line_shape_is cell feature e = rw e refl
+
+pub area_shape_is : (cell : CellValue) (feature : Feature) → feature.prim ≡ 3 → shape_of cell feature ≡ option_map Rings (rings_of cell feature.pointers)
+unfolding shape_of
+area_shape_is cell feature e = rw e refl
+
+pub bare_shape_is : (cell : CellValue) (feature : Feature) → feature.prim ≡ 255 → shape_of cell feature ≡ Some Bare
+unfolding shape_of
+bare_shape_is cell feature e = rw e refl
+
+pub no_shape : (cell : CellValue) (feature : Feature) → feature.prim ≢ 1 → feature.prim ≢ 2 → feature.prim ≢ 3 → feature.prim ≢ 255 → shape_of cell feature ≡ None
+unfolding shape_of
+no_shape cell feature f g h i = rw (ne_eqb feature.prim 1 f, ne_eqb feature.prim 2 g, ne_eqb feature.prim 3 h, ne_eqb feature.prim 255 i) refl

@@ -50,7 +50,7 @@ is_some-option_map f (Some x) = refl
 pub record Remains (cell : CellValue) (ring : Option OpenRing) (rest all : List Pointer) : Type 0 where
   pub same : is_some (chains_at cell ring rest) ≡ is_some (chains_at cell None all)
 
-at_pointer : (cell : CellValue) (ring : Option OpenRing) (pointers : List Pointer) (i : ℕ) (d : Pointer) → i < length pointers → chains_at cell ring (drop i pointers) ≡ chains_at cell ring (get_or pointers i d ∷ drop (i + 1) pointers)
+pub at_pointer : (cell : CellValue) (ring : Option OpenRing) (pointers : List Pointer) (i : ℕ) (d : Pointer) → i < length pointers → chains_at cell ring (drop i pointers) ≡ chains_at cell ring (get_or pointers i d ∷ drop (i + 1) pointers)
 at_pointer cell ring pointers i d h = rw (add-one, drop-cons pointers i d) refl
 
 none_left : (cell : CellValue) (ring : Option OpenRing) (pointers : List Pointer) (i : ℕ) (all : List Pointer) → Remains cell ring (drop i pointers) all → chains_at cell ring (drop i pointers) ≡ None → ¬ IsSome (chains_at cell None all)

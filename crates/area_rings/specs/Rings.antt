@@ -31,10 +31,14 @@ pub record IsRing (edges : List EdgeValue) : Type 0 where
   pub returns : Returns edges
   pub shortest : (front rest : List EdgeValue) → edges ≡ front ++ rest → Returns front → rest ≡ []
 
+-- the points without the last
+abbrev pub but_last : List Pt → List Pt
+but_last points = take (length points - 1) points
+
 -- the points round a ring, each node once: those of each edge without its last, which the next edge,
 -- or for the last edge the first, begins with
 abbrev pub ring_points : List EdgeValue → List Pt
-ring_points edges = flat_map (λ edge. take (length edge.points - 1) edge.points) edges
+ring_points edges = flat_map (λ edge. but_last edge.points) edges
 
 -- the rings that an area's pointers make: the pointers' edges are rings one after the other
 pub record HasRings (cell : CellValue) (pointers : List Pointer) (rings : List (List Pt)) : Type 0 where

@@ -3,9 +3,13 @@
 #![tactic(auto)]
 
 mod edge;
+mod line;
 mod presence;
+mod ring;
 mod shape;
 mod trace;
 
+pub use line::{Line, LineList, edge_line};
 pub use presence::{has_line, has_shape};
-pub use shape::{Line, LineList, RingList, Shape, edge_line, feature_shape, rings};
+pub use ring::{RingList, rings};
+pub use shape::{Shape, feature_shape};

@@ -5,7 +5,8 @@ ghost use Rattle.area_rings.specs.Shape.{line_of, rings_of, shape_of};
 ghost use Rattle.area_rings.specs.Edge.{node_of, edge_of};
 
 use crate::edge::{edge, node};
-use crate::shape::{AREA, BARE, LINE, POINT, REVERSE};
+use crate::line::REVERSE;
+use crate::shape::{AREA, BARE, LINE, POINT};
 use crate::trace::follow;
 use chart_model::{Cell, Feature, Name, Pointer};
 

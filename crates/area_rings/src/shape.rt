@@ -1,10 +1,12 @@
 //! The shape of a feature.
 
 ghost use Rattle.std.specs.Prelude.{◌≡◌, IfOk};
-ghost use Rattle.area_rings.specs.Shape.{line_of, rings_of, shape_of};
+ghost use Rattle.area_rings.specs.Shape.{points_of, shape_of};
 
-use chart_model::{Cell, Coords, Feature, Name, Sequence};
-use plane_geometry::{Pt, Ring};
+use crate::edge::node;
+use crate::line::{LineList, lines};
+use crate::ring::{RingList, rings};
+use chart_model::{Cell, Coords, Feature, Pointer, Sequence};
 use std::alloc::{AllocError, Global};
 
 /// The geometric primitives.
@@ -15,18 +17,6 @@ pub(crate) const LINE: u8 = 2;
 pub(crate) const AREA: u8 = 3;
 
 pub(crate) const BARE: u8 = 255;
-
-/// The orientation of a pointer that takes its edge from the end node to the begin node.
-pub(crate) const REVERSE: u8 = 2;
-
-/// The points of an edge from one of its nodes to the other.
-pub type Line = Sequence<Pt>;
-
-/// Lines in the order of a feature's pointers.
-pub type LineList = Sequence<Line>;
-
-/// The rings of an area in the order of its pointers.
-pub type RingList = Sequence<Ring>;
 
 /// The shape of a feature.
 #[derive(Debug, Drop)]
@@ -41,23 +31,22 @@ pub enum Shape {
     Bare,
 }
 
-pub fn edge_line(
-    alloc: Global,
-    cell: &Cell,
-    edge: Name,
-    reverse: bool,
-) -> Result<Option<Line>, AllocError>
-    ensures { IfOk result (λ line. line ≡ line_of cell.now edge reverse) }
+/// All coordinates of nodes, in order; `None` where one of them is no node of the cell.
+fn points(alloc: Global, cell: &Cell, pointers: &[Pointer]) -> Result<Option<Coords>, AllocError>
+    ensures { IfOk result (λ points. points ≡ points_of cell.now pointers.now) }
 {
-    Err(AllocError)
+    let mut coords = Vec::new(alloc);
+    for pointer in pointers {
+        let Some(node) = node(cell, pointer.target) else {
+            return Ok(None);
+        };
+        coords.extend_from_slice(node.coords.as_slice())?;
+    }
+    Ok(Some(Sequence::from_vec(coords)))
 }
 
-pub fn rings(alloc: Global, cell: &Cell, feature: &Feature) -> Result<Option<RingList>, AllocError>
-    ensures { IfOk result (λ rings. rings ≡ rings_of cell.now feature.now.pointers) }
-{
-    Err(AllocError)
-}
-
+/// The shape of a feature by its primitive: 1 a point, 2 a line, 3 an area, 255 none. `None` where one
+/// of its pointers is to no node, or to no edge with a line; and for an area without rings.
 pub fn feature_shape(
     alloc: Global,
     cell: &Cell,
@@ -65,5 +54,12 @@ pub fn feature_shape(
 ) -> Result<Option<Shape>, AllocError>
     ensures { IfOk result (λ shape. shape ≡ shape_of cell.now feature.now) }
 {
-    Err(AllocError)
+    let pointers = feature.pointers.as_slice();
+    match feature.prim {
+        POINT => Ok(points(alloc, cell, pointers)?.map(Shape::Points)),
+        LINE => Ok(lines(alloc, cell, pointers)?.map(Shape::Lines)),
+        AREA => Ok(rings(alloc, cell, feature)?.map(Shape::Rings)),
+        BARE => Ok(Some(Shape::Bare)),
+        _ => Ok(None),
+    }
 }

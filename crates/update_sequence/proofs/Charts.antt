@@ -1,12 +1,12 @@
 -- What holds of charts that are built.
-use Rattle.std.proofs.Common.{◌≡◌, ℕ, ◌≤◌, Bool, true, false, ◌↔◌, List, [], ◌∷◌, Option, Some, None, Result, Ok, Err, refl, sym, ◌∙◌, ap, subst, arith, IfSome, All}
+use Rattle.std.proofs.Common.{◌≡◌, ℕ, ◌≤◌, false, List, [], ◌∷◌, Option, Some, None, Result, Ok, Err, refl, sym, ◌∙◌, ap, subst, arith, IfSome, All}
 use Rattle.std.specs.List.{AllByRecursion}
 use Rattle.std.specs.Option.{option_map}
 use Rattle.std.proofs.lemmas.List.Elements.{recursion_from_All}
 use Rattle.std.proofs.lemmas.Bool.{true≢false}
 use Rattle.chart_model.specs.declared.dataset.Header.{Header}
 use Rattle.chart_model.specs.Names.{name_cmp}
-use Rattle.chart_model.specs.Cell.{CellValue, IsCell, IsChartHeader, IsVector, IsFeature, empty_cell}
+use Rattle.chart_model.specs.Cell.{CellValue, IsCell, IsChartHeader, IsVector, IsFeature}
 use Rattle.chart_model.specs.Change.{Change, IsChange}
 use Rattle.chart_model.specs.Dataset.{DatasetValue, IsDataset}
 use Rattle.chart_model.proofs.Maps.{each-empty}
@@ -15,14 +15,13 @@ use Rattle.update_apply.specs.Fault.{fault_of}
 use Rattle.update_apply.specs.Changed.{changed}
 use Rattle.update_sequence.specs.declared.fault.BuildFault.{BuildFault}
 use Rattle.update_sequence.specs.declared.fault.BuildFault.TheVariants as of_build
-use Rattle.update_sequence.specs.Built.{header_after, begun, unless, ◌>>=◌, folded, built}
-use Rattle.update_sequence.proofs.Folding.{after_change, folded-cons}
+use Rattle.update_sequence.specs.Built.{begun, unless, ◌>>=◌, folded, built}
 use Rattle.update_sequence.proofs.DataSets.{ok_is}
 
 -- ---- steps that succeed
 
 bind-ok : (r : Result CellValue BuildFault) (next : CellValue → Result CellValue BuildFault) (cell : CellValue) → (r >>= next) ≡ Ok cell →
-  (x : CellValue) × (r ≡ Ok x) × (next x ≡ Ok cell)
+    (x : CellValue) × (r ≡ Ok x) × (next x ≡ Ok cell)
 bind-ok (Ok x) next cell e = (x, refl, e)
 bind-ok (Err fault) next cell e = absurd cc
 
@@ -32,7 +31,7 @@ unless-ok wrap (Some fault) x cell e = absurd cc
 
 -- what a chart that is built is: what the changes leave, without a fault of closure
 pub built-ok : (chart : Option CellValue) (dataset : DatasetValue) (cell : CellValue) → built chart dataset ≡ Ok cell →
-  (folded (begun chart dataset.header) dataset.changes ≡ Ok cell) × (closure_fault cell ≡ None)
+    (folded (begun chart dataset.header) dataset.changes ≡ Ok cell) × (closure_fault cell ≡ None)
 unfolding built
 built-ok chart dataset cell e =
     let b = bind-ok (folded (begun chart dataset.header) dataset.changes) _ cell e in
@@ -41,7 +40,7 @@ built-ok chart dataset cell e =
 
 -- what holds of a cell, and of each cell that a change without a fault leaves, holds of what changes leave
 folded-keeps : (P : CellValue → Type 0) (Q : Change → Type 0) → ((cell : CellValue) (change : Change) → P cell → Q change → fault_of cell change ≡ None → P (changed cell change)) →
-  (cell after : CellValue) (changes : List Change) → P cell → AllByRecursion Q changes → folded cell changes ≡ Ok after → P after
+    (cell after : CellValue) (changes : List Change) → P cell → AllByRecursion Q changes → folded cell changes ≡ Ok after → P after
 unfolding folded
 folded-keeps P Q keeps cell after [] here each e = subst P (ok_is e) here
 folded-keeps P Q keeps cell after (change ∷ rest) here each e =
@@ -65,8 +64,8 @@ begun-cell None header is ranges = record { header = ranges; vectors = each-empt
 begun-cell (Some chart) header is ranges = record { header = record { edition = ranges.edition; update = ranges.update }; vectors = is.vectors; features = is.features }
 
 pub built-cell : ((cell : CellValue) (change : Change) → IsCell cell → IsChange change → fault_of cell change ≡ None → IsCell (changed cell change)) →
-  (chart : Option CellValue) (dataset : DatasetValue) (cell : CellValue) → IfSome chart IsCell → IsDataset dataset → All IsChange dataset.changes → dataset.cancels ≡ false →
-  built chart dataset ≡ Ok cell → IsCell cell
+    (chart : Option CellValue) (dataset : DatasetValue) (cell : CellValue) → IfSome chart IsCell → IsDataset dataset → All IsChange dataset.changes → dataset.cancels ≡ false →
+    built chart dataset ≡ Ok cell → IsCell cell
 built-cell keeps chart dataset cell is data_set changes stands e =
     folded-keeps IsCell IsChange keeps (begun chart dataset.header) cell dataset.changes (begun-cell chart dataset.header is (begun-header dataset data_set stands))
     (recursion_from_All IsChange dataset.changes changes) (built-ok chart dataset cell e).0
@@ -78,7 +77,7 @@ any_change [] = tt
 any_change (change ∷ rest) = (tt, any_change rest)
 
 pub built-header : ((cell : CellValue) (change : Change) → (changed cell change).header ≡ cell.header) →
-  (chart : Option CellValue) (dataset : DatasetValue) (cell : CellValue) → built chart dataset ≡ Ok cell → cell.header ≡ (begun chart dataset.header).header
+    (chart : Option CellValue) (dataset : DatasetValue) (cell : CellValue) → built chart dataset ≡ Ok cell → cell.header ≡ (begun chart dataset.header).header
 built-header keeps chart dataset cell e =
     let first = begun chart dataset.header in
     folded-keeps (λ (x : CellValue). x.header ≡ first.header) (λ _. Unit {0}) (λ x change here _ _. keeps x change ∙ here) first cell dataset.changes refl

@@ -18,12 +18,12 @@ from_records-ok (Ok x) dataset e = ap Ok (ok_is e)
 from_records-ok (Err fault) dataset e = absurd cc
 
 from_file-ok : (read : Result FileValue FileFault) (dataset : DatasetValue) → from_file read ≡ Ok dataset →
-  (file : FileValue) × (dataset_of (all_subfields (layout_at file.descriptors) 1 file.records) ≡ Ok dataset)
+    (file : FileValue) × (dataset_of (all_subfields (layout_at file.descriptors) 1 file.records) ≡ Ok dataset)
 from_file-ok (Ok file) dataset e = (file, from_records-ok _ dataset e)
 from_file-ok (Err fault) dataset e = absurd cc
 
 -- a data set is that of a file of records
 pub data_set_in-ok : (bytes : List ℕ) (dataset : DatasetValue) → data_set_in bytes ≡ Ok dataset →
-  (file : FileValue) × (dataset_of (all_subfields (layout_at file.descriptors) 1 file.records) ≡ Ok dataset)
+    (file : FileValue) × (dataset_of (all_subfields (layout_at file.descriptors) 1 file.records) ≡ Ok dataset)
 unfolding data_set_in
 data_set_in-ok bytes dataset e = from_file-ok (record_file_of tags_read bytes) dataset e

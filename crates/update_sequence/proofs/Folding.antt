@@ -1,5 +1,5 @@
 -- Changes, one after the other.
-use Rattle.std.proofs.Common.{◌≡◌, ℕ, suc, ◌+◌, ◌<◌, List, [], ◌∷◌, length, get_or, drop, Option, Some, None, Result, Ok, Err, refl, sym, ◌∙◌, ap, add-one}
+use Rattle.std.proofs.Common.{◌≡◌, ℕ, ◌+◌, ◌<◌, List, ◌∷◌, length, get_or, drop, Option, None, Result, Err, refl, sym, ◌∙◌, ap}
 use Rattle.std.specs.Option.{option_map}
 use Rattle.chart_model.specs.Cell.{CellValue}
 use Rattle.chart_model.specs.Change.{Change}
@@ -22,7 +22,7 @@ unfolding folded
 folded-cons cell change rest = refl
 
 pub folded-made : (cell after : CellValue) (changes : List Change) (i : ℕ) (change : Change) → i < length changes → change ≡ get_or changes i change →
-  None ≡ fault_of cell change → after ≡ changed cell change → folded after (drop (i + 1) changes) ≡ folded cell (drop i changes)
+    None ≡ fault_of cell change → after ≡ changed cell change → folded after (drop (i + 1) changes) ≡ folded cell (drop i changes)
 folded-made cell after changes i change h e none made =
     ap (λ (x : CellValue). folded x (drop (i + 1) changes)) made
     ∙ ap (after_change cell change (drop (i + 1) changes)) none
@@ -30,7 +30,7 @@ folded-made cell after changes i change h e none made =
     ∙ ap (folded cell) (sym (from_place changes i change h e))
 
 refused_first : (fault : ChangeFault) (found : Option ChangeFault) (cell : CellValue) (change : Change) (rest : List Change) → told (Err fault) ≡ found →
-  GivesBuilt {X = CellValue} (Err (fault_of_change fault)) (after_change cell change rest found)
+    GivesBuilt {X = CellValue} (Err (fault_of_change fault)) (after_change cell change rest found)
 refused_first of_change.NoMemory found cell change rest e = tt
 refused_first (of_change.Present name) found cell change rest e = rw (sym e) refl
 refused_first (of_change.Absent name) found cell change rest e = rw (sym e) refl
@@ -42,6 +42,6 @@ refused_first (of_change.Index name size index) found cell change rest e = rw (s
 refused_first (of_change.Mixed name) found cell change rest e = rw (sym e) refl
 
 pub folded-refused : (cell : CellValue) (changes : List Change) (i : ℕ) (change : Change) (fault : ChangeFault) → i < length changes → change ≡ get_or changes i change →
-  told (Err fault) ≡ fault_of cell change → GivesBuilt {X = CellValue} (Err (fault_of_change fault)) (folded cell (drop i changes))
+    told (Err fault) ≡ fault_of cell change → GivesBuilt {X = CellValue} (Err (fault_of_change fault)) (folded cell (drop i changes))
 folded-refused cell changes i change fault h e found =
     rw (from_place changes i change h e) (rw (folded-cons cell change (drop (i + 1) changes)) (refused_first fault (fault_of cell change) cell change (drop (i + 1) changes) found))

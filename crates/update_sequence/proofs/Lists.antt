@@ -11,7 +11,7 @@ no_item (y ∷ before) after x e = cc
 
 -- an item of a list with one more is the last, or one of the others
 pub split_more : {A : Type 0} (xs : List A) (last : A) (before after : List A) (x : A) → xs ++ last ∷ [] ≡ before ++ x ∷ after →
-  ((before ≡ xs) × (x ≡ last)) ⊎ ((rest : List A) × (xs ≡ before ++ x ∷ rest))
+    ((before ≡ xs) × (x ≡ last)) ⊎ ((rest : List A) × (xs ≡ before ++ x ∷ rest))
 split_more [] last [] after x e = inl (refl, sym (cons_is e).0)
 split_more [] last (y ∷ before) after x e = absurd (no_item before after x (cons_is e).1)
 split_more (z ∷ xs) last [] after x e = inr (xs, ap (λ w. w ∷ xs) (cons_is e).0)

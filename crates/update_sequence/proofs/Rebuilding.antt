@@ -1,5 +1,5 @@
 -- The chart of a list of files, one after the other.
-use Rattle.std.proofs.Common.{◌≡◌, ℕ, ◌+◌, ◌<◌, ◌≤◌, Bool, true, false, cond, List, length, get_or, take, drop, Option, Some, None, Result, Ok, Err, refl, sym, ◌∙◌, ap, subst}
+use Rattle.std.proofs.Common.{◌≡◌, ℕ, ◌+◌, ◌<◌, ◌≤◌, Bool, false, cond, List, length, get_or, take, drop, Option, Some, None, Result, Ok, refl, sym, ◌∙◌, ap, subst}
 use Rattle.std.specs.Result.{IsOk, result_ok}
 use Rattle.std.specs.Option.{option_map, option_and_then}
 use Rattle.std.proofs.lemmas.List.Sums.{fold_more, sum_by_more, sum_by_more_le}
@@ -14,7 +14,7 @@ use Rattle.update_sequence.specs.declared.fault.ReadFault.{ReadFault}
 use Rattle.update_sequence.specs.Reading.{data_set_in, tags_read}
 use Rattle.update_sequence.specs.Built.{begun, unless, ◌>>=◌, folded, built}
 use Rattle.update_sequence.specs.Rebuilt.{chart_with, chart_after, rebuilt, data_records_of}
-use Rattle.update_sequence.specs.Sound.{Follows, IsSoundList}
+use Rattle.update_sequence.specs.Sound.{IsSoundList}
 use Rattle.update_sequence.proofs.Places.{around_place}
 
 -- what the last change leaves, by its fault of closure
@@ -54,7 +54,7 @@ ok_is e = cc
 
 -- the data set at a place of a sound list builds on the chart of the files before it
 pub builds-next : (key : List ℕ) (files : List (List ℕ)) → IsSoundList key files → (i : ℕ) (file : List ℕ) → i < length files → file ≡ get_or files i file →
-  (dataset : DatasetValue) → data_set_in file ≡ Ok dataset → dataset.cancels ≡ false → IsOk (built (rebuilt (take i files)) dataset)
+    (dataset : DatasetValue) → data_set_in file ≡ Ok dataset → dataset.cancels ≡ false → IsOk (built (rebuilt (take i files)) dataset)
 builds-next key files sound i file h e dataset reads stands =
     let f = sound.each (take i files) (drop (i + 1) files) file (around_place files i file h e) in
     let same : f.dataset ≡ dataset = ok_is (sym f.reads ∙ reads) in
@@ -63,7 +63,7 @@ builds-next key files sound i file h e dataset reads stands =
 
 -- the chart after the data set of the file at a place
 pub rebuilt-with : (files : List (List ℕ)) (i : ℕ) (file : List ℕ) → i < length files → file ≡ get_or files i file → (dataset : DatasetValue) → data_set_in file ≡ Ok dataset →
-  (chart : Option CellValue) → chart ≡ rebuilt (take i files) → chart_with chart dataset ≡ rebuilt (take (i + 1) files)
+    (chart : Option CellValue) → chart ≡ rebuilt (take i files) → chart_with chart dataset ≡ rebuilt (take (i + 1) files)
 rebuilt-with files i file h e dataset reads chart before =
     ap (λ (c : Option CellValue). chart_with c dataset) before
     ∙ ap (λ (r : Result DatasetValue ReadFault). option_and_then (chart_with (rebuilt (take i files))) (result_ok r)) (sym reads)

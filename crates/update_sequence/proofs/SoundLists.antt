@@ -1,5 +1,5 @@
 -- Lists of files that are sound.
-use Rattle.std.proofs.Common.{◌≡◌, ◌≢◌, ◌⊎◌, inl, inr, ℕ, List, [], ◌∷◌, ◌++◌, sym, ◌∙◌, ap, subst}
+use Rattle.std.proofs.Common.{◌≡◌, ◌≢◌, inl, inr, ℕ, List, [], ◌∷◌, ◌++◌, sym, ◌∙◌, ap, subst}
 use Rattle.std.proofs.lemmas.List.{append_assoc}
 use Rattle.update_sequence.specs.Sound.{Follows, IsSoundList}
 use Rattle.update_sequence.proofs.Lists.{split_more}
@@ -9,14 +9,14 @@ no_files [] file e = cc
 no_files (first ∷ files) file e = cc
 
 pub sound-next : (key : List ℕ) (files : List (List ℕ)) (file : List ℕ) → ((before after : List (List ℕ)) (file : List ℕ) → files ≡ before ++ file ∷ after → Follows key before file) →
-  Follows key files file → IsSoundList key (files ++ file ∷ [])
+    Follows key files file → IsSoundList key (files ++ file ∷ [])
 sound-next key files file each follows = record {
   some = no_files files file;
   each = λ before after other e.
-    elim (split_more files file before after other e) [
-      | inl h ↦ subst (λ (f : List ℕ). Follows key before f) (sym h.1) (subst (λ (b : List (List ℕ)). Follows key b file) (sym h.0) follows)
-      | inr h ↦ each before h.0 other h.1
-    ];
+      elim (split_more files file before after other e) [
+        | inl h ↦ subst (λ (f : List ℕ). Follows key before f) (sym h.1) (subst (λ (b : List (List ℕ)). Follows key b file) (sym h.0) follows)
+        | inr h ↦ each before h.0 other h.1
+      ];
 }
 
 none_before : (before after : List (List ℕ)) (file : List ℕ) → [] ≢ before ++ file ∷ after

@@ -14,11 +14,7 @@ use std::sync::ledger::Ledger;
 
 /// The chart after one more data set, which is known to build one unless it cancels the cell. So
 /// nothing is asked of it again.
-fn follow(
-    alloc: Global,
-    chart: Option<Cell>,
-    dataset: &Dataset,
-) -> Result<Option<Cell>, AllocError>
+fn follow(alloc: Global, chart: Option<Cell>, dataset: &Dataset) -> Result<Option<Cell>, AllocError>
     requires { dataset.now.cancels ≡ false → IsOk (built chart dataset.now) }
     ensures { IfOk result (λ after. after ≡ chart_with chart dataset.now) }
 {

@@ -1,4 +1,4 @@
-use Rattle.std.proofs.Common.{◌≡◌, sym, ◌∙◌}
+use Rattle.std.proofs.Common.{sym, ◌∙◌}
 use Rattle.std.proofs.lemmas.Result.{err_from_is_err_and}
 use Rattle.update_sequence.proofs.Folding.{folded-made, folded-refused}
 use Rattle.update_sequence.proofs.chart.make_all.Goals as goal

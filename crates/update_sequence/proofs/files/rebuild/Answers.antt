@@ -1,4 +1,4 @@
-use Rattle.std.proofs.Common.{◌≡◌, ◌+◌, ◌≤◌, ◌<◌, length, get_or, refl, sym, ◌∙◌, arith, add-zero}
+use Rattle.std.proofs.Common.{refl, sym, ◌∙◌, arith, add-zero}
 use Rattle.update_sequence.specs.Rebuilt.{rebuilt}
 use Rattle.update_sequence.proofs.Rebuilding.{rebuilt-with, data_records-next, data_records-within, builds-next}
 use Rattle.update_sequence.proofs.files.rebuild.Goals as goal
@@ -29,5 +29,5 @@ loop-file-preserved g c =
     let raised = rw c.as_slice.ensures at (c.in-Ok.ensures.come_to (λ e. cc)) in
     record {
       chart = c.in_ok-chart.ensures ∙ rebuilt-with c.args.files.now c.loop-file.file-index c.file-item.result below item c.in-Ok.dataset reads c.loop-file.chart c.loop-file.invariant.chart;
-      steps = omega (arith, raised, c.loop-file.invariant.steps, data_records-next c.args.files.now c.loop-file.file-index c.file-item.result below item)
+      steps = omega (arith, raised, c.loop-file.invariant.steps, data_records-next c.args.files.now c.loop-file.file-index c.file-item.result below item);
     }

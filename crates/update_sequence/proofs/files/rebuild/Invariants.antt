@@ -6,5 +6,5 @@ use Rattle.update_sequence.proofs.files.rebuild.Given as goal
 abbrev pub invariant-loop-file : goal.invariant-loop-file
 invariant-loop-file g l = record {
   chart : l.chart ≡ rebuilt (take l.file-index l.files);
-  steps : l.steps ≡ l.fn.steps + data_records_of (take l.file-index l.files)
+  steps : l.steps ≡ l.fn.steps + data_records_of (take l.file-index l.files);
 }
