@@ -6,3 +6,4 @@ pub mod Runs
 pub mod Answering
 pub mod Weights
 pub mod Holdings
+pub mod CellLines
