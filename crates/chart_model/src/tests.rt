@@ -1,4 +1,5 @@
 use super::*;
+use std::alloc::{AllocError, Global};
 use std::test::Fail;
 
 #[test]
@@ -23,5 +24,105 @@ fn octets_give_their_bytes_back(rt: HostRuntime) -> Result<(), Fail> {
     let octets = Octets::from_vec(Vec::from_slice(rt.alloc(), b"\x00\xFF")?);
     assert_eq!(rt; octets.as_slice(), b"\x00\xFF".as_slice());
     assert_eq!(rt; octets.into_vec().as_slice(), b"\x00\xFF".as_slice());
+    Ok(())
+}
+
+#[test]
+fn keys_in_order(rt: HostRuntime) -> Result<(), Fail> {
+    let rising: [&[u8]; 5] = [b"A", b"AA", b"AB", b"B", b"a"];
+    let mut below: Option<Key> = None;
+    for bytes in rising {
+        let key = Key::from_bytes(bytes).ok_or("a key")?;
+        assert!(rt; below.is_none_or(|lower| lower < key), "{bytes:?}");
+        below = Some(key);
+    }
+    Ok(())
+}
+
+#[test]
+fn names_in_order(rt: HostRuntime) -> Result<(), Fail> {
+    let mut names = NameMap::new(rt.alloc());
+    for (rcnm, rcid) in [(110, 2), (130, 1), (100, 7), (110, 1), (110, 2)] {
+        names.insert(Name { rcnm, rcid }, rcid)?;
+    }
+    let rising = [(100, 7), (110, 1), (110, 2), (130, 1)];
+    assert_eq!(rt; names.len(), rising.len());
+    for ((name, value), (rcnm, rcid)) in names.iter().zip(rising) {
+        assert_eq!(rt; (name.rcnm, name.rcid, *value), (rcnm, rcid, rcid));
+    }
+    Ok(())
+}
+
+#[test]
+fn values_swapped_and_removed(rt: HostRuntime) -> Result<(), Fail> {
+    let (here, elsewhere) = (Name { rcnm: 110, rcid: 1 }, Name { rcnm: 120, rcid: 1 });
+    let mut names = NameMap::new(rt.alloc());
+    names.insert(here, 5u8)?;
+    let mut value = 6;
+    names.swap(here, &mut value);
+    names.swap(elsewhere, &mut value);
+    assert_eq!(rt;
+        (value, names.get(here).copied(), names.contains(elsewhere)),
+        (5, Some(6), false)
+    );
+    let copy = names.clone()?;
+    assert_eq!(rt;
+        (names.remove(elsewhere), names.remove(here), names.len()),
+        (None, Some(6), 0)
+    );
+    assert_eq!(rt; copy.get(here).copied(), Some(6));
+    Ok(())
+}
+
+/// Attributes of codes and texts.
+fn settings(alloc: Global, rows: &[(u16, &[u8])]) -> Result<Vec<Attr>, AllocError> {
+    let mut settings = Vec::new(alloc);
+    for (code, text) in rows {
+        let value = Octets::from_vec(Vec::from_slice(alloc, text)?);
+        settings.push(Attr { code: *code, value })?;
+    }
+    Ok(settings)
+}
+
+#[test]
+fn attributes_set_in_turn(rt: HostRuntime) -> Result<(), Fail> {
+    let mut attrs = AttrMap::new(rt.alloc());
+    attrs.set(9, Octets::from_vec(Vec::from_slice(rt.alloc(), b"x")?))?;
+    let rows: [(u16, &[u8]); 7] = [
+        (133, b"2"),
+        (7, b"\x7F\x7F"),
+        (133, b""),
+        (8, b"3"),
+        (8, b"\x7F"),
+        (9, b"\x7F"),
+        (10, b"\x7F"),
+    ];
+    attrs.set_all(rt.alloc(), settings(rt.alloc(), &rows)?.as_slice())?;
+    let left: [(u16, &[u8]); 2] = [(7, b"\x7F\x7F"), (133, b"")];
+    assert_eq!(rt; attrs.len(), left.len());
+    for (attr, (code, text)) in attrs.as_slice().iter().zip(left) {
+        assert_eq!(rt; attr.code, code);
+        assert_eq!(rt; attr.value.as_slice(), text);
+    }
+    assert!(rt; attrs.get(8).is_none() && attrs.get(7).is_some());
+    assert!(rt; attrs.remove(7).is_some() && attrs.get(7).is_none());
+    Ok(())
+}
+
+#[test]
+fn a_copied_cell(rt: HostRuntime) -> Result<(), Fail> {
+    let header = Header {
+        key: Key::from_bytes(b"AA5TEST1").ok_or("a key")?,
+        edition: 1,
+        update: 0,
+        issued: *b"20260101",
+        agency: 1,
+        scale: 50_000,
+    };
+    let copy = Cell::new(rt.alloc(), header).copy(rt.alloc())?;
+    assert_eq!(rt;
+        (copy.header.scale, copy.vectors.len(), copy.features.len()),
+        (50_000, 0, 0)
+    );
     Ok(())
 }

@@ -88,7 +88,7 @@ fn read_fields(
     requires inside { AllByRecursion (IsInside (frame leader.now)) entries.now }
     ensures { GivesBy (λ fields. fields.items) result (fields_of tags.now descriptors.now number (frame leader.now) bytes.now entries.now) }
 {
-    let mut fields = Vec::new(alloc);
+    let mut fields = Vec::with_capacity(alloc, entries.len())?;
     for entry in entries {
         let field = field_in(bytes, leader, entry);
         fields.push(read_field(alloc, field, number, tags, descriptors, entry.tag)?)?;

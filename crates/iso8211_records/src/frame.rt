@@ -68,7 +68,7 @@ fn read_directory(
 {
     let closing = leader.base as usize - 1;
     let size = size_of_entry(leader);
-    let mut entries = Vec::new(alloc);
+    let mut entries = Vec::with_capacity(alloc, closing.saturating_sub(DIRECTORY) / size)?;
     let mut place = DIRECTORY;
     while place < closing {
         match read_entry(bytes, 0, leader, place) {

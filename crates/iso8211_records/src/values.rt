@@ -27,9 +27,35 @@ pub(crate) fn read_values(
 ) -> Result<ValueList, FieldFault>
     ensures { Finds (λ values. values) result (values_of (record { once = once.now; group = group.now }) text.now) }
 {
-    let (values, rest) = read_each(alloc, text, once, Vec::new(alloc))?;
+    let values = Vec::with_capacity(alloc, once.len())?;
+    let (mut values, rest) = read_each(alloc, text, once, values)?;
+    values.reserve(values_expected(group, rest.len()))?;
     let values = read_groups(alloc, rest, group, values)?;
     Ok(ValueList::from_vec(values))
+}
+
+/// How many bytes a group has, where none of its texts is open.
+fn group_width(group: &[Format]) -> Option<usize> {
+    let mut width: usize = 0;
+    for format in group {
+        let size = match *format {
+            Format::TextOpen => return None,
+            Format::Text(size) => size as usize,
+            Format::Unsigned(size) | Format::Signed(size) => size as usize,
+            Format::Bits(count) => count as usize / 8,
+        };
+        width = width.checked_add(size)?;
+    }
+    Some(width)
+}
+
+/// How many values the groups in so many bytes have, where that can be told beforehand: room for them is
+/// made at once.
+fn values_expected(group: &[Format], count: usize) -> usize {
+    match group_width(group) {
+        Some(width) if width != 0 => (count / width).saturating_mul(group.len()),
+        _ => 0,
+    }
 }
 
 /// Reads whole groups up to the end of the bytes, and gives their values after the others.

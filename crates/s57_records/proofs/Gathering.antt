@@ -18,6 +18,9 @@ use Rattle.chart_model.specs.Dataset.{IsDataset}
 use Rattle.iso8211_records.specs.Kinds.{layout_at}
 use Rattle.s57_records.specs.declared.reader.DataRecord.{DataRecord}
 use Rattle.s57_records.specs.Reading.{reading}
+use Rattle.s57_records.specs.Readings.{all_subfields}
+use Rattle.s57_records.specs.Resolved.{Descriptors}
+use Rattle.iso8211_records.specs.declared.record.RawField.{RawField}
 use Rattle.s57_records.specs.Rows.{general_of}
 use Rattle.s57_records.proofs.Steps.{bind_then, ok_is}
 use Rattle.s57_records.proofs.Sound.{subfields_sound}
@@ -165,7 +168,7 @@ gathered_same g first rest =
 -- ---- the data set made of what was read
 
 reading_general : (r : DataRecord) (g : General) → general_of (reading r) ≡ Ok g → IsGeneral g
-reading_general r g e = general_is (reading r) g (subfields_sound (layout_at r.descriptors.now) r.number r.fields.now) e
+reading_general r g e = general_is (reading r) g (subfields_sound (layout_at r.rows.now) r.number r.fields.now) e
 
 pub cancelled_from : (r : DataRecord) (g : General) → general_of (reading r) ≡ Ok g → cancels g ≡ true → IsDataset (record { header = header_with g 0; base = false; cancels = true; changes = [] })
 cancelled_from r g e cancel = cancelled g (reading_general r g e) cancel
@@ -184,3 +187,8 @@ pub dataset_from : (first : Subfields) (rest : List Subfields) (g : General) (re
 unfolding dataset_of
 dataset_from first rest g read has_e general_e gives =
     rw has_e (rw general_e (subst (λ (r : Result DatasetValue DatasetFault). Gives read r) (gathered_same g first rest) gives))
+
+-- the rows that were found in a file's descriptors are seen as those
+pub dataset_by_rows : (descriptors rows : Descriptors) (records : List (List RawField)) (read : Result DatasetValue DatasetFault) → rows ≡ descriptors → Gives read (dataset_of (all_subfields (layout_at rows) 1 records)) → Gives read (dataset_of (all_subfields (layout_at descriptors) 1 records))
+dataset_by_rows descriptors rows records read found gives =
+    subst (λ (ds : Descriptors). Gives read (dataset_of (all_subfields (layout_at ds) 1 records))) found gives

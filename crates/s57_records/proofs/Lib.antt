@@ -1,6 +1,7 @@
 pub mod Steps
 pub mod Changes
 pub mod Datasets
+mod Kept
 mod Examples
 pub mod Sound
 pub mod Made

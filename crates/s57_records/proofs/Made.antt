@@ -18,7 +18,7 @@ use Rattle.s57_records.proofs.Changes.{AreSound, edit_is, are_coords, vector_hea
 use Rattle.s57_records.proofs.Sound.{subfields_sound}
 
 reading_sound : (r : DataRecord) → AreSound (reading r)
-reading_sound r = subfields_sound (layout_at r.descriptors.now) r.number r.fields.now
+reading_sound r = subfields_sound (layout_at r.rows.now) r.number r.fields.now
 
 pub vector_from_parts : (base : Bool) (r : DataRecord) (head : VectorHead) (attrs : List Attr) (pointer_edit : Option Control) (pointers : List Pointer) (coord_edit : Option Control) (coords : List Coord) → vector_head base r.number (reading r) ≡ Ok head → unless_deleted head.ruin ((reading r).attrs (codes "ATTV")) ≡ Ok attrs → edit_of base head.ruin r.number (reading r) (codes "VRPC") (codes "VPUI") (codes "VPIX") (codes "NVPT") ≡ Ok pointer_edit → edit_of base head.ruin r.number (reading r) (codes "SGCC") (codes "CCUI") (codes "CCIX") (codes "CCNC") ≡ Ok coord_edit → coords_of head.ruin (reading r) ≡ Ok coords → IsChange (record {
   target = head.target;

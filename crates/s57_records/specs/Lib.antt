@@ -5,3 +5,4 @@ pub mod Gathering
 pub mod Readings
 pub mod Answers
 pub mod Reading
+pub mod Resolved

@@ -5,4 +5,4 @@ use Rattle.s57_records.specs.Subfields.{Subfields}
 use Rattle.s57_records.specs.Readings.{subfields_of}
 
 abbrev pub reading : DataRecord → Subfields
-reading r = subfields_of (layout_at r.descriptors.now) r.number r.fields.now
+reading r = subfields_of (layout_at r.rows.now) r.number r.fields.now

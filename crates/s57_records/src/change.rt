@@ -4,12 +4,16 @@ ghost use Rattle.std.specs.Prelude.{◌≡◌};
 ghost use Rattle.s57_records.specs.Answers.{Gives};
 ghost use Rattle.s57_records.specs.Rows.{ruin_of, edit_of, vector_head, feature_head, checked_prim, foid_of};
 ghost use Rattle.s57_records.specs.Reading.{reading};
+ghost use Rattle.s57_records.specs.Resolved.{IsFound};
+ghost use Rattle.s57_fields.specs.Places.{subfield_of};
+ghost use Rattle.iso8211_records.specs.Kinds.{layout_at};
 
 use crate::fault::DatasetFault;
-use crate::reader::DataRecord;
+use crate::reader::{DataRecord, byte, long, reads_as, short};
 use chart_model::{Control, Foid, Name};
-use s57_fields::labels::{GRUP, OBJL, PRIM, RCID, RCNM, RUIN, RVER};
+use s57_fields::labels::{PRIM, RCNM, RUIN};
 use s57_fields::tags::{FOID, FRID, VRID};
+use s57_fields::{ControlRow, Subfield};
 use std::alloc::Global;
 
 /// The identifier of a vector record.
@@ -31,13 +35,11 @@ pub(crate) struct FeatureHead {
     pub ruin: u8,
 }
 
-/// Where a control field's subfields stand.
+/// A control field: its tag, and its row in the file's descriptor.
 #[derive(Clone, Copy, Debug)]
 pub(crate) struct ControlField {
     pub tag: [u8; 4],
-    pub instruction: [u8; 4],
-    pub index: [u8; 4],
-    pub count: [u8; 4],
+    pub row: ControlRow,
 }
 
 /// The update instruction: insert in a base file.
@@ -47,13 +49,15 @@ fn read_ruin(
     fields: &DataRecord<'_>,
     base: bool,
     tag: [u8; 4],
+    subfield: &Subfield,
 ) -> Result<u8, DatasetFault>
+    requires { subfield.now ≡ subfield_of (layout_at fields.now.rows.now tag) RUIN }
     ensures { Gives result (ruin_of base fields.now.number (reading fields.now) tag) }
 {
     if base {
         return Ok(1);
     }
-    let ruin = fields.byte(alloc, tag, RUIN)?;
+    let ruin = byte(alloc, &fields.values(tag), subfield)?;
     if ruin < 1 || ruin > 3 {
         return Err(DatasetFault::Value {
             record: fields.number,
@@ -70,23 +74,26 @@ pub(crate) fn read_edit(
     fields: &DataRecord<'_>,
     base: bool,
     ruin: u8,
-    control: ControlField,
+    control: &ControlField,
 ) -> Result<Option<Control>, DatasetFault>
-    ensures { Gives result (edit_of base ruin fields.now.number (reading fields.now) control.tag control.instruction control.index control.count) }
+    requires { IsFound (layout_at fields.now.rows.now control.now.tag) control.now.row }
+    ensures { Gives result (edit_of base ruin fields.now.number (reading fields.now) control.now.tag control.now.row.instruction.label control.now.row.index.label control.now.row.count.label) }
 {
     if base || ruin != 3 || !fields.has(control.tag) {
         return Ok(None);
     }
-    let instruction = fields.byte(alloc, control.tag, control.instruction)?;
+    let row = &control.row;
+    let values = fields.values(control.tag);
+    let instruction = byte(alloc, &values, &row.instruction)?;
     if instruction < 1 || instruction > 3 {
-        let label = control.instruction;
+        let label = row.instruction.label;
         return Err(DatasetFault::Value {
             record: fields.number,
             label,
         });
     }
-    let index = fields.short(alloc, control.tag, control.index)?;
-    let count = fields.short(alloc, control.tag, control.count)?;
+    let index = short(alloc, &values, &row.index)?;
+    let count = short(alloc, &values, &row.count)?;
     Ok(Some(Control {
         instruction,
         index,
@@ -103,13 +110,15 @@ pub(crate) fn read_vector_head(
 ) -> Result<VectorHead, DatasetFault>
     ensures { Gives result (vector_head base fields.now.number (reading fields.now)) }
 {
-    let rcnm = fields.byte(alloc, VRID, RCNM)?;
+    let row = &fields.rows.vector().vrid;
+    let values = fields.values(VRID);
+    let rcnm = byte(alloc, &values, &row.rcnm)?;
     if rcnm != 110 && rcnm != 120 && rcnm != 130 {
         return Err(DatasetFault::Profile(RCNM));
     }
-    let rcid = fields.long(alloc, VRID, RCID)?;
-    let version = fields.short(alloc, VRID, RVER)?;
-    let ruin = read_ruin(alloc, fields, base, VRID)?;
+    let rcid = long(alloc, &values, &row.rcid)?;
+    let version = short(alloc, &values, &row.rver)?;
+    let ruin = read_ruin(alloc, fields, base, VRID, &row.ruin)?;
     Ok(VectorHead {
         target: Name { rcnm, rcid },
         version,
@@ -129,7 +138,8 @@ fn check_prim(
     if (prim >= 1 && prim <= 3) || prim == 255 {
         return Ok(());
     }
-    if base || fields.reads_as(alloc, FRID, RUIN, 1)? {
+    let row = &fields.rows.feature().frid;
+    if base || reads_as(alloc, &fields.values(FRID), &row.ruin, 1)? {
         return Err(DatasetFault::Value {
             record: fields.number,
             label: PRIM,
@@ -147,17 +157,19 @@ pub(crate) fn read_feature_head(
 ) -> Result<FeatureHead, DatasetFault>
     ensures { Gives result (feature_head base fields.now.number (reading fields.now)) }
 {
-    let rcnm = fields.byte(alloc, FRID, RCNM)?;
+    let row = &fields.rows.feature().frid;
+    let values = fields.values(FRID);
+    let rcnm = byte(alloc, &values, &row.rcnm)?;
     if rcnm != 100 {
         return Err(DatasetFault::Profile(RCNM));
     }
-    let rcid = fields.long(alloc, FRID, RCID)?;
-    let prim = fields.byte(alloc, FRID, PRIM)?;
+    let rcid = long(alloc, &values, &row.rcid)?;
+    let prim = byte(alloc, &values, &row.prim)?;
     check_prim(alloc, fields, base, prim)?;
-    let grup = fields.byte(alloc, FRID, GRUP)?;
-    let class = fields.short(alloc, FRID, OBJL)?;
-    let version = fields.short(alloc, FRID, RVER)?;
-    let ruin = read_ruin(alloc, fields, base, FRID)?;
+    let grup = byte(alloc, &values, &row.grup)?;
+    let class = short(alloc, &values, &row.objl)?;
+    let version = short(alloc, &values, &row.rver)?;
+    let ruin = read_ruin(alloc, fields, base, FRID, &row.ruin)?;
     Ok(FeatureHead {
         target: Name { rcnm, rcid },
         prim,

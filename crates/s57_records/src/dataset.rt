@@ -13,9 +13,10 @@ use crate::fault::DatasetFault;
 use crate::feature::read_feature;
 use crate::general::{General, check_structure, read_general, read_scale};
 use crate::reader::DataRecord;
+use crate::rows::Rows;
 use crate::vector::read_vector;
 use chart_model::{ChangeList, Dataset, Header};
-use iso8211_records::{DescriptorMap, RawRecord, RecordFile};
+use iso8211_records::{RawRecord, RecordFile};
 use s57_fields::tags::{DSID, DSPM, FRID, VRID};
 use std::alloc::Global;
 
@@ -57,13 +58,13 @@ fn gather_with(
 }
 
 /// Gathers what the records after the first say.
-fn gather_all(
+fn gather_all<'a>(
     alloc: Global,
-    descriptors: &DescriptorMap,
-    records: &[RawRecord],
+    rows: &'a Rows<'a>,
+    records: &'a [RawRecord],
     base: bool,
 ) -> Result<Gathered, DatasetFault>
-    ensures { Gives result (gather base 2 (all_subfields (layout_at descriptors.now) 2 records.now) nothing_gathered) }
+    ensures { Gives result (gather base 2 (all_subfields (layout_at rows.now) 2 records.now) nothing_gathered) }
 {
     let mut gathered = Gathered {
         scale: None,
@@ -74,7 +75,7 @@ fn gather_all(
     while let Some((first, after)) = rest.split_first() {
         number += 1;
         let fields = DataRecord {
-            descriptors,
+            rows,
             number,
             fields: first.as_slice(),
         };
@@ -121,14 +122,14 @@ fn is_cancelling(general: &General) -> bool
 /// The data set with this general information. The records are looked at unless the file cancels its
 /// cell.
 #[tactic(auto, unfolding(crate::specs::Gathering::dataset_gathered))]
-fn read_after(
+fn read_after<'a>(
     alloc: Global,
     general: &General,
-    first: &DataRecord<'_>,
-    rest: &[RawRecord],
+    first: &DataRecord<'a>,
+    rest: &'a [RawRecord],
 ) -> Result<Dataset, DatasetFault>
     requires { general_of (reading first.now) ≡ Ok general.now }
-    ensures { Gives result (dataset_gathered general.now (reading first.now) (all_subfields (layout_at first.now.descriptors.now) 2 rest.now)) }
+    ensures { Gives result (dataset_gathered general.now (reading first.now) (all_subfields (layout_at first.now.rows.now) 2 rest.now)) }
 {
     if is_cancelling(general) {
         return Ok(Dataset {
@@ -139,7 +140,7 @@ fn read_after(
         });
     }
     check_structure(alloc, first)?;
-    let gathered = gather_all(alloc, first.descriptors, rest, general.base)?;
+    let gathered = gather_all(alloc, first.rows, rest, general.base)?;
     let scale = scale_or_fault(general.base, gathered.scale)?;
     Ok(Dataset {
         header: header_of(general, scale),
@@ -161,8 +162,9 @@ pub fn read_dataset(alloc: Global, file: &RecordFile) -> Result<Dataset, Dataset
     let Some((first, rest)) = file.records.as_slice().split_first() else {
         return Err(DatasetFault::NoGeneral);
     };
+    let rows = Rows::find(&file.descriptors);
     let fields = DataRecord {
-        descriptors: &file.descriptors,
+        rows: &rows,
         number: 1,
         fields: first.as_slice(),
     };

@@ -8,8 +8,7 @@ use crate::change::{ControlField, read_edit, read_feature_head, read_foid};
 use crate::fault::DatasetFault;
 use crate::reader::DataRecord;
 use chart_model::{Coords, UpdateRecord};
-use s57_fields::labels::{FFIX, FFUI, FSIX, FSUI, NFPT, NSPT};
-use s57_fields::tags::{ATTF, FFPC, FSPC};
+use s57_fields::tags::{FFPC, FSPC};
 use std::alloc::Global;
 
 /// The change that a feature stands for.
@@ -21,24 +20,21 @@ pub(crate) fn read_feature(
 ) -> Result<UpdateRecord, DatasetFault>
     ensures { Gives result (feature_of base fields.now.number (reading fields.now)) }
 {
+    let rows = fields.rows.feature();
     let head = read_feature_head(alloc, fields, base)?;
     let foid = read_foid(alloc, fields, head.ruin)?;
-    let attrs = fields.attrs(alloc, head.ruin, ATTF)?;
+    let attrs = fields.feature_attrs(alloc, head.ruin)?;
     let ffpc = ControlField {
         tag: FFPC,
-        instruction: FFUI,
-        index: FFIX,
-        count: NFPT,
+        row: rows.ffpc,
     };
-    let related_edit = read_edit(alloc, fields, base, head.ruin, ffpc)?;
+    let related_edit = read_edit(alloc, fields, base, head.ruin, &ffpc)?;
     let related = fields.related(alloc, head.ruin)?;
     let fspc = ControlField {
         tag: FSPC,
-        instruction: FSUI,
-        index: FSIX,
-        count: NSPT,
+        row: rows.fspc,
     };
-    let pointer_edit = read_edit(alloc, fields, base, head.ruin, fspc)?;
+    let pointer_edit = read_edit(alloc, fields, base, head.ruin, &fspc)?;
     let pointers = fields.feature_pointers(alloc, head.ruin)?;
     Ok(UpdateRecord {
         target: head.target,

@@ -8,9 +8,9 @@ ghost use Rattle.s57_records.specs.Rows.{checked_edition, general_of, checked_st
 ghost use Rattle.s57_records.specs.Reading.{reading};
 
 use crate::fault::DatasetFault;
-use crate::reader::DataRecord;
+use crate::reader::{DataRecord, byte, long, once, reads_as, short};
 use chart_model::{Key, Octets};
-use s57_fields::labels::{AALL, AGEN, COMF, COUN, CSCL, DSNM, DUNI, EDTN, ISDT, PROF, SOMF, UPDN};
+use s57_fields::labels::{AALL, COMF, COUN, DUNI, EDTN, PROF, SOMF};
 use s57_fields::tags::{DSID, DSPM, DSSI};
 use s57_fields::{DataSetName, EightBytes, NineDigits, key_in};
 use std::alloc::Global;
@@ -44,7 +44,8 @@ fn check_edition(alloc: Global, fields: &DataRecord<'_>, edition: u32) -> Result
     if edition != 0 {
         return Ok(());
     }
-    if fields.reads_as(alloc, DSID, PROF, 1)? {
+    let row = &fields.rows.general().dsid;
+    if reads_as(alloc, &fields.values(DSID), &row.prof, 1)? {
         return Err(DatasetFault::Profile(EDTN));
     }
     Ok(())
@@ -55,17 +56,19 @@ fn check_edition(alloc: Global, fields: &DataRecord<'_>, edition: u32) -> Result
 pub(crate) fn read_general(alloc: Global, fields: &DataRecord<'_>) -> Result<General, DatasetFault>
     ensures { Gives result (general_of (reading fields.now)) }
 {
-    let name = fields.once(alloc, DSID, DSNM, &DataSetName)?;
+    let row = &fields.rows.general().dsid;
+    let values = fields.values(DSID);
+    let name = once(alloc, &values, &row.dsnm, &DataSetName)?;
     let key = key_of(&name);
-    let edition = fields.once(alloc, DSID, EDTN, &NineDigits)?;
+    let edition = once(alloc, &values, &row.edtn, &NineDigits)?;
     check_edition(alloc, fields, edition)?;
-    let update = fields.once(alloc, DSID, UPDN, &NineDigits)?;
-    let issued = fields.once(alloc, DSID, ISDT, &EightBytes)?;
-    let prof = fields.byte(alloc, DSID, PROF)?;
+    let update = once(alloc, &values, &row.updn, &NineDigits)?;
+    let issued = once(alloc, &values, &row.isdt, &EightBytes)?;
+    let prof = byte(alloc, &values, &row.prof)?;
     if prof != 1 && prof != 2 {
         return Err(DatasetFault::Profile(PROF));
     }
-    let agency = fields.short(alloc, DSID, AGEN)?;
+    let agency = short(alloc, &values, &row.agen)?;
     Ok(General {
         key,
         edition,
@@ -84,7 +87,8 @@ pub(crate) fn check_structure(alloc: Global, fields: &DataRecord<'_>) -> Result<
     if !fields.has(DSSI) {
         return Ok(());
     }
-    let aall = fields.byte(alloc, DSSI, AALL)?;
+    let row = &fields.rows.general().dssi;
+    let aall = byte(alloc, &fields.values(DSSI), &row.aall)?;
     if aall > 1 {
         return Err(DatasetFault::Profile(AALL));
     }
@@ -97,17 +101,19 @@ pub(crate) fn check_structure(alloc: Global, fields: &DataRecord<'_>) -> Result<
 pub(crate) fn read_scale(alloc: Global, fields: &DataRecord<'_>) -> Result<u32, DatasetFault>
     ensures { Gives result (scale_of (reading fields.now)) }
 {
-    let scale = fields.long(alloc, DSPM, CSCL)?;
-    if fields.byte(alloc, DSPM, DUNI)? != 1 {
+    let row = &fields.rows.general().dspm;
+    let values = fields.values(DSPM);
+    let scale = long(alloc, &values, &row.cscl)?;
+    if byte(alloc, &values, &row.duni)? != 1 {
         return Err(DatasetFault::Profile(DUNI));
     }
-    if fields.byte(alloc, DSPM, COUN)? != 1 {
+    if byte(alloc, &values, &row.coun)? != 1 {
         return Err(DatasetFault::Profile(COUN));
     }
-    if fields.long(alloc, DSPM, COMF)? != 10_000_000 {
+    if long(alloc, &values, &row.comf)? != 10_000_000 {
         return Err(DatasetFault::Profile(COMF));
     }
-    if fields.long(alloc, DSPM, SOMF)? != 10 {
+    if long(alloc, &values, &row.somf)? != 10 {
         return Err(DatasetFault::Profile(SOMF));
     }
     Ok(scale)

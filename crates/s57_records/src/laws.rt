@@ -1,6 +1,6 @@
 //! Laws of the definitions.
 
-ghost use Rattle.std.specs.Prelude.{◌≡◌, ℕ, Bool, true, false, List, Ok};
+ghost use Rattle.std.specs.Prelude.{◌≡◌, ℕ, Bool, true, false, List, All, Ok};
 ghost use Rattle.chart_model.specs.Change.{Change, IsChange};
 ghost use Rattle.chart_model.specs.Dataset.{DatasetValue, IsDataset, IsPlainInsert};
 ghost use Rattle.iso8211_records.specs.declared.record.RawField.{RawField};
@@ -14,12 +14,15 @@ pub fn data_sets_are_kept()
         dataset_of (all_subfields layouts 1 records) ≡ Ok value → IsDataset value }
 {}
 
-/// What a vector record or a feature says keeps what every change keeps.
+/// What a vector record or a feature says keeps what every change keeps, and so do the changes of a
+/// data set.
 pub fn changes_are_kept()
     ensures vector { (base : Bool) (layouts : Layouts) (n : ℕ) (fields : List RawField) (change : Change) →
         vector_of base n (subfields_of layouts n fields) ≡ Ok change → IsChange change }
     ensures feature { (base : Bool) (layouts : Layouts) (n : ℕ) (fields : List RawField) (change : Change) →
         feature_of base n (subfields_of layouts n fields) ≡ Ok change → IsChange change }
+    ensures each { (layouts : Layouts) (records : List (List RawField)) (value : DatasetValue) →
+        dataset_of (all_subfields layouts 1 records) ≡ Ok value → All IsChange value.changes }
 {}
 
 /// The records of a base file insert, and edit no list.

@@ -12,6 +12,9 @@ mod feature;
 mod general;
 mod laws;
 mod reader;
+mod rows;
+#[cfg(test)]
+mod tests;
 mod vector;
 
 pub use dataset::read_dataset;

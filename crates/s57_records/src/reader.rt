@@ -1,32 +1,91 @@
 //! The subfields of one data record.
 
 ghost use Rattle.std.specs.Prelude.{◌≡◌, codes, IfOk, MatchResult};
-ghost use Rattle.s57_records.specs.Rows.{reads_as};
-ghost use Rattle.s57_fields.specs.RowValues.{fields_in};
 ghost use Rattle.s57_fields.specs.Columns.{once_in};
-ghost use Rattle.s57_fields.specs.Places.{subfield_of};
-ghost use Rattle.iso8211_records.specs.Kinds.{layout_at};
+ghost use Rattle.s57_fields.specs.Number.{number_up_to};
+ghost use Rattle.s57_fields.specs.RowValues.{fields_in};
 ghost use Rattle.s57_records.specs.Answers.{Gives};
 ghost use Rattle.s57_records.specs.Readings.{widened, has_field};
-ghost use Rattle.s57_records.specs.Rows.{unless_deleted};
+ghost use Rattle.s57_records.specs.Rows.{reads_as, unless_deleted};
 
 use crate::fault::DatasetFault;
+use crate::rows::Rows;
 use chart_model::{AttrList, Coords, Foid, Pointers, RelatedList};
-use iso8211_records::{DescriptorMap, RawField};
-use s57_fields::tags::{FFPT, FOID, FSPT, SG2D, SG3D, VRPT};
-use s57_fields::{
-    AttributeRow, CoordinateRow, FeaturePointerRow, FoidRow, FourBytes, Kind, OneByte, RelatedRow,
-    RowFields, SoundingRow, Subfield, TwoBytes, VectorPointerRow,
-};
+use iso8211_records::RawField;
+use s57_fields::tags::{ATTF, ATTV, FFPT, FOID, FSPT, SG2D, SG3D, VRPT};
+use s57_fields::{FourBytes, Kind, OneByte, RowFields, Subfield, TwoBytes};
 use std::alloc::Global;
 
 /// One data record of a file.
 #[derive(Clone, Copy)]
 pub(crate) struct DataRecord<'a> {
-    pub descriptors: &'a DescriptorMap,
+    pub rows: &'a Rows<'a>,
     /// The record's number, from 1.
     pub number: usize,
     pub fields: &'a [RawField],
+}
+
+/// What a subfield that stands once is read as.
+pub(crate) fn once<K: Kind>(
+    alloc: Global,
+    values: &RowFields<'_>,
+    subfield: &Subfield,
+    kind: &K,
+) -> Result<K::Output, DatasetFault>
+    ensures found { Gives result (widened (once_in (K.reads kind.now) values.now subfield.now)) }
+    ensures holds { IfOk result (K.holds kind.now) }
+{
+    let read = subfield.once(alloc, values, kind)?;
+    Ok(read)
+}
+
+/// A number of one byte.
+pub(crate) fn byte(
+    alloc: Global,
+    values: &RowFields<'_>,
+    subfield: &Subfield,
+) -> Result<u8, DatasetFault>
+    ensures { Gives result (widened (once_in (number_up_to 255) values.now subfield.now)) }
+{
+    once(alloc, values, subfield, &OneByte)
+}
+
+/// A number of two bytes.
+pub(crate) fn short(
+    alloc: Global,
+    values: &RowFields<'_>,
+    subfield: &Subfield,
+) -> Result<u16, DatasetFault>
+    ensures { Gives result (widened (once_in (number_up_to 65535) values.now subfield.now)) }
+{
+    once(alloc, values, subfield, &TwoBytes)
+}
+
+/// A number of four bytes.
+pub(crate) fn long(
+    alloc: Global,
+    values: &RowFields<'_>,
+    subfield: &Subfield,
+) -> Result<u32, DatasetFault>
+    ensures { Gives result (widened (once_in (number_up_to 4294967295) values.now subfield.now)) }
+{
+    once(alloc, values, subfield, &FourBytes)
+}
+
+/// Whether a number of one byte is this one.
+pub(crate) fn reads_as(
+    alloc: Global,
+    values: &RowFields<'_>,
+    subfield: &Subfield,
+    number: u8,
+) -> Result<bool, DatasetFault>
+    ensures { MatchResult result (λ is. is ≡ reads_as (widened (once_in (number_up_to 255) values.now subfield.now)) number) (λ fault. fault ≡ DatasetFault.NoMemory) }
+{
+    match byte(alloc, values, subfield) {
+        Ok(read) => Ok(read == number),
+        Err(DatasetFault::NoMemory) => Err(DatasetFault::NoMemory),
+        Err(_) => Ok(false),
+    }
 }
 
 /// Whether a record has a field of this tag.
@@ -46,70 +105,34 @@ impl<'a> DataRecord<'a> {
         has_tag(self.fields, tag)
     }
 
-    /// What a subfield that stands once is read as.
-    pub fn once<K: Kind>(
-        &self,
-        alloc: Global,
-        tag: [u8; 4],
-        label: [u8; 4],
-        kind: &K,
-    ) -> Result<K::Output, DatasetFault>
-        ensures found { Gives result (widened (once_in (K.reads kind.now) (fields_in self.now.number tag self.now.fields.now) (subfield_of (layout_at self.now.descriptors.now tag) label))) }
-        ensures holds { IfOk result (K.holds kind.now) }
+    /// The record's fields of this tag.
+    pub fn values(&self, tag: [u8; 4]) -> RowFields<'a>
+        ensures { result ≡ fields_in self.now.number tag self.now.fields.now }
     {
-        let subfield = Subfield::find(self.descriptors.get(&tag), label);
-        let values = RowFields::new(self.number, tag, self.fields);
-        let read = subfield.once(alloc, &values, kind)?;
-        Ok(read)
+        RowFields::new(self.number, tag, self.fields)
     }
 
-    /// A number of one byte.
-    pub fn byte(&self, alloc: Global, tag: [u8; 4], label: [u8; 4]) -> Result<u8, DatasetFault>
-        ensures { Gives result ((reading self.now).number tag label 255) }
-    {
-        self.once(alloc, tag, label, &OneByte)
-    }
-
-    /// A number of two bytes.
-    pub fn short(&self, alloc: Global, tag: [u8; 4], label: [u8; 4]) -> Result<u16, DatasetFault>
-        ensures { Gives result ((reading self.now).number tag label 65535) }
-    {
-        self.once(alloc, tag, label, &TwoBytes)
-    }
-
-    /// A number of four bytes.
-    pub fn long(&self, alloc: Global, tag: [u8; 4], label: [u8; 4]) -> Result<u32, DatasetFault>
-        ensures { Gives result ((reading self.now).number tag label 4294967295) }
-    {
-        self.once(alloc, tag, label, &FourBytes)
-    }
-
-    /// Whether a number of one byte is this one.
-    pub fn reads_as(
-        &self,
-        alloc: Global,
-        tag: [u8; 4],
-        label: [u8; 4],
-        number: u8,
-    ) -> Result<bool, DatasetFault>
-        ensures { MatchResult result (λ is. is ≡ reads_as ((reading self.now).number tag label 255) number) (λ fault. fault ≡ DatasetFault.NoMemory) }
-    {
-        match self.byte(alloc, tag, label) {
-            Ok(read) => Ok(read == number),
-            Err(DatasetFault::NoMemory) => Err(DatasetFault::NoMemory),
-            Err(_) => Ok(false),
-        }
-    }
-
-    /// The attributes in ATTV or ATTF. None where the record deletes.
-    pub fn attrs(&self, alloc: Global, ruin: u8, tag: [u8; 4]) -> Result<AttrList, DatasetFault>
-        ensures { Gives result (unless_deleted ruin ((reading self.now).attrs tag)) }
+    /// The attributes in ATTV. None where the record deletes.
+    pub fn vector_attrs(&self, alloc: Global, ruin: u8) -> Result<AttrList, DatasetFault>
+        ensures { Gives result (unless_deleted ruin ((reading self.now).attrs (codes "ATTV"))) }
     {
         if ruin == 2 {
             return Ok(AttrList::new(alloc));
         }
-        let row = AttributeRow::find(self.descriptors.get(&tag));
-        let read = row.read(alloc, &RowFields::new(self.number, tag, self.fields))?;
+        let row = &self.rows.vector().attv;
+        let read = row.read(alloc, &self.values(ATTV))?;
+        Ok(read)
+    }
+
+    /// The attributes in ATTF. None where the record deletes.
+    pub fn feature_attrs(&self, alloc: Global, ruin: u8) -> Result<AttrList, DatasetFault>
+        ensures { Gives result (unless_deleted ruin ((reading self.now).attrs (codes "ATTF"))) }
+    {
+        if ruin == 2 {
+            return Ok(AttrList::new(alloc));
+        }
+        let row = &self.rows.feature().attf;
+        let read = row.read(alloc, &self.values(ATTF))?;
         Ok(read)
     }
 
@@ -120,8 +143,8 @@ impl<'a> DataRecord<'a> {
         if ruin == 2 {
             return Ok(Pointers::new(alloc));
         }
-        let row = VectorPointerRow::find(self.descriptors.get(&VRPT));
-        let read = row.read(alloc, &RowFields::new(self.number, VRPT, self.fields))?;
+        let row = &self.rows.vector().vrpt;
+        let read = row.read(alloc, &self.values(VRPT))?;
         Ok(read)
     }
 
@@ -132,8 +155,8 @@ impl<'a> DataRecord<'a> {
         if ruin == 2 {
             return Ok(Pointers::new(alloc));
         }
-        let row = FeaturePointerRow::find(self.descriptors.get(&FSPT));
-        let read = row.read(alloc, &RowFields::new(self.number, FSPT, self.fields))?;
+        let row = &self.rows.feature().fspt;
+        let read = row.read(alloc, &self.values(FSPT))?;
         Ok(read)
     }
 
@@ -144,8 +167,8 @@ impl<'a> DataRecord<'a> {
         if ruin == 2 {
             return Ok(Coords::new(alloc));
         }
-        let row = CoordinateRow::find(self.descriptors.get(&SG2D));
-        let read = row.read(alloc, &RowFields::new(self.number, SG2D, self.fields))?;
+        let row = &self.rows.vector().sg2d;
+        let read = row.read(alloc, &self.values(SG2D))?;
         Ok(read)
     }
 
@@ -156,8 +179,8 @@ impl<'a> DataRecord<'a> {
         if ruin == 2 {
             return Ok(Coords::new(alloc));
         }
-        let row = SoundingRow::find(self.descriptors.get(&SG3D));
-        let read = row.read(alloc, &RowFields::new(self.number, SG3D, self.fields))?;
+        let row = &self.rows.vector().sg3d;
+        let read = row.read(alloc, &self.values(SG3D))?;
         Ok(read)
     }
 
@@ -168,8 +191,8 @@ impl<'a> DataRecord<'a> {
         if ruin == 2 {
             return Ok(RelatedList::new(alloc));
         }
-        let row = RelatedRow::find(self.descriptors.get(&FFPT));
-        let read = row.read(alloc, &RowFields::new(self.number, FFPT, self.fields))?;
+        let row = &self.rows.feature().ffpt;
+        let read = row.read(alloc, &self.values(FFPT))?;
         Ok(read)
     }
 
@@ -177,8 +200,8 @@ impl<'a> DataRecord<'a> {
     pub fn foid(&self, alloc: Global) -> Result<Foid, DatasetFault>
         ensures { Gives result ((reading self.now).foid) }
     {
-        let row = FoidRow::find(self.descriptors.get(&FOID));
-        let read = row.read(alloc, &RowFields::new(self.number, FOID, self.fields))?;
+        let row = &self.rows.feature().foid;
+        let read = row.read(alloc, &self.values(FOID))?;
         Ok(read)
     }
 }

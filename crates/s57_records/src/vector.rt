@@ -8,8 +8,7 @@ use crate::change::{ControlField, read_edit, read_vector_head};
 use crate::fault::DatasetFault;
 use crate::reader::DataRecord;
 use chart_model::{Coords, RelatedList, UpdateRecord};
-use s57_fields::labels::{CCIX, CCNC, CCUI, NVPT, VPIX, VPUI};
-use s57_fields::tags::{ATTV, SG2D, SG3D, SGCC, VRPC};
+use s57_fields::tags::{SG2D, SG3D, SGCC, VRPC};
 use std::alloc::Global;
 
 /// The tag of arcs, which a record must not have.
@@ -39,23 +38,20 @@ pub(crate) fn read_vector(
 ) -> Result<UpdateRecord, DatasetFault>
     ensures { Gives result (vector_of base fields.now.number (reading fields.now)) }
 {
+    let rows = fields.rows.vector();
     let head = read_vector_head(alloc, fields, base)?;
-    let attrs = fields.attrs(alloc, head.ruin, ATTV)?;
+    let attrs = fields.vector_attrs(alloc, head.ruin)?;
     let vrpc = ControlField {
         tag: VRPC,
-        instruction: VPUI,
-        index: VPIX,
-        count: NVPT,
+        row: rows.vrpc,
     };
-    let pointer_edit = read_edit(alloc, fields, base, head.ruin, vrpc)?;
+    let pointer_edit = read_edit(alloc, fields, base, head.ruin, &vrpc)?;
     let pointers = fields.vector_pointers(alloc, head.ruin)?;
     let sgcc = ControlField {
         tag: SGCC,
-        instruction: CCUI,
-        index: CCIX,
-        count: CCNC,
+        row: rows.sgcc,
     };
-    let coord_edit = read_edit(alloc, fields, base, head.ruin, sgcc)?;
+    let coord_edit = read_edit(alloc, fields, base, head.ruin, &sgcc)?;
     let coords = read_coords(alloc, fields, head.ruin)?;
     if fields.has(ARCC) {
         return Err(DatasetFault::Profile(ARCC));

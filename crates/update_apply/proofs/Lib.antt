@@ -1,2 +1,9 @@
 pub mod Told
 pub mod Headers
+pub mod Texts
+pub mod Alike
+pub mod Edits
+pub mod NoFault
+pub mod CellsKept
+pub mod OneChange
+pub mod Swaps

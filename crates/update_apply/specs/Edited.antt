@@ -1,5 +1,6 @@
 -- A list of a record, edited by its control field.
-use Rattle.std.specs.Prelude.{◌≡◌, ◌+◌, ◌-◌, ◌==◌, if◌then◌else◌, List, [], ◌++◌, length, take, drop, Option, Some, None}
+use Rattle.std.specs.Prelude.{◌≡◌, ℕ, ◌+◌, ◌-◌, ◌==◌, if◌then◌else◌, List, [], ◌++◌, length, take, drop, Option, Some, None, ◌≤◌, IfSome}
+use Rattle.std.specs.Int.{IsInRange}
 use Rattle.chart_model.specs.declared.update_record.Control.{Control}
 
 -- items are put at a place, taken out from it on, or replaced from it on; places count from 1
@@ -32,3 +33,19 @@ pub record IsEditedBy {A : Type 0} (control : Control) (given old new : List A) 
 abbrev pub IsEdited : {A : Type 0} → Option Control → List A → List A → List A → Type 0
 IsEdited None given old new = new ≡ old
 IsEdited (Some control) given old new = IsEditedBy control given old new
+
+-- the places of a control field are in the list, and it states how many items replace
+pub record Fits {A : Type 0} (control : Control) (given items : List A) : Type 0 where
+  pub instruction : IsInRange 1 3 control.instruction
+  pub first : 1 ≤ control.index
+  pub insert : control.instruction ≡ 1 → control.index ≤ length items + 1
+  pub delete : control.instruction ≡ 2 → control.index + control.count ≤ length items + 1
+  pub modify : control.instruction ≡ 3 → (control.index + control.count ≤ length items + 1) × (control.count ≡ length given)
+
+abbrev pub FitsEach : {A : Type 0} → Option Control → List A → List A → Type 0
+FitsEach edit given items = IfSome edit (λ control. Fits control given items)
+
+-- how many items an edit adds at most
+abbrev pub added : {A : Type 0} → Option Control → List A → ℕ
+added None given = 0
+added (Some control) given = if control.instruction == 1 then length given else 0

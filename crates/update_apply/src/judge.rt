@@ -9,13 +9,11 @@ use chart_model::{Cell, Control, Coord, Feature, Foid, Name, UpdateRecord, Vecto
 /// The kind of features (S-57 Part 3, RCNM).
 pub const FEATURE: u8 = 100;
 
-/// The update instruction of a record or of a list (S-57 Part 3, RUIN).
+// The update instructions of records (S-57 Part 3, RUIN), which those of lists share.
 pub const INSERT: u8 = 1;
 
-/// The update instruction of a record or of a list (S-57 Part 3, RUIN).
 pub const DELETE: u8 = 2;
 
-/// The update instruction of a record or of a list (S-57 Part 3, RUIN).
 pub const MODIFY: u8 = 3;
 
 /// What a cell has under a name, as far as changes are judged by it.

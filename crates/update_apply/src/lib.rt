@@ -2,10 +2,14 @@
 #![tactic(auto)]
 
 mod apply;
+mod edit;
 mod fault;
 mod judge;
 mod laws;
+mod record;
+#[cfg(test)]
+mod tests;
 
 pub use apply::apply_record;
 pub use fault::ChangeFault;
-pub use laws::headers_are_kept;
+pub use laws::{cells_are_kept, headers_are_kept, one_cell_follows};

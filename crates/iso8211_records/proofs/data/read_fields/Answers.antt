@@ -4,7 +4,7 @@ use Rattle.iso8211_records.proofs.data.read_fields.Goals as goal
 
 pub returns-in_err-read_field : goal.returns-in_err-read_field
 returns-in_err-read_field c =
-    let p = err_from_is_err_and c.from_residual.result c.from_residual.ensures.1 in
+    let p = err_from_is_err_and c.from_residual-in_err-read_field.result c.from_residual-in_err-read_field.ensures.1 in
     rw (p.1, p.2) (fields-fail _ _ _ _ _ _ _ _ _ _ c.loop-entry-test.true (rw c.field_in-field.ensures at c.in_err-read_field.ensures) c.loop-entry.invariant)
 
 pub loop-entry-preserved : goal.loop-entry-preserved

@@ -8,7 +8,7 @@ use Rattle.iso8211_records.proofs.frame.read_directory.Goals as goal
 pub loop-place-init : goal.loop-place-init
 unfolding directory_at
 loop-place-init c =
-    let empty = c.new-entries.ensures.items in
+    let empty = c.in_ok-entries.ensures.items in
     let low = c.args.leader.now.after_directory in
     record {
       within = omega arith;

@@ -1,0 +1,52 @@
+-- The rows of the standard's tables, as they stand in a file's descriptors.
+use Rattle.std.specs.Prelude.{◌≡◌, ℕ, List, Option}
+use Rattle.iso8211_formats.specs.Layout.{Layout}
+use Rattle.iso8211_records.specs.Kinds.{layout_at}
+use Rattle.s57_fields.specs.declared.tags.TheConstants.{DSID, DSSI, DSPM, VRID, ATTV, VRPC, VRPT, SGCC, SG2D, SG3D, FRID, FOID, ATTF, FFPC, FFPT, FSPC, FSPT}
+use Rattle.s57_fields.specs.General.{dsid_row, dssi_row, dspm_row}
+use Rattle.s57_fields.specs.Identifiers.{vrid_row, frid_row, foid_row}
+use Rattle.s57_fields.specs.Lists.{attribute_row, vrpc_row, vrpt_row, sgcc_row, sg2d_row, sg3d_row, ffpc_row, ffpt_row, fspc_row, fspt_row}
+use Rattle.s57_fields.specs.Places.{subfield_of}
+use Rattle.s57_fields.specs.declared.lists.ControlRow.{ControlRow}
+use Rattle.s57_records.specs.declared.rows.GeneralRows.{GeneralRows}
+use Rattle.s57_records.specs.declared.rows.VectorRows.{VectorRows}
+use Rattle.s57_records.specs.declared.rows.FeatureRows.{FeatureRows}
+
+-- the tags of a file's descriptors, with the layouts under them
+abbrev pub Descriptors : Type 0
+Descriptors = List (List ℕ × Layout)
+
+abbrev pub general_rows : Descriptors → GeneralRows
+general_rows descriptors = record {
+  dsid = dsid_row (layout_at descriptors DSID);
+  dssi = dssi_row (layout_at descriptors DSSI);
+  dspm = dspm_row (layout_at descriptors DSPM);
+}
+
+abbrev pub vector_rows : Descriptors → VectorRows
+vector_rows descriptors = record {
+  vrid = vrid_row (layout_at descriptors VRID);
+  attv = attribute_row (layout_at descriptors ATTV);
+  vrpc = vrpc_row (layout_at descriptors VRPC);
+  vrpt = vrpt_row (layout_at descriptors VRPT);
+  sgcc = sgcc_row (layout_at descriptors SGCC);
+  sg2d = sg2d_row (layout_at descriptors SG2D);
+  sg3d = sg3d_row (layout_at descriptors SG3D);
+}
+
+abbrev pub feature_rows : Descriptors → FeatureRows
+feature_rows descriptors = record {
+  frid = frid_row (layout_at descriptors FRID);
+  foid = foid_row (layout_at descriptors FOID);
+  attf = attribute_row (layout_at descriptors ATTF);
+  ffpc = ffpc_row (layout_at descriptors FFPC);
+  ffpt = ffpt_row (layout_at descriptors FFPT);
+  fspc = fspc_row (layout_at descriptors FSPC);
+  fspt = fspt_row (layout_at descriptors FSPT);
+}
+
+-- the subfields of a control field's row are those of their labels
+pub record IsFound (layout : Option Layout) (row : ControlRow) : Type 0 where
+  pub instruction : row.instruction ≡ subfield_of layout row.instruction.label
+  pub index : row.index ≡ subfield_of layout row.index.label
+  pub count : row.count ≡ subfield_of layout row.count.label

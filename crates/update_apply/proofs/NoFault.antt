@@ -1,0 +1,64 @@
+-- What it says of the parts that a change has no fault.
+use Rattle.std.proofs.Common.{◌≡◌, Bool, true, false, true≢false, if◌then◌else◌, ◌==◌, length, List, [], ◌∷◌, Option, Some, None, refl, sym, ap, ◌∙◌}
+use Rattle.std.specs.Option.{is_some, option_map}
+use Rattle.std.specs.List.{AllByRecursion}
+use Rattle.std.specs.FinMap as map
+use Rattle.chart_model.specs.declared.cell.Vector.{Vector}
+use Rattle.chart_model.specs.declared.cell.Feature.{Feature}
+use Rattle.chart_model.specs.Cell.{CellValue}
+use Rattle.chart_model.specs.Change.{Change, IsChange}
+use Rattle.chart_model.specs.declared.record.Pointer.{Pointer}
+use Rattle.chart_model.specs.declared.record.Coord.{Coord}
+use Rattle.chart_model.specs.declared.record.Related.{Related}
+use Rattle.update_apply.specs.declared.judge.Kept.{Kept}
+use Rattle.update_apply.specs.Edited.{FitsEach}
+use Rattle.update_apply.specs.declared.fault.ChangeFault.{ChangeFault}
+use Rattle.update_apply.specs.Fault.{is_feature, kept_under, kept_vector, kept_feature, first_of, edit_faults, kept_faults, fault_by, fault_of, index_fault, modifies}
+use Rattle.update_apply.proofs.Edits.{fits}
+
+abbrev pub AreNone : List (Option ChangeFault) → Type 0
+AreNone faults = AllByRecursion (λ fault. fault ≡ None) faults
+
+first-none : (faults : List (Option ChangeFault)) → first_of faults ≡ None → AreNone faults
+first-none [] e = tt
+first-none (None ∷ more) e = (refl, first-none more e)
+first-none (Some what ∷ more) e = absurd (true≢false (ap is_some e))
+
+module _ (cell : CellValue) (change : Change) (none : fault_of cell change ≡ None) where
+  none-kept : (kept : Kept) → kept_under cell change.target ≡ Some kept → AreNone (kept_faults change kept)
+  none-kept kept is = first-none (kept_faults change kept) (ap (λ o. fault_by o change) (sym is) ∙ none)
+
+  pub none-vector : (kept : Vector) → is_feature change.target ≡ false → map.get cell.vectors change.target ≡ Some kept → AreNone (kept_faults change (kept_vector kept))
+  none-vector kept other there =
+      none-kept (kept_vector kept)
+      (λ i. if other i then option_map kept_feature (map.get cell.features change.target) else option_map kept_vector (there i))
+
+  pub none-feature : (kept : Feature) → is_feature change.target ≡ true → map.get cell.features change.target ≡ Some kept → AreNone (kept_faults change (kept_feature kept))
+  none-feature kept so there =
+      none-kept (kept_feature kept)
+      (λ i. if so i then option_map kept_feature (there i) else option_map kept_vector (map.get cell.vectors change.target))
+
+-- and of the edits of a modification
+pub none-edits : (change : Change) (kept : Kept) → AreNone (kept_faults change kept) → modifies change ≡ true → AreNone (edit_faults change kept)
+none-edits change kept none so =
+    first-none (edit_faults change kept) (ap (λ (b : Bool). if b then first_of (edit_faults change kept) else None) (sym so) ∙ none.1.1.1.0)
+
+-- a modification that has no fault
+module _ (change : Change) (edit : IsChange change) (kept : Kept) (none : fault_by (Some kept) change ≡ None) (so : change.ruin ≡ 3) where
+  pub none-of-edits : AreNone (edit_faults change kept)
+  none-of-edits = none-edits change kept (first-none (kept_faults change kept) none) (ap (λ n. n == 3) so)
+
+  pub fits-pointers : (items : List Pointer) → kept.pointers ≡ length items → FitsEach change.pointer_edit change.pointers items
+  fits-pointers items many =
+      fits change.target change.pointer_edit change.pointers items edit.pointer_edit
+      (ap (index_fault change.target change.pointer_edit) (sym many) ∙ none-of-edits.1.1.1.1.1.1.0) none-of-edits.1.1.1.0
+
+  pub fits-coords : (items : List Coord) → kept.coords ≡ length items → FitsEach change.coord_edit change.coords items
+  fits-coords items many =
+      fits change.target change.coord_edit change.coords items edit.coord_edit
+      (ap (index_fault change.target change.coord_edit) (sym many) ∙ none-of-edits.1.1.1.1.1.1.1.0) none-of-edits.1.1.1.1.0
+
+  pub fits-related : (items : List Related) → kept.related ≡ length items → FitsEach change.related_edit change.related items
+  fits-related items many =
+      fits change.target change.related_edit change.related items edit.related_edit
+      (ap (index_fault change.target change.related_edit) (sym many) ∙ none-of-edits.1.1.1.1.1.1.1.1.0) none-of-edits.1.1.1.1.1.0

@@ -1,0 +1,159 @@
+-- Where a change has no fault one cell follows, and no other.
+use Rattle.std.proofs.Common.{◌≡◌, ⊎_elim, Bool, true, false, true≢false, not, if◌then◌else◌, ◌==◌, Option, Some, None, ℕ, arith, refl, sym, ap, ◌∙◌}
+use Rattle.std.specs.Option.{is_some, option_map}
+use Rattle.std.specs.Int.{IsInRange}
+use Rattle.std.specs.FinMap as map
+use Rattle.std.proofs.lemmas.Bool.{eqb-true, eqb-false}
+use Rattle.chart_model.specs.declared.cell.Vector.{Vector}
+use Rattle.chart_model.specs.declared.cell.Feature.{Feature}
+use Rattle.chart_model.specs.Cell.{CellValue}
+use Rattle.chart_model.specs.Change.{Change, IsChange}
+use Rattle.chart_model.specs.Record.{IsVectorName, IsFeatureName}
+use Rattle.chart_model.specs.Names.{name_cmp}
+use Rattle.update_apply.specs.declared.judge.Kept.{Kept}
+use Rattle.update_apply.specs.declared.fault.ChangeFault.{ChangeFault}
+use Rattle.update_apply.specs.declared.fault.ChangeFault.TheVariants as fault
+use Rattle.update_apply.specs.Changed.{inserted_vector, inserted_feature, modified_vector, modified_feature, modified_in, changed_in, changed, IsModifiedVector, IsModifiedFeature, ChangesIn, Changes}
+use Rattle.update_apply.specs.Fault.{is_feature, inserts, when, fault_by, fault_of, kept_vector, kept_feature, kept_faults, edit_faults}
+use Rattle.update_apply.proofs.Edits.{is-edited, only-edited}
+use Rattle.update_apply.proofs.NoFault.{AreNone, none-vector, none-feature, none-edits}
+
+quiet : (so : Bool) (what : ChangeFault) → when so what ≡ None → so ≡ false
+quiet true what e = absurd (true≢false (ap is_some e))
+quiet false what e = refl
+
+module _ {V : Type 0} (inserted : Change → V) (modified : Change → V → V) (records : map.FinMap name_cmp V) (change : Change) where
+  new-in : change.ruin ≡ 1 → changed_in inserted modified records change ≡ map.insert records change.target (inserted change)
+  new-in one =
+      ap (λ (n : ℕ). if n == 1 then map.insert records change.target (inserted change)
+      else if n == 2 then map.remove records change.target else modified_in inserted modified records change (map.get records change.target)) one
+
+  gone-in : change.ruin ≡ 2 → changed_in inserted modified records change ≡ map.remove records change.target
+  gone-in two =
+      ap (λ (n : ℕ). if n == 1 then map.insert records change.target (inserted change)
+      else if n == 2 then map.remove records change.target else modified_in inserted modified records change (map.get records change.target)) two
+
+  other-in : (kept : V) → change.ruin ≡ 3 → map.get records change.target ≡ Some kept → changed_in inserted modified records change ≡ map.insert records change.target (modified change kept)
+  other-in kept three there =
+      ap (λ (n : ℕ). if n == 1 then map.insert records change.target (inserted change)
+      else if n == 2 then map.remove records change.target else modified_in inserted modified records change (map.get records change.target)) three
+      ∙ ap (modified_in inserted modified records change) there
+
+  module _ (IsModified : Change → V → V → Type 0) where
+    changes-in : (kept_of : V → Kept)
+        → (map.get records change.target ≡ None → not (inserts change) ≡ false)
+        → ((kept : V) → map.get records change.target ≡ Some kept → AreNone (kept_faults change (kept_of kept)))
+        → ((kept : V) → AreNone (edit_faults change (kept_of kept)) → IsModified change kept (modified change kept))
+        → ChangesIn inserted IsModified change records (changed_in inserted modified records change)
+    changes-in kept_of absent present is-modified = record {
+      insert = λ one. (
+        elim (map.get records change.target) as (λ (o : Option V). map.get records change.target ≡ o → o ≡ None) [
+          | None ↦ λ e. refl
+          | Some kept ↦ λ e. absurd (true≢false (sym (ap (λ n. n == 1) one) ∙ quiet _ (fault.Present change.target) (present kept e).0))
+        ] refl,
+        new-in one,
+      );
+      delete = gone-in;
+      modify = λ three. modifies-in three (map.get records change.target) refl;
+    }
+      where
+        modifies-in : change.ruin ≡ 3 → (o : Option V) → map.get records change.target ≡ o
+            → (kept : V) × (made : V) × (map.get records change.target ≡ Some kept) × IsModified change kept made × (changed_in inserted modified records change ≡ map.insert records change.target made)
+        modifies-in three None e = absurd (true≢false (ap (λ n. not (n == 1)) (sym three) ∙ absent e))
+        modifies-in three (Some kept) e =
+            (kept, modified change kept, e, is-modified kept (none-edits change (kept_of kept) (present kept e) (ap (λ n. n == 3) three)), other-in kept three e)
+
+    only-in : IsInRange 1 3 change.ruin → ((kept made : V) → IsModified change kept made → made ≡ modified change kept)
+        → (after : map.FinMap name_cmp V) → ChangesIn inserted IsModified change records after → after ≡ changed_in inserted modified records change
+    only-in range only after is = by (change.ruin == 1) (change.ruin == 2) refl refl
+      where
+        by : (one two : Bool) → change.ruin == 1 ≡ one → change.ruin == 2 ≡ two → after ≡ changed_in inserted modified records change
+        by true two e d = (is.insert (eqb-true change.ruin 1 e)).1 ∙ sym (new-in (eqb-true change.ruin 1 e))
+        by false true e d = is.delete (eqb-true change.ruin 2 d) ∙ sym (gone-in (eqb-true change.ruin 2 d))
+        by false false e d =
+            let three : change.ruin ≡ 3 = omega (arith, range, eqb-false change.ruin 1 e, eqb-false change.ruin 2 d) in
+            let so = is.modify three in
+            so.4 ∙ ap (map.insert records change.target) (only so.0 so.1 so.3) ∙ sym (other-in so.0 three so.2)
+
+only-vector : (change : Change) → IsChange change → (kept made : Vector) → IsModifiedVector change kept made → made ≡ modified_vector change kept
+only-vector change has kept made is =
+    let pointers = only-edited change.pointer_edit change.pointers kept.pointers made.pointers has.pointer_edit is.pointers in
+    let coords = only-edited change.coord_edit change.coords kept.coords made.coords has.coord_edit is.coords in
+    λ i. record { version = is.version i; attrs = is.attrs i; pointers = pointers i; coords = coords i }
+
+only-feature : (change : Change) → IsChange change → (kept made : Feature) → IsModifiedFeature change kept made → made ≡ modified_feature change kept
+only-feature change has kept made is =
+    let pointers = only-edited change.pointer_edit change.pointers kept.pointers made.pointers has.pointer_edit is.pointers in
+    let related = only-edited change.related_edit change.related kept.related made.related has.related_edit is.related in
+    λ i. record { prim = is.prim i; grup = is.grup i; class = is.class i; version = is.version i; foid = is.foid i; attrs = is.attrs i; related = related i; pointers = pointers i }
+
+no-feature : (change : Change) → is_feature change.target ≡ false → IsFeatureName change.target → ⊥
+no-feature change other named = eqb-false change.target.rcnm 100 other named
+
+no-vector : (change : Change) → is_feature change.target ≡ true → IsVectorName change.target → ⊥
+no-vector change so named = omega (arith, eqb-true change.target.rcnm 100 so, named)
+
+module _ (cell : CellValue) (change : Change) (has : IsChange change) where
+  module _ (none : fault_of cell change ≡ None) where
+    absent-vector : is_feature change.target ≡ false → map.get cell.vectors change.target ≡ None → not (inserts change) ≡ false
+    absent-vector other e =
+        quiet _ (fault.Absent change.target)
+        ((λ i. fault_by (if sym other i then option_map kept_feature (map.get cell.features change.target) else option_map kept_vector (sym e i)) change) ∙ none)
+
+    absent-feature : is_feature change.target ≡ true → map.get cell.features change.target ≡ None → not (inserts change) ≡ false
+    absent-feature so e =
+        quiet _ (fault.Absent change.target)
+        ((λ i. fault_by (if sym so i then option_map kept_feature (sym e i) else option_map kept_vector (map.get cell.vectors change.target)) change) ∙ none)
+
+    vectors-change : is_feature change.target ≡ false → ChangesIn inserted_vector IsModifiedVector change cell.vectors (changed_in inserted_vector modified_vector cell.vectors change)
+    vectors-change other =
+        changes-in inserted_vector modified_vector cell.vectors change IsModifiedVector kept_vector (absent-vector other)
+        (λ kept there. none-vector cell change none kept other there)
+        (λ kept edits. record {
+          version = refl;
+          attrs = refl;
+          pointers = is-edited change.target change.pointer_edit change.pointers kept.pointers has.pointer_edit edits.1.1.1.1.1.1.0;
+          coords = is-edited change.target change.coord_edit change.coords kept.coords has.coord_edit edits.1.1.1.1.1.1.1.0;
+        })
+
+    features-change : is_feature change.target ≡ true → ChangesIn inserted_feature IsModifiedFeature change cell.features (changed_in inserted_feature modified_feature cell.features change)
+    features-change so =
+        changes-in inserted_feature modified_feature cell.features change IsModifiedFeature kept_feature (absent-feature so)
+        (λ kept there. none-feature cell change none kept so there)
+        (λ kept edits. record {
+          prim = refl;
+          grup = refl;
+          class = refl;
+          foid = refl;
+          version = refl;
+          attrs = refl;
+          related = is-edited change.target change.related_edit change.related kept.related has.related_edit edits.1.1.1.1.1.1.1.1.0;
+          pointers = is-edited change.target change.pointer_edit change.pointers kept.pointers has.pointer_edit edits.1.1.1.1.1.1.0;
+        })
+
+    pub change-follows : Changes cell change (changed cell change)
+    change-follows =
+        elim (is_feature change.target) as (λ b. is_feature change.target ≡ b → Changes cell change (if b
+        then record cell { features = changed_in inserted_feature modified_feature cell.features change }
+        else record cell { vectors = changed_in inserted_vector modified_vector cell.vectors change })) [
+          | true ↦ λ so. record { header = refl; vector = λ named. absurd (no-vector change so named); feature = λ named. (features-change so, refl) }
+          | false ↦ λ other. record { header = refl; vector = λ named. (vectors-change other, refl); feature = λ named. absurd (no-feature change other named) }
+        ] refl
+
+  vector-name : is_feature change.target ≡ false → IsVectorName change.target
+  vector-name other = ⊎_elim (λ (v : IsVectorName change.target). v) (λ (f : IsFeatureName change.target). absurd (no-feature change other f)) has.target
+
+  pub no-other-follows : (after : CellValue) → Changes cell change after → after ≡ changed cell change
+  no-other-follows after is =
+      elim (is_feature change.target) as (λ b. is_feature change.target ≡ b → after ≡ (if b
+      then record cell { features = changed_in inserted_feature modified_feature cell.features change }
+      else record cell { vectors = changed_in inserted_vector modified_vector cell.vectors change })) [
+        | true ↦ λ so.
+            let features = is.feature (eqb-true change.target.rcnm 100 so) in
+            let are = only-in inserted_feature modified_feature cell.features change IsModifiedFeature has.ruin (only-feature change has) after.features features.0 in
+            λ i. record { header = is.header i; vectors = features.1 i; features = are i }
+        | false ↦ λ other.
+            let vectors = is.vector (vector-name other) in
+            let are = only-in inserted_vector modified_vector cell.vectors change IsModifiedVector has.ruin (only-vector change has) after.vectors vectors.0 in
+            λ i. record { header = is.header i; vectors = are i; features = vectors.1 i }
+      ] refl

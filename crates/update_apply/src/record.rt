@@ -1,0 +1,134 @@
+//! Records inserted and modified.
+
+ghost use Rattle.std.specs.Prelude.{◌≡◌, ◌+◌, ◌≤◌, IfOk, OnOk, OnErr};
+ghost use Rattle.chart_model.specs.Attrs.{set_attrs};
+ghost use Rattle.update_apply.specs.Changed.{inserted_vector, inserted_feature, modified_vector, modified_feature};
+ghost use Rattle.update_apply.specs.Edited.{edited, FitsEach};
+
+use crate::edit::{added, edit};
+use chart_model::{AttrMap, Control, Feature, Foid, Pointer, Sequence, UpdateRecord, Vector};
+use std::alloc::{AllocError, Global};
+use std::mem;
+
+/// The vector record that an insertion puts.
+pub fn inserted_vector(alloc: Global, change: &UpdateRecord) -> Result<Vector, AllocError>
+    ensures { IfOk result (λ vector. vector ≡ inserted_vector change.now) }
+{
+    let mut attrs = AttrMap::new(alloc);
+    attrs.set_all(alloc, change.attrs.as_slice())?;
+    Ok(Vector {
+        version: change.version,
+        attrs,
+        pointers: change.pointers.clone()?,
+        coords: change.coords.clone()?,
+    })
+}
+
+/// The feature record that an insertion puts.
+pub fn inserted_feature(alloc: Global, change: &UpdateRecord) -> Result<Feature, AllocError>
+    ensures { IfOk result (λ feature. feature ≡ inserted_feature change.now) }
+{
+    let mut attrs = AttrMap::new(alloc);
+    attrs.set_all(alloc, change.attrs.as_slice())?;
+    Ok(Feature {
+        prim: change.prim,
+        grup: change.grup,
+        class: change.class,
+        version: change.version,
+        foid: change.foid.unwrap_or(Foid {
+            agen: 0,
+            fidn: 0,
+            fids: 0,
+        }),
+        attrs,
+        related: change.related.clone()?,
+        pointers: change.pointers.clone()?,
+    })
+}
+
+/// Sets attributes and edits the pointers and one other list of a record, or where there is no memory does
+/// nothing: all memory is taken before anything is written.
+fn edit_parts<T: Copy>(
+    alloc: Global,
+    change: &UpdateRecord,
+    attrs: &mut AttrMap,
+    pointers: &mut Vec<Pointer>,
+    others: &mut Vec<T>,
+    control: Option<Control>,
+    given: &[T],
+) -> Result<(), AllocError>
+    requires pointers { FitsEach change.now.pointer_edit change.now.pointers pointers.old.items }
+    requires others { FitsEach control given.now others.old.items }
+    ensures attrs { OnOk result (attrs.new ≡ set_attrs attrs.old change.now.attrs) }
+    ensures pointers { OnOk result (pointers.new.items ≡ edited change.now.pointer_edit change.now.pointers pointers.old.items) }
+    ensures others { OnOk result (others.new.items ≡ edited control given.now others.old.items) }
+    ensures err { OnErr result ((attrs.new ≡ attrs.old) × (pointers.new.items ≡ pointers.old.items) × (others.new.items ≡ others.old.items)) }
+{
+    let given_pointers = change.pointers.as_slice();
+    pointers.reserve(added(change.pointer_edit, given_pointers))?;
+    others.reserve(added(control, given))?;
+    attrs.set_all(alloc, change.attrs.as_slice())?;
+    edit(pointers, change.pointer_edit, given_pointers);
+    edit(others, control, given);
+    Ok(())
+}
+
+/// Modifies a vector record. Where there is no memory nothing changes.
+pub fn modify_vector(
+    alloc: Global,
+    vector: &mut Vector,
+    change: &UpdateRecord,
+) -> Result<(), AllocError>
+    requires version { change.now.version ≡ vector.old.version + 1 }
+    requires pointers { FitsEach change.now.pointer_edit change.now.pointers vector.old.pointers }
+    requires coords { FitsEach change.now.coord_edit change.now.coords vector.old.coords }
+    ensures ok { OnOk result (vector.new ≡ modified_vector change.now vector.old) }
+    ensures err { OnErr result (vector.new ≡ vector.old) }
+{
+    let mut pointers = mem::replace(&mut vector.pointers, Sequence::new(alloc)).into_vec();
+    let mut coords = mem::replace(&mut vector.coords, Sequence::new(alloc)).into_vec();
+    let done = edit_parts(
+        alloc,
+        change,
+        &mut vector.attrs,
+        &mut pointers,
+        &mut coords,
+        change.coord_edit,
+        change.coords.as_slice(),
+    );
+    vector.pointers = Sequence::from_vec(pointers);
+    vector.coords = Sequence::from_vec(coords);
+    done?;
+    vector.version = change.version;
+    Ok(())
+}
+
+/// Modifies a feature record. Where there is no memory nothing changes.
+pub fn modify_feature(
+    alloc: Global,
+    feature: &mut Feature,
+    change: &UpdateRecord,
+) -> Result<(), AllocError>
+    requires version { change.now.version ≡ feature.old.version + 1 }
+    requires pointers { FitsEach change.now.pointer_edit change.now.pointers feature.old.pointers }
+    requires related { FitsEach change.now.related_edit change.now.related feature.old.related }
+    ensures ok { OnOk result (feature.new ≡ modified_feature change.now feature.old) }
+    ensures err { OnErr result (feature.new ≡ feature.old) }
+{
+    let mut pointers = mem::replace(&mut feature.pointers, Sequence::new(alloc)).into_vec();
+    let mut related = mem::replace(&mut feature.related, Sequence::new(alloc)).into_vec();
+    let done = edit_parts(
+        alloc,
+        change,
+        &mut feature.attrs,
+        &mut pointers,
+        &mut related,
+        change.related_edit,
+        change.related.as_slice(),
+    );
+    feature.pointers = Sequence::from_vec(pointers);
+    feature.related = Sequence::from_vec(related);
+    done?;
+    feature.version = change.version;
+    Ok(())
+}

@@ -1,0 +1,47 @@
+-- Changes, one after the other.
+use Rattle.std.proofs.Common.{◌≡◌, ℕ, ◌+◌, ◌<◌, List, ◌∷◌, length, get_or, drop, Option, None, Result, Err, refl, sym, ◌∙◌, ap}
+use Rattle.std.specs.Option.{option_map}
+use Rattle.chart_model.specs.Cell.{CellValue}
+use Rattle.chart_model.specs.Change.{Change}
+use Rattle.update_apply.specs.Fault.{fault_of, told}
+use Rattle.update_apply.specs.Changed.{changed}
+use Rattle.update_apply.specs.declared.fault.ChangeFault.{ChangeFault}
+use Rattle.update_apply.specs.declared.fault.ChangeFault.TheVariants as of_change
+use Rattle.update_sequence.specs.declared.fault.BuildFault.{BuildFault}
+use Rattle.update_sequence.specs.declared.fault.BuildFault.TheVariants as of_build
+use Rattle.update_sequence.specs.Answers.{GivesBuilt, fault_of_change}
+use Rattle.update_sequence.specs.Built.{unless, ◌>>=◌, folded}
+use Rattle.update_sequence.proofs.Places.{from_place}
+
+-- what a change and those after it make, by the fault of the change
+abbrev pub after_change : CellValue → Change → List Change → Option ChangeFault → Result CellValue BuildFault
+after_change cell change rest fault = unless (option_map of_build.Change fault) (changed cell change) >>= (λ after. folded after rest)
+
+pub folded-cons : (cell : CellValue) (change : Change) (rest : List Change) → folded cell (change ∷ rest) ≡ after_change cell change rest (fault_of cell change)
+unfolding folded
+folded-cons cell change rest = refl
+
+pub folded-made : (cell after : CellValue) (changes : List Change) (i : ℕ) (change : Change) → i < length changes → change ≡ get_or changes i change →
+    None ≡ fault_of cell change → after ≡ changed cell change → folded after (drop (i + 1) changes) ≡ folded cell (drop i changes)
+folded-made cell after changes i change h e none made =
+    ap (λ (x : CellValue). folded x (drop (i + 1) changes)) made
+    ∙ ap (after_change cell change (drop (i + 1) changes)) none
+    ∙ sym (folded-cons cell change (drop (i + 1) changes))
+    ∙ ap (folded cell) (sym (from_place changes i change h e))
+
+refused_first : (fault : ChangeFault) (found : Option ChangeFault) (cell : CellValue) (change : Change) (rest : List Change) → told (Err fault) ≡ found →
+    GivesBuilt {X = CellValue} (Err (fault_of_change fault)) (after_change cell change rest found)
+refused_first of_change.NoMemory found cell change rest e = tt
+refused_first (of_change.Present name) found cell change rest e = rw (sym e) refl
+refused_first (of_change.Absent name) found cell change rest e = rw (sym e) refl
+refused_first (of_change.Version name kept given) found cell change rest e = rw (sym e) refl
+refused_first (of_change.Foid name kept given) found cell change rest e = rw (sym e) refl
+refused_first (of_change.NoControl name) found cell change rest e = rw (sym e) refl
+refused_first (of_change.Count name stated given) found cell change rest e = rw (sym e) refl
+refused_first (of_change.Index name size index) found cell change rest e = rw (sym e) refl
+refused_first (of_change.Mixed name) found cell change rest e = rw (sym e) refl
+
+pub folded-refused : (cell : CellValue) (changes : List Change) (i : ℕ) (change : Change) (fault : ChangeFault) → i < length changes → change ≡ get_or changes i change →
+    told (Err fault) ≡ fault_of cell change → GivesBuilt {X = CellValue} (Err (fault_of_change fault)) (folded cell (drop i changes))
+folded-refused cell changes i change fault h e found =
+    rw (from_place changes i change h e) (rw (folded-cons cell change (drop (i + 1) changes)) (refused_first fault (fault_of cell change) cell change (drop (i + 1) changes) found))

@@ -1,0 +1,9 @@
+mod Failing
+mod DataSets
+mod Lists
+mod Places
+mod Folding
+mod Charts
+mod Rebuilding
+mod SoundLists
+mod Held

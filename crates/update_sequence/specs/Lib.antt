@@ -1,0 +1,6 @@
+pub mod Answers
+pub mod Reading
+pub mod Judged
+pub mod Built
+pub mod Rebuilt
+pub mod Sound

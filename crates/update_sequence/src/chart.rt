@@ -1,0 +1,85 @@
+//! The chart that a data set builds.
+
+ghost use Rattle.std.specs.Prelude.{◌≡◌, ◌↔◌, true, false, IfOk};
+ghost use Rattle.std.specs.Option.{option_copied};
+ghost use Rattle.chart_model.specs.Cell.{IsChartHeader};
+ghost use Rattle.update_sequence.specs.Answers.{GivesBuilt};
+ghost use Rattle.update_sequence.specs.Built.{begun, built, folded, header_after};
+
+use crate::fault::BuildFault;
+use chart_closure::check;
+use chart_model::{Cell, Dataset, Header, UpdateRecord};
+use std::alloc::{AllocError, Global};
+use update_apply::apply_record;
+
+/// The header of a chart after an update: key, agency and scale of the base; edition, update and date
+/// of issue of the update.
+fn header_after(base: &Header, update: &Header) -> Header
+    ensures { result ≡ header_after base.now update.now }
+{
+    Header {
+        edition: update.edition,
+        update: update.update,
+        issued: update.issued,
+        ..*base
+    }
+}
+
+/// The chart before the first change: without a record where none is held, and else the held one under
+/// its new header. It takes no memory.
+pub(crate) fn begin(alloc: Global, chart: Option<Cell>, header: &Header) -> Cell
+    requires { IsChartHeader header.now }
+    ensures { result ≡ begun chart header.now }
+{
+    let Some(mut cell) = chart else {
+        return Cell::new(alloc, *header);
+    };
+    cell.header = header_after(&cell.header, header);
+    cell
+}
+
+/// Makes the changes, one after the other.
+#[tactic(auto, unfolding(crate::specs::Built::folded))]
+pub(crate) fn make_all(
+    alloc: Global,
+    cell: Cell,
+    changes: &[UpdateRecord],
+) -> Result<Cell, BuildFault>
+    ensures { GivesBuilt result (folded cell changes.now) }
+{
+    let mut cell = cell;
+    for change in changes {
+        apply_record(alloc, &mut cell, change)?;
+    }
+    Ok(cell)
+}
+
+/// A copy of the chart that is held.
+fn copy_of(alloc: Global, chart: Option<&Cell>) -> Result<Option<Cell>, AllocError>
+    ensures { IfOk result (λ copy. copy ≡ option_copied chart.entry) }
+{
+    match chart {
+        Some(chart) => Ok(Some(chart.copy(alloc)?)),
+        None => Ok(None),
+    }
+}
+
+/// Builds the chart of a data set: its changes, one after the other, on a chart without a record for a
+/// base file and on the held one for an update. The chart that the last change leaves has to be
+/// closed.
+///
+/// # Errors
+///
+/// The fault of the first change that can't be made, or else that of closure; `NoMemory`.
+#[tactic(auto, unfolding(crate::specs::Built::built))]
+pub fn build(alloc: Global, chart: Option<&Cell>, dataset: &Dataset) -> Result<Cell, BuildFault>
+    requires stands { dataset.now.cancels ≡ false }
+    requires held { (option_copied chart ≡ None) ↔ (dataset.now.base ≡ true) }
+    ensures { GivesBuilt result (built (option_copied chart.entry) dataset.now) }
+{
+    let chart = copy_of(alloc, chart)?;
+    let cell = begin(alloc, chart, &dataset.header);
+    let cell = make_all(alloc, cell, dataset.changes.as_slice())?;
+    check(&cell)?;
+    Ok(cell)
+}

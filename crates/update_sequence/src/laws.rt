@@ -1,0 +1,79 @@
+//! Laws of the definitions.
+
+ghost use Rattle.std.specs.Prelude.{◌≡◌, ◌≢◌, ℕ, false, List, [], ◌∷◌, ◌++◌, Option, Some, None, Ok, All, IfSome};
+ghost use Rattle.chart_closure.specs.Closed.{IsClosed};
+ghost use Rattle.chart_model.specs.Cell.{CellValue, IsCell};
+ghost use Rattle.chart_model.specs.Change.{IsChange};
+ghost use Rattle.chart_model.specs.Dataset.{DatasetValue, IsDataset};
+ghost use Rattle.chart_model.specs.State.{IsHolding};
+ghost use Rattle.chart_model.specs.declared.state.Held.{Held};
+ghost use Rattle.update_sequence.specs.Reading.{data_set_in};
+ghost use Rattle.update_sequence.specs.Built.{built, header_after};
+ghost use Rattle.update_sequence.specs.Rebuilt.{chart_after, held_after, held_by, rebuilt};
+ghost use Rattle.update_sequence.specs.Sound.{Follows, IsSoundList};
+
+use chart_closure::first_is_least;
+use s57_records::{changes_are_kept, data_sets_are_kept};
+use update_apply::{cells_are_kept, headers_are_kept};
+
+/// What a cell file says keeps what every data set and every change keeps.
+pub fn files_are_data_sets()
+    ensures kept { (file : List ℕ) (dataset : DatasetValue) → data_set_in file ≡ Ok dataset → IsDataset dataset }
+    ensures changes { (file : List ℕ) (dataset : DatasetValue) → data_set_in file ≡ Ok dataset → All IsChange dataset.changes }
+{
+    data_sets_are_kept();
+    changes_are_kept();
+}
+
+/// A chart that is built is closed.
+pub fn charts_are_closed()
+    ensures { (chart : Option CellValue) (dataset : DatasetValue) (cell : CellValue) → built chart dataset ≡ Ok cell → IsClosed cell }
+{
+    first_is_least();
+}
+
+/// A chart that is built on a cell is a cell.
+pub fn charts_are_cells()
+    ensures { (chart : Option CellValue) (dataset : DatasetValue) (cell : CellValue) → IfSome chart IsCell → IsDataset dataset → All IsChange dataset.changes →
+        dataset.cancels ≡ false → built chart dataset ≡ Ok cell → IsCell cell }
+{
+    cells_are_kept();
+}
+
+/// The chart of a base file has its header. That of an update has key, agency and scale of the chart
+/// before, and the update's edition, number and date of issue.
+pub fn headers_follow()
+    ensures base { (dataset : DatasetValue) (cell : CellValue) → built None dataset ≡ Ok cell → cell.header ≡ dataset.header }
+    ensures update { (chart : CellValue) (dataset : DatasetValue) (cell : CellValue) → built (Some chart) dataset ≡ Ok cell →
+        cell.header ≡ header_after chart.header dataset.header }
+{
+    headers_are_kept();
+}
+
+/// What one file more leaves.
+pub fn one_file_more()
+    ensures none { (held_by [] ≡ None) × (rebuilt [] ≡ None) }
+    ensures held { (files : List (List ℕ)) (file : List ℕ) → held_by (files ++ file ∷ []) ≡ held_after (held_by files) file }
+    ensures chart { (files : List (List ℕ)) (file : List ℕ) → rebuilt (files ++ file ∷ []) ≡ chart_after (rebuilt files) file }
+{}
+
+/// A base file that may come first is a sound list, and so is a sound list with a file that may follow.
+/// Each sound list begins with sound lists.
+pub fn sound_lists_grow()
+    ensures first { (key file : List ℕ) → Follows key [] file → IsSoundList key (file ∷ []) }
+    ensures next { (key : List ℕ) (files : List (List ℕ)) (file : List ℕ) → IsSoundList key files → Follows key files file → IsSoundList key (files ++ file ∷ []) }
+    ensures before { (key : List ℕ) (files rest : List (List ℕ)) → files ≢ [] → IsSoundList key (files ++ rest) → IsSoundList key files }
+{}
+
+/// A sound list of files, the numbers that it leaves and the chart that it builds can be held under its
+/// key, and the chart is closed.
+pub fn sound_lists_are_held()
+    ensures held { (key : List ℕ) (files : List (List ℕ)) → IsSoundList key files →
+        (held : Held) × (held_by files ≡ Some held) × IsHolding key (record { held = held; files = files; chart = rebuilt files }) }
+    ensures closed { (key : List ℕ) (files : List (List ℕ)) → IsSoundList key files → IfSome (rebuilt files) IsClosed }
+{
+    files_are_data_sets();
+    charts_are_closed();
+    charts_are_cells();
+    headers_follow();
+}

@@ -1,0 +1,23 @@
+//! Sequences of cell files: what may follow what is held, and the chart that a list of files builds.
+//!
+//! A base file replaces what is held of its cell. An update extends it, where its numbers follow the
+//! held ones, and an update of edition 0 cancels the cell. The chart is the changes of the files, one
+//! after the other, and it is taken only where it is closed.
+#![tactic(auto)]
+
+mod chart;
+mod effect;
+mod fault;
+mod files;
+mod laws;
+mod read;
+
+pub use chart::build;
+pub use effect::{Effect, judge};
+pub use fault::{BuildFault, ReadFault, SequenceFault};
+pub use files::rebuild;
+pub use laws::{
+    charts_are_cells, charts_are_closed, files_are_data_sets, headers_follow, one_file_more,
+    sound_lists_are_held, sound_lists_grow,
+};
+pub use read::read_data_set;
