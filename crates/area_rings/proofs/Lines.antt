@@ -1,5 +1,5 @@
 -- Lines, forward and in reverse.
-use Rattle.std.proofs.Common.{◌≡◌, ℕ, ◌-◌, Bool, true, false, not, cond, List, [], ◌∷◌, ◌++◌, map, reverse, take, length, refl, sym, ap, ◌∙◌, arith, if◌then◌else◌, option_map, Option, Some, None}
+use Rattle.std.proofs.Common.{◌≡◌, ℕ, ◌-◌, Bool, true, false, not, List, [], ◌∷◌, ◌++◌, map, reverse, take, length, refl, sym, ap, ◌∙◌, arith, if◌then◌else◌, option_map, Option, Some, None}
 use Rattle.std.proofs.lemmas.List.{reverse-append, reverse-reverse, map-append, append_assoc, length-append}
 use Rattle.std.proofs.Math.Seq.{take-append_seam}
 use Rattle.chart_model.specs.declared.name.Name.{Name}

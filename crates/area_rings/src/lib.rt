@@ -3,12 +3,14 @@
 #![tactic(auto)]
 
 mod edge;
+mod laws;
 mod line;
 mod presence;
 mod ring;
 mod shape;
 mod trace;
 
+pub use laws::rings_are_shortest;
 pub use line::{Line, LineList, edge_line};
 pub use presence::{has_line, has_shape};
 pub use ring::{RingList, rings};

@@ -7,3 +7,4 @@ pub mod Answering
 pub mod Weights
 pub mod Holdings
 pub mod Loading
+pub mod CellLines

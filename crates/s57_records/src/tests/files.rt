@@ -95,11 +95,7 @@ const TAGS: [[u8; 4]; 17] = [
     FSPT,
 ];
 
-fn read_with<C: Ledger>(
-    alloc: Global,
-    bytes: &[u8],
-    blank: Blank,
-) -> Result<RecordFile, FileFault>
+fn read_with<C: Ledger>(alloc: Global, bytes: &[u8], blank: Blank) -> Result<RecordFile, FileFault>
     requires name { blank.name ≡ C.name }
     requires parts { blank.parts ≡ C.parts }
     requires share { 0 < C.parts }

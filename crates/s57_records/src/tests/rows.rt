@@ -32,7 +32,10 @@ fn general_rows(rt: HostRuntime) -> Result<(), Fail> {
     let base = file(alloc, BASE)?;
     let dsid = read_dsid(alloc, &base, 1)?;
     assert_eq!(rt; dsid.dsnm.as_slice(), b"AA5TEST1.000".as_slice());
-    assert_eq!(rt; (dsid.edtn, dsid.updn, dsid.prof, dsid.agen), (2, 0, 1, 550));
+    assert_eq!(rt;
+        (dsid.edtn, dsid.updn, dsid.prof, dsid.agen),
+        (2, 0, 1, 550)
+    );
     assert_eq!(rt; dsid.isdt, *b"20240131");
     assert_eq!(rt; read_dssi(alloc, &base, 1)?.aall, 1);
     let dspm = read_dspm(alloc, &base, 2)?;
@@ -64,7 +67,10 @@ fn vector_rows(rt: HostRuntime) -> Result<(), Fail> {
     let alloc = rt.alloc();
     let base = file(alloc, BASE)?;
     let vrid = read_vrid(alloc, &base, 5, true)?;
-    assert_eq!(rt; (vrid.rcnm, vrid.rcid, vrid.rver, vrid.ruin), (130, 1, 1, 1));
+    assert_eq!(rt;
+        (vrid.rcnm, vrid.rcid, vrid.rver, vrid.ruin),
+        (130, 1, 1, 1)
+    );
     assert_eq!(rt; read_vrid(alloc, &base, 5, false)?.ruin, 0);
     assert!(rt; has_attrs(read_attv(alloc, &base, 3)?.as_slice(), &[(402, b"4")]));
     let pointers = read_vrpt(alloc, &base, 5)?;
@@ -87,7 +93,10 @@ fn vector_rows(rt: HostRuntime) -> Result<(), Fail> {
         y: -900_000_000,
         z: Some(-120),
     };
-    assert_eq!(rt; read_sg3d(alloc, &base, 3)?.as_slice(), [sounding].as_slice());
+    assert_eq!(rt;
+        read_sg3d(alloc, &base, 3)?.as_slice(),
+        [sounding].as_slice()
+    );
     assert!(rt; read_sg3d(alloc, &base, 4)?.as_slice().is_empty());
     Ok(())
 }
@@ -97,7 +106,10 @@ fn feature_rows(rt: HostRuntime) -> Result<(), Fail> {
     let alloc = rt.alloc();
     let base = file(alloc, BASE)?;
     let frid = read_frid(alloc, &base, 7, true)?;
-    assert_eq!(rt; (frid.rcnm, frid.rcid, frid.prim, frid.grup), (100, 1, 3, 1));
+    assert_eq!(rt;
+        (frid.rcnm, frid.rcid, frid.prim, frid.grup),
+        (100, 1, 3, 1)
+    );
     assert_eq!(rt; (frid.objl, frid.rver, frid.ruin), (42, 1, 1));
     let foid = Foid {
         agen: 550,
@@ -123,7 +135,10 @@ fn feature_rows(rt: HostRuntime) -> Result<(), Fail> {
         topi: 255,
         mask: 255,
     };
-    assert_eq!(rt; read_fspt(alloc, &base, 7)?.as_slice(), [pointer].as_slice());
+    assert_eq!(rt;
+        read_fspt(alloc, &base, 7)?.as_slice(),
+        [pointer].as_slice()
+    );
     Ok(())
 }
 

@@ -8,10 +8,8 @@ use std::test::Fail;
 
 /// Whether the attributes are these.
 pub(crate) fn has_attrs(attrs: &[Attr], wanted: &[(u16, &[u8])]) -> bool {
-    let alike = attrs
-        .iter()
-        .zip(wanted)
-        .all(|(attr, want)| attr.code == want.0 && attr.value.as_slice() == want.1);
+    let alike = attrs.iter().zip(wanted).all(|(attr, want)| attr.code == want.0
+        && attr.value.as_slice() == want.1);
     attrs.len() == wanted.len() && alike
 }
 

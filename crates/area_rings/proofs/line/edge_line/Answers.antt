@@ -1,4 +1,4 @@
-use Rattle.std.proofs.Common.{◌≡◌, sym, ◌∙◌, ap, Some, List, ◌∷◌, map}
+use Rattle.std.proofs.Common.{sym, ◌∙◌, ap, Some, List, ◌∷◌, map}
 use Rattle.plane_geometry.specs.declared.point.Pt.{Pt}
 use Rattle.area_rings.specs.Edge.{point_of}
 use Rattle.area_rings.proofs.Lines.{passed, ended, line_of_edge}

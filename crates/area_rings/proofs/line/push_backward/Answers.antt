@@ -1,4 +1,4 @@
-use Rattle.std.proofs.Common.{rules, reverse}
+use Rattle.std.proofs.Common.{rules}
 use Rattle.std.proofs.lemmas.Iterator.{YieldsList-from_map}
 use Rattle.std.proofs.lemmas.Iterator.Adapters.{items_from_extend, YieldsList-from_rev_slice}
 use Rattle.area_rings.specs.Edge.{point_of}

@@ -1,5 +1,3 @@
-use Rattle.std.proofs.Common.{List}
-use Rattle.plane_geometry.specs.declared.point.Pt.{Pt}
 use Rattle.area_rings.proofs.Lines.{back}
 use Rattle.area_rings.proofs.edge.DirectedEdge.turned.Goals as goal
 
