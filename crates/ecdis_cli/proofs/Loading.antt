@@ -153,43 +153,42 @@ none_is : {x y : Option CellValue} → ◌≡◌ {A = Result (Option CellValue) 
 none_is e = cc
 
 module _
-  (cells : (chart : Option CellValue) (dataset : DatasetValue) (cell : CellValue) → IfSome chart IsCell → IsDataset dataset → All IsChange dataset.changes → dataset.cancels ≡ false → built chart dataset ≡ Ok cell → IsCell cell)
-  (base_header : (dataset : DatasetValue) (cell : CellValue) → built None dataset ≡ Ok cell → cell.header ≡ dataset.header)
-  (update_header : (chart : CellValue) (dataset : DatasetValue) (cell : CellValue) → built (Some chart) dataset ≡ Ok cell → cell.header ≡ header_after chart.header dataset.header)
+    (cells : (chart : Option CellValue) (dataset : DatasetValue) (cell : CellValue) → IfSome chart IsCell → IsDataset dataset → All IsChange dataset.changes → dataset.cancels ≡ false → built chart dataset ≡ Ok cell → IsCell cell)
+    (base_header : (dataset : DatasetValue) (cell : CellValue) → built None dataset ≡ Ok cell → cell.header ≡ dataset.header)
+    (update_header : (chart : CellValue) (dataset : DatasetValue) (cell : CellValue) → built (Some chart) dataset ≡ Ok cell → cell.header ≡ header_after chart.header dataset.header)
   where
+    base_chart : (dataset : DatasetValue) (cell : CellValue) → IsDataset dataset → All IsChange dataset.changes → dataset.cancels ≡ false → built None dataset ≡ Ok cell →
+        IsChartOf dataset.header.key (record { edition = dataset.header.edition; update = dataset.header.update; cancelled = false }) cell
+    base_chart dataset cell is changes stands e =
+        let h = base_header dataset cell e in
+        record { cell = cells None dataset cell tt is changes stands e; keyed = ap (λ x. x.key) h; edition = ap (λ x. x.edition) h; update = ap (λ x. x.update) h }
 
-  base_chart : (dataset : DatasetValue) (cell : CellValue) → IsDataset dataset → All IsChange dataset.changes → dataset.cancels ≡ false → built None dataset ≡ Ok cell →
-    IsChartOf dataset.header.key (record { edition = dataset.header.edition; update = dataset.header.update; cancelled = false }) cell
-  base_chart dataset cell is changes stands e =
-      let h = base_header dataset cell e in
-      record { cell = cells None dataset cell tt is changes stands e; keyed = ap (λ x. x.key) h; edition = ap (λ x. x.edition) h; update = ap (λ x. x.update) h }
+    update_chart : (held : Held) (chart : Option CellValue) (dataset : DatasetValue) (cell : CellValue) → IfSome chart (IsChartOf dataset.header.key held) → IsDataset dataset → All IsChange dataset.changes → dataset.cancels ≡ false →
+        built chart dataset ≡ Ok cell → IsChartOf dataset.header.key (record { edition = dataset.header.edition; update = dataset.header.update; cancelled = false }) cell
+    update_chart held None dataset cell before is changes stands e = base_chart dataset cell is changes stands e
+    update_chart held (Some chart) dataset cell before is changes stands e =
+        let h = update_header chart dataset cell e in
+        record { cell = cells (Some chart) dataset cell before.cell is changes stands e; keyed = ap (λ x. x.key) h ∙ before.keyed; edition = ap (λ x. x.edition) h; update = ap (λ x. x.update) h }
 
-  update_chart : (held : Held) (chart : Option CellValue) (dataset : DatasetValue) (cell : CellValue) → IfSome chart (IsChartOf dataset.header.key held) → IsDataset dataset → All IsChange dataset.changes → dataset.cancels ≡ false →
-    built chart dataset ≡ Ok cell → IsChartOf dataset.header.key (record { edition = dataset.header.edition; update = dataset.header.update; cancelled = false }) cell
-  update_chart held None dataset cell before is changes stands e = base_chart dataset cell is changes stands e
-  update_chart held (Some chart) dataset cell before is changes stands e =
-      let h = update_header chart dataset cell e in
-      record { cell = cells (Some chart) dataset cell before.cell is changes stands e; keyed = ap (λ x. x.key) h ∙ before.keyed; edition = ap (λ x. x.edition) h; update = ap (λ x. x.update) h }
+    chart_by_effect : (before : Option Holding) (dataset : DatasetValue) (effect : Effect) (chart : Option CellValue) → IfSome before (IsHolding dataset.header.key) → IsDataset dataset → All IsChange dataset.changes →
+        Says (held_of before) dataset effect → chart_after (chart_of before) effect dataset ≡ Ok chart → IfSome chart (IsChartOf dataset.header.key (held_after before effect dataset.header))
+    unfolding Says
+    chart_by_effect None dataset Replace chart h is changes says e =
+        let m = made_is (built None dataset) chart e in
+        subst (λ (o : Option CellValue). IfSome o (IsChartOf dataset.header.key (held_after None Replace dataset.header))) (sym m.2) (base_chart dataset m.0 is changes (stands_by_base dataset is says) m.1)
+    chart_by_effect (Some here) dataset Replace chart h is changes says e =
+        let m = made_is (built None dataset) chart e in
+        subst (λ (o : Option CellValue). IfSome o (IsChartOf dataset.header.key (held_after (Some here) Replace dataset.header))) (sym m.2) (base_chart dataset m.0 is changes (stands_by_base dataset is says) m.1)
+    chart_by_effect None dataset Extend chart h is changes says e = absurd (let none = says.3 in cc)
+    chart_by_effect (Some here) dataset Extend chart h is changes says e =
+        let m = made_is (built here.chart dataset) chart e in
+        subst (λ (o : Option CellValue). IfSome o (IsChartOf dataset.header.key (held_after (Some here) Extend dataset.header))) (sym m.2) (update_chart here.held here.chart dataset m.0 h.chart is changes says.1 m.1)
+    chart_by_effect before dataset Cancel chart h is changes says e =
+        subst (λ (o : Option CellValue). IfSome o (IsChartOf dataset.header.key (held_after before Cancel dataset.header))) (none_is e) tt
 
-  chart_by_effect : (before : Option Holding) (dataset : DatasetValue) (effect : Effect) (chart : Option CellValue) → IfSome before (IsHolding dataset.header.key) → IsDataset dataset → All IsChange dataset.changes →
-    Says (held_of before) dataset effect → chart_after (chart_of before) effect dataset ≡ Ok chart → IfSome chart (IsChartOf dataset.header.key (held_after before effect dataset.header))
-  unfolding Says
-  chart_by_effect None dataset Replace chart h is changes says e =
-      let m = made_is (built None dataset) chart e in
-      subst (λ (o : Option CellValue). IfSome o (IsChartOf dataset.header.key (held_after None Replace dataset.header))) (sym m.2) (base_chart dataset m.0 is changes (stands_by_base dataset is says) m.1)
-  chart_by_effect (Some here) dataset Replace chart h is changes says e =
-      let m = made_is (built None dataset) chart e in
-      subst (λ (o : Option CellValue). IfSome o (IsChartOf dataset.header.key (held_after (Some here) Replace dataset.header))) (sym m.2) (base_chart dataset m.0 is changes (stands_by_base dataset is says) m.1)
-  chart_by_effect None dataset Extend chart h is changes says e = absurd (let none = says.3 in cc)
-  chart_by_effect (Some here) dataset Extend chart h is changes says e =
-      let m = made_is (built here.chart dataset) chart e in
-      subst (λ (o : Option CellValue). IfSome o (IsChartOf dataset.header.key (held_after (Some here) Extend dataset.header))) (sym m.2) (update_chart here.held here.chart dataset m.0 h.chart is changes says.1 m.1)
-  chart_by_effect before dataset Cancel chart h is changes says e =
-      subst (λ (o : Option CellValue). IfSome o (IsChartOf dataset.header.key (held_after before Cancel dataset.header))) (none_is e) tt
-
-  pub judged-chart : (before : Option Holding) (dataset : DatasetValue) (effect : Effect) (chart : Option CellValue) → IfSome before (IsHolding dataset.header.key) → IsDataset dataset → All IsChange dataset.changes →
-    judged (held_of before) dataset ≡ Ok effect → chart_after (chart_of before) effect dataset ≡ Ok chart → IfSome chart (IsChartOf dataset.header.key (held_after before effect dataset.header))
-  judged-chart before dataset effect chart h is changes e made = chart_by_effect before dataset effect chart h is changes (effect_says (held_of before) dataset effect e) made
+    pub judged-chart : (before : Option Holding) (dataset : DatasetValue) (effect : Effect) (chart : Option CellValue) → IfSome before (IsHolding dataset.header.key) → IsDataset dataset → All IsChange dataset.changes →
+        judged (held_of before) dataset ≡ Ok effect → chart_after (chart_of before) effect dataset ≡ Ok chart → IfSome chart (IsChartOf dataset.header.key (held_after before effect dataset.header))
+    judged-chart before dataset effect chart h is changes e made = chart_by_effect before dataset effect chart h is changes (effect_says (held_of before) dataset effect e) made
 
 -- ---- the command
 

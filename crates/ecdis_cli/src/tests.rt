@@ -117,7 +117,7 @@ fn line(alloc: Global, front: &[u8], count: usize) -> Result<Vec<u8>, AllocError
 fn answers_lines(rt: HostRuntime) -> Result<(), Fail> {
     let alloc = rt.alloc();
     let words = name(alloc)?;
-    let cases: [(&[u8], &[u8]); 8] = [
+    let cases: [(&[u8], &[u8]); 9] = [
         (b"info AA5TEST1.000\n", b"ok info AA5TEST1 1 0 1\n"),
         (b"info AA5TEST1.000\r\n", b"ok info AA5TEST1 1 0 1\n"),
         (b"info AA5TEST1.000", b"ok info AA5TEST1 1 0 1\n"),
@@ -126,6 +126,10 @@ fn answers_lines(rt: HostRuntime) -> Result<(), Fail> {
         (
             b"info EMPTY\ninfo NONE\ninfo LABELS\ninfo EDITION\ninfo ALONE\n",
             b"no 10 0\nno 71 NONE\nno 14 DSID\nno 22 1 EDTN\nno 20\n",
+        ),
+        (
+            b"cells\nload NONE\nload EMPTY\nload AA5TEST1.000\ncells \ncells\n",
+            b"ok cells 0\nno 71 NONE\nno 10 0\nno 23 DSPM\nno 70 5\nok cells 0\n",
         ),
         (b"", b""),
         (b"\n\r\n#info\n#\n \n", b"no 70 5\n"),
