@@ -13,8 +13,6 @@ mod general;
 mod laws;
 mod reader;
 mod rows;
-#[cfg(test)]
-mod tests;
 mod vector;
 
 pub use dataset::read_dataset;

@@ -7,8 +7,6 @@ mod fault;
 mod judge;
 mod laws;
 mod record;
-#[cfg(test)]
-mod tests;
 
 pub use apply::apply_record;
 pub use fault::ChangeFault;
