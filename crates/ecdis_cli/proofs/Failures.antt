@@ -156,7 +156,7 @@ info_of-served file h = then-served file (λ bytes. or_refused Read (general_in 
 
 cells_within-served : (cells : HoldingsByKey) (key : List ℕ) → Served (cells_within cells key)
 cells_within-served cells key =
-    elim (not (map.contains_key cells key) && leb 32 (map.len cells)) as (λ b. Served (cond b (Err (CellsFull 32)) (Ok tt))) [ true ↦ λ e. cc | false ↦ ok-served tt ]
+    elim (not (map.contains_key cells key) && leb 32 (map.len cells)) as (λ b. Served {A = Unit {0}} (cond b (Err (CellsFull 32)) (Ok (tt {0})))) [ true ↦ λ e. cc | false ↦ ok-served {A = Unit {0}} (tt {0}) ]
 
 store_within-served : (cells : HoldingsByKey) → Served (store_within cells)
 store_within-served cells =
