@@ -8,6 +8,8 @@ mod line;
 mod presence;
 mod ring;
 mod shape;
+#[cfg(test)]
+mod tests;
 mod trace;
 
 pub use laws::rings_are_shortest;
