@@ -8,11 +8,9 @@ ghost use Rattle.area_rings.specs.Shape.{line_of, shape_of};
 ghost use Rattle.chart_closure.specs.Closed.{first_of, vector_fault, feature_fault, closure_fault, IsClosed, IsLeastFault};
 
 use crate::fault::ClosureFault;
-use crate::pointers::{EDGE, first_absent, points_rightly, shows_rightly};
+use crate::pointers::{AREA, EDGE, first_absent, points_rightly, shows_rightly};
 use area_rings::{has_line, has_shape};
 use chart_model::{Cell, Feature, Name, Vector};
-
-const AREA: u8 = 3;
 
 /// Whether the record is an edge without a line.
 fn lacks_line(cell: &Cell, name: Name) -> bool

@@ -5,6 +5,8 @@ mod closure;
 mod fault;
 mod laws;
 mod pointers;
+#[cfg(test)]
+mod tests;
 
 pub use closure::check;
 pub use fault::ClosureFault;

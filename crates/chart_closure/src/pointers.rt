@@ -10,7 +10,7 @@ const POINT: u8 = 1;
 
 const LINE: u8 = 2;
 
-const AREA: u8 = 3;
+pub(crate) const AREA: u8 = 3;
 
 const ISOLATED_NODE: u8 = 110;
 
