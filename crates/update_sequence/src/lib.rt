@@ -11,6 +11,8 @@ mod fault;
 mod files;
 mod laws;
 mod read;
+#[cfg(test)]
+mod tests;
 
 pub use chart::build;
 pub use effect::{Effect, judge};
