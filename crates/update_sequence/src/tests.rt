@@ -1,5 +1,3 @@
 //! Sequences worked out by hand.
 
-mod charts;
-mod files;
 mod judged;
