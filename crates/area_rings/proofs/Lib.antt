@@ -6,3 +6,4 @@ pub mod Rounds
 pub mod Rests
 pub mod Chains
 pub mod RingLaw
+pub mod Kept

@@ -9,10 +9,10 @@ use Rattle.area_rings.specs.Shape.{line_of, shape_of}
 use Rattle.chart_closure.specs.declared.fault.ClosureFault.TheVariants.{Dangling, EdgeNodes, RingOpen, WrongPointer}
 use Rattle.chart_closure.specs.Closed.{absent_target, may_point, may_show, vector_fault, feature_fault}
 
-abbrev points_rightly : Name → Vector → Bool
+abbrev pub points_rightly : Name → Vector → Bool
 points_rightly name vector = list_all (λ pointer. may_point name pointer.target) vector.pointers
 
-abbrev lacks_line : CellValue → Name → Bool
+abbrev pub lacks_line : CellValue → Name → Bool
 lacks_line cell name = (eqb name.rcnm 130) && is_none (line_of cell name false)
 
 pub vector_dangling : (cell : CellValue) (name target : Name) (vector : Vector) → absent_target cell vector.pointers ≡ Some target → vector_fault cell name vector ≡ Some (Dangling name target)
@@ -31,10 +31,10 @@ pub vector_sound : (cell : CellValue) (name : Name) (vector : Vector) → absent
 unfolding vector_fault
 vector_sound cell name vector e f g = rw (e, f, g) refl
 
-abbrev shows_rightly : Feature → Bool
+abbrev pub shows_rightly : Feature → Bool
 shows_rightly feature = list_all (λ pointer. may_show feature.prim pointer.target) feature.pointers
 
-abbrev lacks_rings : CellValue → Feature → Bool
+abbrev pub lacks_rings : CellValue → Feature → Bool
 lacks_rings cell feature = (eqb feature.prim 3) && is_none (shape_of cell feature)
 
 pub feature_dangling : (cell : CellValue) (name target : Name) (feature : Feature) → absent_target cell feature.pointers ≡ Some target → feature_fault cell name feature ≡ Some (Dangling name target)

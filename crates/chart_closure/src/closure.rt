@@ -1,11 +1,11 @@
 //! The fault of a chart that isn't closed.
 
-ghost use Rattle.std.specs.Prelude.{◌≡◌, ◌↔◌, ◌==◌, ◌&&◌, false, is_none, map, IsOk, IfErr};
+ghost use Rattle.std.specs.Prelude.{◌≡◌, ◌↔◌, ◌==◌, ◌&&◌, false, is_none, map, option_and_then, IsOk, IfErr};
 ghost use Rattle.std.specs.Result.{result_err};
 ghost use Rattle.std.specs.FinMap as finite;
 ghost use Rattle.chart_model.specs.Cell.{IsCell};
 ghost use Rattle.area_rings.specs.Shape.{line_of, shape_of};
-ghost use Rattle.chart_closure.specs.Closed.{first_of, vector_fault, feature_fault, closure_fault, IsClosed, IsLeastFault};
+ghost use Rattle.chart_closure.specs.Closed.{first_of, vector_fault, feature_fault, fault_at, closure_fault, IsClosed, IsLeastFault};
 
 use crate::fault::ClosureFault;
 use crate::pointers::{EDGE, first_absent, points_rightly, shows_rightly};
@@ -91,4 +91,33 @@ pub fn check(cell: &Cell) -> Result<(), ClosureFault>
 {
     check_features(cell)?;
     check_vectors(cell)
+}
+
+/// Finds the fault of the feature of that name, where there is one.
+fn check_feature_at(cell: &Cell, name: Name) -> Result<(), ClosureFault>
+    ensures { result_err result ≡ option_and_then (feature_fault cell.now name) (finite.get cell.now.features name) }
+{
+    match cell.features.get(name) {
+        Some(feature) => check_feature(cell, name, feature),
+        None => Ok(()),
+    }
+}
+
+/// Finds the fault of the vector record of that name, where there is one.
+fn check_vector_at(cell: &Cell, name: Name) -> Result<(), ClosureFault>
+    ensures { result_err result ≡ option_and_then (vector_fault cell.now name) (finite.get cell.now.vectors name) }
+{
+    match cell.vectors.get(name) {
+        Some(vector) => check_vector(cell, name, vector),
+        None => Ok(()),
+    }
+}
+
+/// Finds the fault of the record of one name, where there is one. It takes no memory.
+#[tactic(auto, unfolding(crate::specs::Closed::fault_at))]
+pub fn check_at(cell: &Cell, name: Name) -> Result<(), ClosureFault>
+    ensures { result_err result ≡ fault_at cell.now name }
+{
+    check_feature_at(cell, name)?;
+    check_vector_at(cell, name)
 }

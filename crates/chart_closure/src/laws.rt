@@ -1,9 +1,13 @@
 //! What holds of the definitions.
 
-ghost use Rattle.std.specs.Prelude.{◌≡◌, Some, None};
+ghost use Rattle.std.specs.Prelude.{◌≡◌, ◌⊎◌, Some, None, IsNone};
+ghost use Rattle.chart_model.specs.declared.name.Name.{Name};
 ghost use Rattle.chart_model.specs.Cell.{CellValue, IsCell};
 ghost use Rattle.chart_closure.specs.declared.fault.ClosureFault.{ClosureFault};
-ghost use Rattle.chart_closure.specs.Closed.{closure_fault, IsClosed, IsLeastFault};
+ghost use Rattle.chart_closure.specs.Closed.{closure_fault, fault_at, IsClosed, IsLeastFault};
+ghost use Rattle.chart_closure.specs.Kept.{HasSame, KeepsRecords};
+
+use area_rings::shapes_are_kept;
 
 /// A chart without a fault is closed, and the fault of any other is that of its least name with one.
 pub fn first_is_least()
@@ -11,3 +15,12 @@ pub fn first_is_least()
     ensures none { (cell : CellValue) → IsCell cell → IsClosed cell → closure_fault cell ≡ None }
     ensures least { (cell : CellValue) (fault : ClosureFault) → IsCell cell → closure_fault cell ≡ Some fault → IsLeastFault cell fault }
 {}
+
+/// A closed chart stays closed where each record is kept, of vector records with the same pointers and
+/// with a coordinate where there was one, and where no record that is another than before has a fault.
+pub fn closed_charts_stay_closed()
+    ensures { (before after : CellValue) → IsClosed before → KeepsRecords before after →
+        ((name : Name) → IsNone (fault_at after name) ⊎ HasSame before after name) → IsClosed after }
+{
+    shapes_are_kept();
+}

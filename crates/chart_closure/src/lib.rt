@@ -6,6 +6,6 @@ mod fault;
 mod laws;
 mod pointers;
 
-pub use closure::check;
+pub use closure::{check, check_at};
 pub use fault::ClosureFault;
-pub use laws::first_is_least;
+pub use laws::{closed_charts_stay_closed, first_is_least};
