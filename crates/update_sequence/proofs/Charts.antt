@@ -39,7 +39,7 @@ built-ok chart dataset cell e =
     (b.1 ∙ ap Ok u.1, subst (λ (x : CellValue). closure_fault x ≡ None) u.1 u.0)
 
 -- what holds of a cell, and of each cell that a change without a fault leaves, holds of what changes leave
-folded-keeps : (P : CellValue → Type 0) (Q : Change → Type 0) → ((cell : CellValue) (change : Change) → P cell → Q change → fault_of cell change ≡ None → P (changed cell change)) →
+pub folded-keeps : (P : CellValue → Type 0) (Q : Change → Type 0) → ((cell : CellValue) (change : Change) → P cell → Q change → fault_of cell change ≡ None → P (changed cell change)) →
     (cell after : CellValue) (changes : List Change) → P cell → AllByRecursion Q changes → folded cell changes ≡ Ok after → P after
 unfolding folded
 folded-keeps P Q keeps cell after [] here each e = subst P (ok_is e) here

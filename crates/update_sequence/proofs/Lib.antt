@@ -7,3 +7,6 @@ mod Charts
 mod Rebuilding
 mod SoundLists
 mod Held
+mod OneName
+mod LocalChanges
+mod Notes

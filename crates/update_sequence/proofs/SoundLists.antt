@@ -1,6 +1,16 @@
 -- Lists of files that are sound.
-use Rattle.std.proofs.Common.{◌≡◌, ◌≢◌, inl, inr, ℕ, List, [], ◌∷◌, ◌++◌, sym, ◌∙◌, ap, subst}
+use Rattle.std.proofs.Common.{◌≡◌, ◌≢◌, inl, inr, ℕ, true, List, [], ◌∷◌, ◌++◌, length, Option, None, Ok, refl, sym, ◌∙◌, ap, subst}
 use Rattle.std.proofs.lemmas.List.{append_assoc}
+use Rattle.std.specs.Result.{is_ok}
+use Rattle.chart_model.specs.Cell.{CellValue}
+use Rattle.chart_model.specs.Dataset.{DatasetValue}
+use Rattle.chart_model.specs.State.{IsFileLength}
+use Rattle.chart_model.specs.declared.state.Held.{Held}
+use Rattle.update_sequence.specs.declared.effect.Effect.{Effect}
+use Rattle.update_sequence.specs.Reading.{data_set_in}
+use Rattle.update_sequence.specs.Judged.{judged}
+use Rattle.update_sequence.specs.Built.{built}
+use Rattle.update_sequence.specs.Rebuilt.{held_by, rebuilt}
 use Rattle.update_sequence.specs.Sound.{Follows, IsSoundList}
 use Rattle.update_sequence.proofs.Lists.{split_more}
 
@@ -30,4 +40,17 @@ pub sound-before : (key : List ℕ) (files rest : List (List ℕ)) → files ≢
 sound-before key files rest some sound = record {
   some = some;
   each = λ before after file e. sound.each before (after ++ rest) file (ap (λ (l : List (List ℕ)). l ++ rest) e ∙ append_assoc before (file ∷ after) rest);
+}
+
+-- a base file that is read, judged and built alone may come first
+pub follows-first : (file : List ℕ) (dataset : DatasetValue) (effect : Effect) (cell : CellValue) → held_by [] ≡ None → rebuilt [] ≡ None → IsFileLength (length file) →
+    data_set_in file ≡ Ok dataset → dataset.base ≡ true → judged None dataset ≡ Ok effect → built None dataset ≡ Ok cell → Follows dataset.header.key [] file
+follows-first file dataset effect cell held chart short reads base accepted made = record {
+  dataset = dataset;
+  short = short;
+  reads = reads;
+  keyed = refl;
+  first = (λ _. refl, λ _. base);
+  accepted = ap is_ok (ap (λ (h : Option Held). judged h dataset) held ∙ accepted);
+  builds = λ _. ap is_ok (ap (λ (c : Option CellValue). built c dataset) chart ∙ made);
 }

@@ -14,7 +14,7 @@ use update_apply::apply_record;
 
 /// The header of a chart after an update: key, agency and scale of the base; edition, update and date
 /// of issue of the update.
-fn header_after(base: &Header, update: &Header) -> Header
+pub(crate) fn header_after(base: &Header, update: &Header) -> Header
     ensures { result ≡ header_after base.now update.now }
 {
     Header {

@@ -50,7 +50,7 @@ impl From<DatasetFault> for ReadFault {
 }
 
 /// Why a file may not follow what is held of its cell (S-57 Appendix B.1, 5.7 and 8.3.1).
-#[derive(Clone, Copy, Debug)]
+#[derive(Clone, Copy, Debug, PartialEq, Eq)]
 pub enum SequenceFault {
     /// An update of a cell that isn't held.
     NoBase(Key),
@@ -76,7 +76,7 @@ pub enum SequenceFault {
 }
 
 /// Why a data set builds no chart.
-#[derive(Clone, Copy, Debug)]
+#[derive(Clone, Copy, Debug, PartialEq, Eq)]
 pub enum BuildFault {
     /// The first change that can't be made.
     Change(ChangeFault),

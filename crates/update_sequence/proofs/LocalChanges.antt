@@ -1,0 +1,257 @@
+-- Changes that can't break what other records are.
+use Rattle.std.proofs.Common.{◌≡◌, ◌≢◌, ◌⊎◌, inl, inr, ◌<◌, ◌≤◌, ℕ, ◌+◌, ◌-◌, ◌==◌, Bool, true, false, not, ◌&&◌, ◌||◌, if◌then◌else◌, List, [], ◌∷◌, ◌++◌, length, get_or, take, drop, Option, Some, None, Ok, IfSome, IsSome, IsNone, is_some, is_none, option_map, refl, sym, ap, ◌∙◌, subst, arith}
+use Rattle.std.specs.List.{AllByRecursion, list_all}
+use Rattle.std.specs.FinMap as map
+use Rattle.std.specs.Ordering.{eq_by_cmp}
+use Rattle.std.proofs.lemmas.Bool.{true≢false, eqb-true, or_cases, and_parts, not-true, not-false}
+use Rattle.std.proofs.lemmas.List.Elements.{All-get_or}
+use Rattle.std.proofs.lemmas.List.Sums.{AllPass-from_list_all}
+use Rattle.std.proofs.lemmas.List.{length-append, length-take, length-drop, nil_from_length}
+use Rattle.chart_model.specs.declared.name.Name.{Name}
+use Rattle.chart_model.specs.declared.cell.Vector.{Vector}
+use Rattle.chart_model.specs.declared.dataset.Header.{Header}
+use Rattle.chart_model.specs.declared.update_record.Control.{Control}
+use Rattle.chart_model.specs.Cell.{CellValue}
+use Rattle.chart_model.specs.Change.{Change}
+use Rattle.chart_model.specs.Names.{name_cmp}
+use Rattle.area_rings.specs.Kept.{StandsFor}
+use Rattle.chart_closure.specs.Closed.{fault_at, IsClosed}
+use Rattle.chart_closure.specs.Kept.{KeepsRecords, HasSame}
+use Rattle.update_apply.specs.declared.fault.ChangeFault.{ChangeFault}
+use Rattle.update_apply.specs.declared.fault.ChangeFault.TheVariants as fault
+use Rattle.update_apply.specs.Edited.{edited, edited_by}
+use Rattle.update_apply.specs.Fault.{is_feature, kept_vector, kept_feature, inserts, deletes, modifies, when, first_of, count_fault, edit_faults, kept_faults, fault_by, fault_of}
+use Rattle.update_apply.specs.Changed.{changed, changed_in, modified_in, inserted_vector, inserted_feature, modified_vector, modified_feature}
+use Rattle.update_sequence.specs.declared.undo.Saved.{Saved}
+use Rattle.update_sequence.specs.Built.{begun, folded}
+use Rattle.update_sequence.specs.Extended.{keeps_coords, is_local, are_local, are_sound}
+use Rattle.update_sequence.specs.Undone.{TellsVectors, TellsFeatures}
+use Rattle.update_sequence.proofs.Charts.{folded-keeps}
+use Rattle.update_sequence.proofs.OneName.{ChangedAt, same_name, get-new, vectors-at, features-at}
+use Rattle.update_sequence.proofs.Notes.{tells-apart}
+
+-- ---- what it says of a change that it is local
+
+-- what a local change is
+local-kind : (change : Change) → is_local change ≡ true → (inserts change ≡ true) ⊎ ((modifies change ≡ true) × ((is_feature change.target || (is_none change.pointer_edit && keeps_coords change.coord_edit)) ≡ true))
+local-kind change local =
+    elim (or_cases (inserts change) _ local) [
+      | inl new ↦ inl new
+      | inr other ↦ inr (and_parts (modifies change) _ other)
+    ]
+
+pub local-stays : (change : Change) → is_local change ≡ true → deletes change ≡ false
+local-stays change local =
+    elim (local-kind change local) [
+      | inl new ↦ ap (λ n. n == 2) (eqb-true change.ruin 1 new)
+      | inr other ↦ ap (λ n. n == 2) (eqb-true change.ruin 3 other.0)
+    ]
+
+-- ---- lists that are edited
+
+edited-none : {A : Type 0} (edit : Option Control) (given items : List A) → is_none edit ≡ true → edited edit given items ≡ items
+edited-none None given items none = refl
+edited-none (Some control) given items none = absurd (true≢false (sym none))
+
+quiet : (so : Bool) (what : ChangeFault) → when so what ≡ None → so ≡ false
+quiet true what e = absurd (true≢false (ap is_some e))
+quiet false what e = refl
+
+-- an edit that isn't a deletion gives as many items as it takes, where it has no fault of count
+replaced-count : {A : Type 0} (name : Name) (control : Control) (given : List A) → not (control.instruction == 2) ≡ true → count_fault name (Some control) given ≡ None → control.count ≡ length given
+replaced-count name control given keeps none =
+    let so = quiet (not (control.instruction == 2) && not (control.count == length given)) (fault.Count name control.count (length given)) none in
+    eqb-true control.count (length given)
+    (not-false (control.count == length given) (sym (ap (λ b. b && not (control.count == length given)) keeps) ∙ so))
+
+-- it leaves at least as many items as there were
+edited-length : {A : Type 0} (name : Name) (control : Control) (given items : List A) → not (control.instruction == 2) ≡ true → count_fault name (Some control) given ≡ None → length items ≤ length (edited_by control given items)
+edited-length {A} name control given items keeps none =
+    let f = control.index - 1 in
+    let n = control.count in
+    let many : n ≡ length given = replaced-count name control given keeps none in
+    elim (control.instruction == 1) as (λ b. length items ≤ length (if b then take f items ++ given ++ drop f items
+    else if control.instruction == 2 then take f items ++ drop (f + n) items else take f items ++ given ++ drop (f + n) items)) [
+      | true ↦ omega (arith, length-append (take f items ++ given) (drop f items), length-append (take f items) given, length-take f items, length-drop f items)
+      | false ↦ rw (not-true (control.instruction == 2) keeps)
+          (omega (arith, many, length-append (take f items ++ given) (drop (f + n) items), length-append (take f items) given, length-take f items, length-drop (f + n) items))
+    ]
+
+edited-some : {A : Type 0} (name : Name) (edit : Option Control) (given items : List A) → keeps_coords edit ≡ true → count_fault name edit given ≡ None → items ≢ [] → edited edit given items ≢ []
+edited-some name None given items keeps none some = some
+edited-some name (Some control) given items keeps none some = λ gone.
+    some (nil_from_length items (omega (arith, edited-length name control given items keeps none, ap length gone)))
+
+-- ---- faults that a change hasn't
+
+abbrev AreNone : List (Option ChangeFault) → Type 0
+AreNone faults = AllByRecursion (λ found. found ≡ None) faults
+
+first-none : (faults : List (Option ChangeFault)) → first_of faults ≡ None → AreNone faults
+first-none [] e = tt
+first-none (None ∷ more) e = (refl, first-none more e)
+first-none (Some what ∷ more) e = absurd (true≢false (ap is_some e))
+
+module _ (cell : CellValue) (change : Change) (kept : Vector) (none : fault_of cell change ≡ None) (other : is_feature change.target ≡ false)
+    (there : map.get cell.vectors change.target ≡ Some kept) where
+  kept-none : AreNone (kept_faults change (kept_vector kept))
+  kept-none =
+      first-none (kept_faults change (kept_vector kept))
+      (sym (λ i. fault_by (if other i then option_map kept_feature (map.get cell.features change.target) else option_map kept_vector (there i)) change) ∙ none)
+
+  -- a record that is there isn't inserted
+  not-inserted : inserts change ≡ false
+  not-inserted = quiet (inserts change) (fault.Present change.target) kept-none.0
+
+  counted : modifies change ≡ true → count_fault change.target change.coord_edit change.coords ≡ None
+  counted so =
+      (first-none (edit_faults change (kept_vector kept))
+      (ap (λ (b : Bool). if b then first_of (edit_faults change (kept_vector kept)) else None) (sym so) ∙ kept-none.1.1.1.0)).1.1.1.1.0
+
+-- ---- vector records that stand for those before
+
+stands-itself : (vector : Vector) → StandsFor vector vector
+stands-itself vector = record { pointers = refl; placed = λ some. some }
+
+stands-then : (first second third : Vector) → StandsFor first second → StandsFor second third → StandsFor first third
+stands-then first second third one two = record { pointers = two.pointers ∙ one.pointers; placed = λ some. two.placed (one.placed some) }
+
+-- a vector record stands in the map for another
+abbrev Stands : Option Vector → Vector → Type 0
+Stands found vector = (kept : Vector) × (found ≡ Some kept) × StandsFor vector kept
+
+modified-stands : (change : Change) (kept : Vector) → (is_none change.pointer_edit && keeps_coords change.coord_edit) ≡ true → count_fault change.target change.coord_edit change.coords ≡ None → StandsFor kept (modified_vector change kept)
+modified-stands change kept edits none =
+    let parts = and_parts (is_none change.pointer_edit) _ edits in
+    record {
+      pointers = edited-none change.pointer_edit change.pointers kept.pointers parts.0;
+      placed = edited-some change.target change.coord_edit change.coords kept.coords parts.1 none;
+    }
+
+-- what a modification makes of records
+modified-is : (records : map.FinMap name_cmp Vector) (change : Change) (kept : Vector) → modifies change ≡ true → map.get records change.target ≡ Some kept
+    → changed_in inserted_vector modified_vector records change ≡ map.insert records change.target (modified_vector change kept)
+modified-is records change kept so there =
+    ap (λ (n : ℕ). if n == 1 then map.insert records change.target (inserted_vector change)
+    else if n == 2 then map.remove records change.target else modified_in inserted_vector modified_vector records change (map.get records change.target)) (eqb-true change.ruin 3 so)
+    ∙ ap (modified_in inserted_vector modified_vector records change) there
+
+module _ (cell : CellValue) (change : Change) (local : is_local change ≡ true) (none : fault_of cell change ≡ None) where
+  -- under the changed name
+  target-stands : (vector : Vector) → map.get cell.vectors change.target ≡ Some vector → Stands (map.get (changed cell change).vectors change.target) vector
+  target-stands vector there = by (is_feature change.target) refl
+    where
+      by : (b : Bool) → is_feature change.target ≡ b → Stands (map.get (if b
+          then record cell { features = changed_in inserted_feature modified_feature cell.features change }
+          else record cell { vectors = changed_in inserted_vector modified_vector cell.vectors change }).vectors change.target) vector
+      by true so = (vector, there, stands-itself vector)
+      by false other =
+          elim (local-kind change local) [
+            | inl new ↦ absurd (true≢false (sym new ∙ not-inserted cell change vector none other there))
+            | inr kind ↦
+                let edits : (is_none change.pointer_edit && keeps_coords change.coord_edit) ≡ true = sym (ap (λ b. b || (is_none change.pointer_edit && keeps_coords change.coord_edit)) other) ∙ kind.1 in (
+                  modified_vector change vector,
+                  ap (λ m. map.get m change.target) (modified-is cell.vectors change vector kind.0 there) ∙ get-new cell.vectors change.target (modified_vector change vector),
+                  modified-stands change vector edits (counted cell change vector none other there kind.0),
+                )
+          ]
+
+  -- under any name
+  vector-stands : (name : Name) (vector : Vector) → map.get cell.vectors name ≡ Some vector → Stands (map.get (changed cell change).vectors name) vector
+  vector-stands name vector there = by (eq_by_cmp name_cmp name change.target) refl
+    where
+      by : (b : Bool) → eq_by_cmp name_cmp name change.target ≡ b → Stands (map.get (changed cell change).vectors name) vector
+      by true same =
+          let e = same_name name change.target same in
+          subst (λ n. Stands (map.get (changed cell change).vectors n) vector) (sym e) (target-stands vector (ap (map.get cell.vectors) (sym e) ∙ there))
+      by false apart = (vector, (vectors-at cell change (local-stays change local)).others name apart ∙ there, stands-itself vector)
+
+  feature-stays : (name : Name) → IsSome (map.get cell.features name) → IsSome (map.get (changed cell change).features name)
+  feature-stays name some = by (eq_by_cmp name_cmp name change.target) refl
+    where
+      at : ChangedAt change.target cell.features (changed cell change).features
+      at = features-at cell change (local-stays change local)
+
+      by : (b : Bool) → eq_by_cmp name_cmp name change.target ≡ b → IsSome (map.get (changed cell change).features name)
+      by true same =
+          let e = same_name name change.target same in
+          subst (λ n. IsSome (map.get (changed cell change).features n)) (sym e) (at.kept (subst (λ n. IsSome (map.get cell.features n)) e some))
+      by false apart = ap is_some (at.others name apart) ∙ some
+
+-- ---- charts
+
+if-some : {A : Type 0} (P : A → Type 0) (o : Option A) → ((x : A) → o ≡ Some x → P x) → IfSome o P
+if-some P None each = tt
+if-some P (Some x) each = each x refl
+
+at-some : {A : Type 0} (P : A → Type 0) (o : Option A) (x : A) → o ≡ Some x → IfSome o P → P x
+at-some P o x is has = subst (λ found. IfSome found P) is has
+
+keeps-itself : (chart : CellValue) (header : Header) → KeepsRecords chart (begun (Some chart) header)
+keeps-itself chart header = record {
+  vectors = λ name. if-some _ (map.get chart.vectors name) (λ vector there. (vector, there, stands-itself vector));
+  features = λ name some. some;
+}
+
+keeps-next : (chart cell : CellValue) (change : Change) → KeepsRecords chart cell → is_local change ≡ true → fault_of cell change ≡ None → KeepsRecords chart (changed cell change)
+keeps-next chart cell change keeps local none = record {
+  vectors = λ name. if-some _ (map.get chart.vectors name) (λ vector there.
+      let before = at-some (Stands (map.get cell.vectors name)) (map.get chart.vectors name) vector there (keeps.vectors name) in
+      let after = vector-stands cell change local none name before.0 before.1 in
+      (after.0, after.1, stands-then vector before.0 after.0 before.2 after.2));
+  features = λ name some. feature-stays cell change local none name (keeps.features name some);
+}
+
+each-local : (changes : List Change) → are_local changes ≡ true → AllByRecursion (λ change. is_local change ≡ true) changes
+each-local [] local = tt
+each-local (change ∷ rest) local =
+    let parts = and_parts (is_local change) (are_local rest) local in
+    (parts.0, each-local rest parts.1)
+
+-- local changes keep what closure looks at
+keeps-all : (chart after : CellValue) (header : Header) (changes : List Change) → are_local changes ≡ true → folded (begun (Some chart) header) changes ≡ Ok after → KeepsRecords chart after
+keeps-all chart after header changes local made =
+    folded-keeps (KeepsRecords chart) (λ change. is_local change ≡ true) (λ cell change here local none. keeps-next chart cell change here local none)
+    (begun (Some chart) header) after changes (keeps-itself chart header) (each-local changes local) made
+
+-- each of changes that are local is
+pub local-at : (changes : List Change) (i : ℕ) (change : Change) → i < length changes → change ≡ get_or changes i change → are_local changes ≡ true → is_local change ≡ true
+local-at changes i change within is local =
+    subst (λ x. is_local x ≡ true) (sym is) (All-get_or (λ x. is_local x ≡ true) changes i change within (AllPass-from_list_all is_local changes local))
+
+-- a noted record has no fault where none has one
+found-sound : (after : CellValue) (name : Name) (entries : List (Name × Saved)) → list_all (λ entry. is_none (fault_at after entry.0)) entries ≡ true → IsSome (map.find name_cmp name entries) → IsNone (fault_at after name)
+found-sound after name [] sound some = absurd (true≢false (sym some))
+found-sound after name (entry ∷ rest) sound some = by (eq_by_cmp name_cmp name entry.0) refl some (found-sound after name rest sounds.1)
+  where
+    sounds : (is_none (fault_at after entry.0) ≡ true) × (list_all (λ entry. is_none (fault_at after entry.0)) rest ≡ true)
+    sounds = and_parts (is_none (fault_at after entry.0)) _ sound
+
+    by : (b : Bool) → eq_by_cmp name_cmp name entry.0 ≡ b → IsSome (if b then Some entry.1 else map.find name_cmp name rest)
+        → (IsSome (map.find name_cmp name rest) → IsNone (fault_at after name)) → IsNone (fault_at after name)
+    by true same some later = subst (λ n. IsNone (fault_at after n)) (sym (same_name name entry.0 same)) (not-true (is_some (fault_at after entry.0)) sounds.0)
+    by false apart some later = later some
+
+-- a record has no fault where it is noted, and is as it was where it isn't
+sound-or-same : (notes : map.FinMap name_cmp Saved) (chart after : CellValue) → TellsVectors notes chart.vectors after.vectors → TellsFeatures notes chart.features after.features
+    → are_sound after notes ≡ true → (name : Name) → IsNone (fault_at after name) ⊎ HasSame chart after name
+sound-or-same notes chart after vectors features sound name = by (map.get notes name) refl
+  where
+    by : (o : Option Saved) → map.get notes name ≡ o → IsNone (fault_at after name) ⊎ HasSame chart after name
+    by None none = inr (record {
+      vector = tells-apart (λ (saved : Saved). saved.vector) notes chart.vectors after.vectors vectors name none;
+      feature = tells-apart (λ (saved : Saved). saved.feature) notes chart.features after.features features name none;
+    })
+    by (Some saved) is = inl (found-sound after name (map.entries notes) sound (ap is_some (sym (map.get-entries notes name) ∙ is)))
+
+-- so a closed chart stays closed, by the law of charts
+pub stays-closed : ((before after : CellValue) → IsClosed before → KeepsRecords before after → ((name : Name) → IsNone (fault_at after name) ⊎ HasSame before after name) → IsClosed after)
+    → (notes : map.FinMap name_cmp Saved) (chart start after : CellValue) (header : Header) (changes : List Change) → start ≡ begun (Some chart) header → IsClosed chart → are_local changes ≡ true
+    → folded start changes ≡ Ok after → TellsVectors notes start.vectors after.vectors → TellsFeatures notes start.features after.features → are_sound after notes ≡ true → IsClosed after
+stays-closed law notes chart start after header changes is closed local made vectors features sound =
+    law chart after closed
+    (keeps-all chart after header changes local (ap (λ (cell : CellValue). folded cell changes) (sym is) ∙ made))
+    (sound-or-same notes chart after
+    (subst (λ (cell : CellValue). TellsVectors notes cell.vectors after.vectors) is vectors)
+    (subst (λ (cell : CellValue). TellsFeatures notes cell.features after.features) is features)
+    sound)

@@ -1,0 +1,48 @@
+//! Changes that can't break what other records are.
+
+ghost use Rattle.std.specs.Prelude.{◌≡◌};
+ghost use Rattle.update_sequence.specs.Extended.{keeps_coords, is_local, are_local};
+
+use chart_model::{Control, UpdateRecord};
+
+/// The kind of features (S-57 Part 3, RCNM).
+const FEATURE: u8 = 100;
+
+// The update instructions of records (S-57 Part 3, RUIN), which those of lists share.
+const INSERT: u8 = 1;
+
+const DELETE: u8 = 2;
+
+const MODIFY: u8 = 3;
+
+/// Whether an edit of coordinates takes none away.
+fn keeps_coords(edit: Option<Control>) -> bool
+    ensures { result ≡ keeps_coords edit }
+{
+    match edit {
+        Some(control) => control.instruction != DELETE,
+        None => true,
+    }
+}
+
+/// Whether no record but the changed one can get a fault of closure by the change: it deletes nothing,
+/// and leaves the pointers of vector records.
+fn is_local(change: &UpdateRecord) -> bool
+    ensures { result ≡ is_local change.now }
+{
+    match change.ruin {
+        INSERT => true,
+        MODIFY => {
+            change.target.rcnm == FEATURE
+                || (change.pointer_edit.is_none() && keeps_coords(change.coord_edit))
+        }
+        _ => false,
+    }
+}
+
+/// Whether all changes are so.
+pub(crate) fn are_local(changes: &[UpdateRecord]) -> bool
+    ensures { result ≡ are_local changes.now }
+{
+    changes.iter().all(is_local)
+}

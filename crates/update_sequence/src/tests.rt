@@ -1,0 +1,5 @@
+//! Sequences worked out by hand.
+
+mod charts;
+mod files;
+mod judged;
