@@ -1,6 +1,6 @@
 -- What a command answers, step by step.
-use Rattle.std.proofs.Common.{◌≡◌, ℕ, ◌≤◌, Bool, true, false, cond, List, length, leb, Option, Some, None, Result, Ok, Err, refl, sym, ◌∙◌, ap, subst}
-use Rattle.std.specs.Prelude.{IsErrOf, IsErrAnd, IsTrue}
+use Rattle.std.proofs.Common.{◌≡◌, ℕ, Bool, true, false, cond, List, length, leb, Option, Some, None, Result, Ok, Err, refl, sym, ◌∙◌, ap, subst}
+use Rattle.std.specs.Prelude.{IsErrOf, IsErrAnd}
 use Rattle.std.proofs.lemmas.Result.{err_from_is_err_and}
 use Rattle.chart_ports.specs.Count.{Rose}
 use Rattle.chart_ports.specs.Fetched.{fetched_of}
@@ -20,7 +20,6 @@ use Rattle.ecdis_cli.specs.declared.general.General.{General}
 use Rattle.ecdis_cli.specs.declared.line.Event.{Event}
 use Rattle.ecdis_cli.specs.declared.refusal.Refusal.{Refusal}
 use Rattle.ecdis_cli.specs.declared.refusal.Refusal.TheVariants.{FileLong, Read, Build}
-use Rattle.ecdis_cli.specs.declared.reply.Reply.{Reply}
 use Rattle.ecdis_cli.specs.declared.reply.Reply.TheVariants as replies
 use Rattle.ecdis_cli.specs.Commands.{◌>>=◌, or_refused, Gives, fault_of_shelf, fault_of_read, fault_of_build}
 use Rattle.ecdis_cli.specs.Marked.{Marked}
@@ -30,7 +29,7 @@ use Rattle.ecdis_cli.specs.Event.{event_on}
 use Rattle.ecdis_cli.specs.Fetch.{Files, FILE_LIMIT, file_in, file_or_none, fetched}
 use Rattle.ecdis_cli.specs.Info.{info_of}
 use Rattle.ecdis_cli.specs.Load.{Loaded, loaded, load_of}
-use Rattle.ecdis_cli.specs.Turn.{Turn, refused, informed, load_reply, taken_over, turn_of, turn_on, turn_to, silent, GivesTurn}
+use Rattle.ecdis_cli.specs.Turn.{refused, informed, load_reply, taken_over, turn_of, turn_on, turn_to, silent, GivesTurn}
 
 -- ---- marks
 

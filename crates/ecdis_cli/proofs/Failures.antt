@@ -1,5 +1,5 @@
 -- Only where a fetch failed is it said that the shelf failed.
-use Rattle.std.proofs.Common.{◌≡◌, ◌≢◌, ℕ, Bool, true, false, cond, ◌&&◌, not, List, [], ◌∷◌, length, leb, refl, sym, ◌∙◌, ap}
+use Rattle.std.proofs.Common.{◌≡◌, ◌≢◌, ℕ, true, false, cond, ◌&&◌, not, List, length, leb, refl, ap}
 use Rattle.std.specs.Prelude.{Option, Some, None, Result, Ok, Err}
 use Rattle.std.specs.Fmt.{digits}
 use Rattle.std.specs.FinMap as map
@@ -41,7 +41,7 @@ use Rattle.ecdis_cli.specs.Fetch.{Files, within_limit, file_or_none, fetched}
 use Rattle.ecdis_cli.specs.Info.{info_of}
 use Rattle.ecdis_cli.specs.Load.{HoldingsByKey, Loaded, held_of, chart_of, chart_after, live_bytes, cells_within, store_within, put, taken, loaded, load_of}
 use Rattle.ecdis_cli.specs.Reply.{printed}
-use Rattle.ecdis_cli.specs.Turn.{Turn, informed, load_reply, taken_over, turn_of, turn_on, turn_to, said_of, reply_to, silent}
+use Rattle.ecdis_cli.specs.Turn.{Turn, informed, taken_over, turn_of, turn_on, turn_to, said_of, reply_to, silent}
 use Rattle.ecdis_cli.specs.Replies.{is_fetch_failure}
 
 -- ---- what is printed

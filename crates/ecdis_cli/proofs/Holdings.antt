@@ -1,5 +1,5 @@
 -- What is held, when a cell is put in.
-use Rattle.std.proofs.Common.{◌≡◌, ◌≢◌, ◌↔◌, ℕ, ◌+◌, ◌-◌, ◌<◌, ◌≤◌, leb, Result, Ok, Err, Bool, true, false, cond, List, [], ◌∷◌, ◌++◌, length, sum_by, Option, Some, None, arith, refl, sym, ◌∙◌, ap, subst, length-append}
+use Rattle.std.proofs.Common.{◌≡◌, ◌↔◌, ℕ, ◌+◌, ◌-◌, ◌<◌, ◌≤◌, leb, Ok, Err, Bool, true, false, cond, List, [], ◌∷◌, ◌++◌, length, sum_by, Option, Some, None, arith, refl, sym, ◌∙◌, ap, subst, length-append}
 use Rattle.std.specs.Cmp.{tied_itself}
 use Rattle.std.specs.Option.{unwrap_or, is_some}
 use Rattle.std.specs.Prelude.{All, IfSome, IsSome, map as list_map}
@@ -20,7 +20,6 @@ use Rattle.chart_model.proofs.Trees.{entries-empty}
 use Rattle.update_sequence.specs.declared.effect.Effect.{Effect}
 use Rattle.update_sequence.specs.declared.effect.Effect.TheVariants.{Replace, Extend, Cancel}
 use Rattle.ecdis_cli.specs.Load.{HoldingsByKey, files_of, files_after, bytes_of, replaced_bytes, live_bytes, STORE_LIMIT, store_within, nothing_held}
-use Rattle.ecdis_cli.specs.declared.refusal.Refusal.{Refusal}
 use Rattle.ecdis_cli.specs.declared.refusal.Refusal.TheVariants.{StoreFull}
 use Rattle.ecdis_cli.specs.Live.{IsCounted}
 use Rattle.std.proofs.lemmas.Bool.Decides.{nat_tests}

@@ -8,3 +8,4 @@ pub mod Weights
 pub mod Holdings
 pub mod Loading
 pub mod CellLines
+pub mod Extending

@@ -12,7 +12,6 @@ use Rattle.std.proofs.lemmas.List.Splits.{slice_split_at, slice_split_none, leng
 use Rattle.chart_model.specs.State.{StateValue}
 use Rattle.ecdis_cli.specs.declared.line.Event.{Event}
 use Rattle.ecdis_cli.specs.declared.line.Event.TheVariants.{Info, Load, Cells}
-use Rattle.ecdis_cli.specs.declared.reply.Reply.{Reply}
 use Rattle.ecdis_cli.specs.declared.reply.Reply.TheVariants.{Refused}
 use Rattle.ecdis_cli.specs.declared.refusal.Refusal.TheVariants.{BadLine}
 use Rattle.ecdis_cli.specs.Line.{is_word, is_silent, word_if, word_after}

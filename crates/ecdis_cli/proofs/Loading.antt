@@ -1,13 +1,13 @@
 -- What a file that is accepted leaves of its cell.
-use Rattle.std.proofs.Common.{◌≡◌, ◌≢◌, ℕ, ◌+◌, ◌≤◌, Bool, true, false, not, ◌&&◌, cond, eqb, List, Option, Some, None, IfSome, All, Result, Ok, Err, refl, sym, ◌∙◌, ap, subst, arith}
+use Rattle.std.proofs.Common.{◌≡◌, ◌≢◌, ℕ, ◌+◌, ◌≤◌, Bool, true, false, not, cond, eqb, List, Option, Some, None, IfSome, IsSome, All, Result, Ok, Err, refl, sym, ◌∙◌, ap, subst, arith}
 use Rattle.std.proofs.lemmas.Bool.{true≢false, cases_Bool}
 use Rattle.std.specs.Prelude.{◌⊎◌}
 use Rattle.std.proofs.Common.{inl, inr}
+use Rattle.std.specs.FinMap as map
 use Rattle.chart_model.specs.Cell.{CellValue, IsCell}
 use Rattle.chart_model.specs.Change.{IsChange}
 use Rattle.chart_model.specs.Dataset.{DatasetValue, IsDataset}
 use Rattle.chart_model.specs.State.{IsHeld, IsChartOf, IsHolding}
-use Rattle.chart_model.specs.declared.dataset.Header.{Header}
 use Rattle.chart_model.specs.declared.state.Held.{Held}
 use Rattle.chart_model.specs.declared.state.Holding.{Holding}
 use Rattle.update_sequence.specs.Judged.{is_older, judged_base, judged_update, judged}
@@ -26,7 +26,7 @@ use Rattle.ecdis_cli.specs.declared.load.Accepted.{Accepted}
 use Rattle.chart_model.specs.State.{StateValue}
 use Rattle.std.specs.Result.{IsErrAnd}
 use Rattle.std.proofs.lemmas.Result.{err_from_is_err_and}
-use Rattle.ecdis_cli.specs.Load.{held_of, chart_of, held_after, chart_after, IsBuildable, IsJudged, Loaded, GivesLoaded}
+use Rattle.ecdis_cli.specs.Load.{held_of, chart_of, held_after, chart_after, HoldingsByKey, IsExtension, IsJudged, Loaded, GivesLoaded}
 
 -- ---- what is judged
 
@@ -189,6 +189,25 @@ module _
     pub judged-chart : (before : Option Holding) (dataset : DatasetValue) (effect : Effect) (chart : Option CellValue) → IfSome before (IsHolding dataset.header.key) → IsDataset dataset → All IsChange dataset.changes →
         judged (held_of before) dataset ≡ Ok effect → chart_after (chart_of before) effect dataset ≡ Ok chart → IfSome chart (IsChartOf dataset.header.key (held_after before effect dataset.header))
     judged-chart before dataset effect chart h is changes e made = chart_by_effect before dataset effect chart h is changes (effect_says (held_of before) dataset effect e) made
+
+    -- an update extends the chart that is held, which is that of its numbers then
+    pub judged-extends : (cells : HoldingsByKey) (before : Option Holding) (dataset : DatasetValue) (held : Held) → before ≡ map.get cells dataset.header.key → IfSome before (IsHolding dataset.header.key) → IsDataset dataset → All IsChange dataset.changes →
+        judged (held_of before) dataset ≡ Ok Extend → held ≡ held_after before Extend dataset.header → IsExtension cells dataset.header.key held dataset
+    unfolding Says
+    judged-extends cells before dataset held found h is changes e numbers =
+        let says = effect_says (held_of before) dataset Extend e in
+        let same : chart_of before ≡ chart_of (map.get cells dataset.header.key) = ap chart_of found in
+        record {
+          stands = says.1;
+          update = says.0;
+          there = rw same at (is_there (chart_of before) (has_chart dataset.header.key before says.2 h says.3 says.4));
+          chart = λ chart made. subst (λ (x : Held). IfSome chart (IsChartOf dataset.header.key x)) (sym numbers)
+              (judged-chart before dataset Extend chart h is changes e (ap (λ (o : Option CellValue). chart_after o Extend dataset) same ∙ made));
+        }
+      where
+        is_there : (o : Option CellValue) → o ≢ None → IsSome o
+        is_there None h = absurd (h refl)
+        is_there (Some chart) h = refl
 
 -- ---- the command
 

@@ -17,7 +17,7 @@ use Rattle.ecdis_cli.specs.Fetch.{Files}
 use Rattle.ecdis_cli.specs.Load.{nothing_held}
 use Rattle.ecdis_cli.specs.Turn.{reply_to}
 use Rattle.ecdis_cli.specs.Replies.{replies_from, replies_of, joined, ended, fetch_failures}
-use Rattle.ecdis_cli.specs.Progress.{Standing, at_start, Unbroken, Answered, Interrupted, output_from, output_at, marked, Advanced, Halted}
+use Rattle.ecdis_cli.specs.Progress.{Standing, at_start, Unbroken, Answered, Interrupted, output_from, marked, Advanced, Halted}
 use Rattle.ecdis_cli.specs.Run.{Replied}
 use Rattle.ecdis_cli.proofs.Lines.{output-last}
 use Rattle.ecdis_cli.proofs.Steps.{front-whole, front-after, front-same, decided, rose-more, rose-fewer, marked-append, rose-mark, failures-le-marked, Advanced-start, Advanced-then, Halted-then, Advanced-front, Halted-start}

@@ -27,6 +27,11 @@ Gives (Ok x) wanted = wanted ≡ Ok x
 Gives (Err (Refused refusal)) wanted = wanted ≡ Err refusal
 Gives (Err NoMemory) wanted = Unit {0}
 
+-- a value as it is now, unless there was a fault
+abbrev pub now : {A : Type 0} → Result (Unit {0}) CommandFault → A → Result A CommandFault
+now (Ok done) x = Ok x
+now (Err fault) x = Err fault
+
 -- the faults below, as those of a command
 
 abbrev pub fault_of_shelf : ShelfError → CommandFault

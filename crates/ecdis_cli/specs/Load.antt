@@ -1,11 +1,11 @@
 -- The command `load`: a file is taken over, by what is held of its cell.
-use Rattle.std.specs.Prelude.{◌≡◌, ◌↔◌, ℕ, ◌+◌, Bool, true, false, ◌&&◌, not, nat_le, is_some, List, [], ◌∷◌, ◌++◌, length, sum_by, Option, Some, None, Result, Ok, Err, if◌then◌else◌}
+use Rattle.std.specs.Prelude.{◌≡◌, ◌↔◌, ℕ, true, false, ◌&&◌, not, nat_le, List, [], ◌∷◌, ◌++◌, length, sum_by, IfSome, IsSome, Option, Some, None, Result, Ok, Err, if◌then◌else◌}
 use Rattle.std.specs.Option.{option_map, option_and_then}
 use Rattle.std.specs.FinMap as map
 use Rattle.chart_model.specs.Cell.{CellValue}
 use Rattle.chart_model.specs.Dataset.{DatasetValue}
 use Rattle.chart_model.specs.Keys.{key_cmp}
-use Rattle.chart_model.specs.State.{StateValue}
+use Rattle.chart_model.specs.State.{StateValue, IsChartOf}
 use Rattle.chart_model.specs.declared.dataset.Header.{Header}
 use Rattle.chart_model.specs.declared.state.Held.{Held}
 use Rattle.chart_model.specs.declared.state.Holding.{Holding}
@@ -19,7 +19,7 @@ use Rattle.ecdis_cli.specs.declared.refusal.Refusal.{Refusal}
 use Rattle.ecdis_cli.specs.declared.refusal.Refusal.TheVariants.{Read, Sequence, CellsFull, Build, StoreFull}
 use Rattle.ecdis_cli.specs.declared.fault.CommandFault.{CommandFault}
 use Rattle.ecdis_cli.specs.declared.load.Accepted.{Accepted}
-use Rattle.ecdis_cli.specs.Commands.{◌>>=◌, or_refused, Gives}
+use Rattle.ecdis_cli.specs.Commands.{◌>>=◌, or_refused, Gives, now}
 use Rattle.ecdis_cli.specs.Fetch.{within_limit}
 
 abbrev pub HoldingsByKey : Type 0
@@ -132,6 +132,33 @@ load_of state file = do
   bytes ← file
   loaded state bytes
 
+-- ---- a chart that is extended
+
+-- a cell extended by an update and its file
+abbrev pub extended : Holding → Held → DatasetValue → List ℕ → Result Holding Refusal
+extended here held dataset file = do
+  chart ← chart_after here.chart Extend dataset
+  Ok (record { held = held; files = here.files ++ file ∷ []; chart = chart })
+
+-- the cells, with one of them extended
+abbrev pub extended_in : HoldingsByKey → List ℕ → Held → DatasetValue → List ℕ → Result HoldingsByKey Refusal
+extended_in cells key held dataset file = do
+  chart ← chart_after (chart_of (map.get cells key)) Extend dataset
+  Ok (map.insert cells key (record { held = held; files = files_of (map.get cells key) ++ file ∷ []; chart = chart }))
+
+-- the same, as far as there is room
+abbrev pub extended_within : HoldingsByKey → List ℕ → Held → DatasetValue → List ℕ → Result StateValue Refusal
+extended_within cells key held dataset file = do
+  after ← extended_in cells key held dataset file
+  store_within after
+
+-- a cell with a chart can be extended by an update, and its chart is then that of the numbers
+pub record IsExtension (cells : HoldingsByKey) (key : List ℕ) (held : Held) (dataset : DatasetValue) : Type 0 where
+  pub stands : dataset.cancels ≡ false
+  pub update : dataset.base ≡ false
+  pub there : IsSome (chart_of (map.get cells key))
+  pub chart : (chart : Option CellValue) → chart_after (chart_of (map.get cells key)) Extend dataset ≡ Ok chart → IfSome chart (IsChartOf key held)
+
 -- ---- what builds a chart
 
 -- a base file builds on nothing, an update on a chart
@@ -146,12 +173,8 @@ pub record IsJudged (chart : Option CellValue) (effect : Effect) (dataset : Data
 -- ---- answers
 
 -- what is held now is what was to be held, unless memory ran out
-abbrev pub now_held : Result (Unit {0}) CommandFault → StateValue → Result StateValue CommandFault
-now_held (Ok done) state = Ok state
-now_held (Err fault) state = Err fault
-
 abbrev pub GivesState : Result (Unit {0}) CommandFault → StateValue → Result StateValue Refusal → Type 0
-GivesState answer state wanted = Gives (now_held answer state) wanted
+GivesState answer state wanted = Gives (now answer state) wanted
 
 -- the same with the cell of the file that was taken over
 abbrev pub now_loaded : Result Accepted CommandFault → StateValue → Result Loaded CommandFault

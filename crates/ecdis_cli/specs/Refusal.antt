@@ -2,8 +2,6 @@
 use Rattle.std.specs.Prelude.{ℕ, List, [], ◌∷◌, map}
 use Rattle.std.specs.List.{flat_map}
 use Rattle.std.specs.Fmt.{decimal}
-use Rattle.chart_model.specs.declared.name.Name.{Name}
-use Rattle.chart_model.specs.declared.name.Foid.{Foid}
 use Rattle.iso8211_records.specs.declared.fault.FileFault.{FileFault}
 use Rattle.iso8211_records.specs.declared.fault.FileFault.TheVariants as of_file
 use Rattle.s57_records.specs.declared.fault.DatasetFault.{DatasetFault}

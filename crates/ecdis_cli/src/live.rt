@@ -1,18 +1,20 @@
 //! The cells that are held, and the limits of what may be held.
 
-ghost use Rattle.std.specs.Prelude.{◌≡◌, ◌≤◌, ◌↔◌, ◌++◌, ◌∷◌, [], None, true, List, ℕ, length, IfOk, IfSome, OnOk, OnErr, IsSome, if◌then◌else◌};
+ghost use Rattle.std.specs.Prelude.{◌≡◌, ◌≤◌, ◌↔◌, None, true, false, List, ℕ, length, IfOk, IfSome, OnOk, OnErr};
 ghost use Rattle.std.specs.Option.{option_copied};
 ghost use Rattle.std.specs.FinMap as map;
 ghost use Rattle.chart_model.specs.State.{IsHeld, IsFileLength, IsChartOf, IsHolding};
-ghost use Rattle.ecdis_cli.specs.Load.{bytes_of, replaced_bytes, files_of, files_after, nothing_held, cells_within, store_within, GivesState};
-ghost use Rattle.ecdis_cli.specs.Commands.{Gives};
+ghost use Rattle.chart_closure.specs.Closed.{IsClosed};
+ghost use Rattle.ecdis_cli.specs.Load.{bytes_of, replaced_bytes, files_of, files_after, nothing_held, cells_within, store_within, chart_of, extended_in, extended_within, IsExtension, GivesState};
+ghost use Rattle.ecdis_cli.specs.Commands.{Gives, now};
 
 use crate::fault::CommandFault;
+use crate::holding::{chart_of, extend_in, put_in};
 use crate::refusal::Refusal;
-use chart_model::{Cell, FileList, Held, Holding, HoldingMap, Key, Octets, State};
+use chart_model::{Cell, Dataset, Held, Holding, HoldingMap, Key, Octets, State};
 use std::alloc::{AllocError, Global};
 use std::marker::Model;
-use update_sequence::Effect;
+use update_sequence::{Effect, build, charts_are_closed};
 
 /// The most cells that are held, cancelled ones too.
 const CELLS_LIMIT: usize = 32;
@@ -20,7 +22,8 @@ const CELLS_LIMIT: usize = 32;
 /// The most bytes of all live files.
 const STORE_LIMIT: u64 = 67_108_864;
 
-/// The cells that are held. Their live files have at most 67,108,864 bytes in all.
+/// The cells that are held. Their live files have at most 67,108,864 bytes in all, and their charts are
+/// closed.
 #[derive(Debug, Drop)]
 pub struct LiveCells {
     state: State,
@@ -30,7 +33,7 @@ pub struct LiveCells {
 
 impl Model for LiveCells {
     ghost use Rattle.chart_model.specs.State.{StateValue, state_code};
-    ghost use Rattle.ecdis_cli.specs.Live.{IsCounted};
+    ghost use Rattle.ecdis_cli.specs.Live.{IsLive};
 
     ghost Value = { StateValue };
 
@@ -38,7 +41,7 @@ impl Model for LiveCells {
 
     ghost view = { λ live. live.state };
 
-    ghost invariant = { λ live. IsCounted live.state live.bytes };
+    ghost invariant = { λ live. IsLive live.state live.bytes };
 }
 
 /// The bytes of whole files.
@@ -64,78 +67,11 @@ fn replaced_bytes(before: Option<&Holding>, effect: Effect) -> u64
     }
 }
 
-/// Puts a file's cell in, with this file alone.
-fn begin(
-    alloc: Global,
-    cells: &mut HoldingMap,
-    key: Key,
-    held: Held,
-    chart: Option<Cell>,
-    file: Octets,
-) -> Result<(), AllocError>
-    ensures ok { OnOk result (cells.new ≡ map.insert cells.old key (record { held = held; files = file ∷ []; chart = chart })) }
-    ensures err { OnErr result (cells.new ≡ cells.old) }
-{
-    let mut files = FileList::new(alloc);
-    files.push(file)?;
-    cells.insert(key, Holding { held, files, chart })
-}
-
-/// Puts a file behind the live files of its cell, which is held.
-fn follow(
-    alloc: Global,
-    cells: &mut HoldingMap,
-    key: Key,
-    held: Held,
-    chart: Option<Cell>,
-    file: Octets,
-) -> Result<(), AllocError>
-    requires { IsSome (map.get cells.old key) }
-    ensures ok { OnOk result (cells.new ≡ map.insert cells.old key (record { held = held; files = files_of (map.get cells.old key) ++ file ∷ []; chart = chart })) }
-    ensures err { OnErr result (cells.new ≡ cells.old) }
-{
-    // While the cell is edited, one without a file stands in for it.
-    let mut here = Holding {
-        held,
-        files: FileList::new(alloc),
-        chart: None,
-    };
-    cells.swap(key, &mut here);
-    if let Err(error) = here.files.push(file) {
-        cells.swap(key, &mut here);
-        return Err(error);
-    }
-    here.held = held;
-    here.chart = chart;
-    cells.swap(key, &mut here);
-    Ok(())
-}
-
 /// What is held of the cell of this key.
 fn holding(state: &State, key: Key) -> Option<&Holding>
     ensures { option_copied result ≡ map.get state.now.cells key }
 {
     state.cells.get(key)
-}
-
-/// Puts a file in: it replaces the live files of its cell or follows them.
-fn put_in(
-    alloc: Global,
-    cells: &mut HoldingMap,
-    key: Key,
-    effect: Effect,
-    held: Held,
-    chart: Option<Cell>,
-    file: Octets,
-) -> Result<(), AllocError>
-    ensures ok { OnOk result (cells.new ≡ map.insert cells.old key (record { held = held; files = files_after (map.get cells.old key) effect file; chart = chart })) }
-    ensures err { OnErr result (cells.new ≡ cells.old) }
-{
-    if effect == Effect::Replace || !cells.contains(key) {
-        begin(alloc, cells, key, held, chart, file)
-    } else {
-        follow(alloc, cells, key, held, chart, file)
-    }
 }
 
 /// Puts a file and what it leaves of its cell into what is held.
@@ -157,6 +93,26 @@ fn put(
 {
     put_in(alloc, &mut state.cells, key, effect, held, chart, file)?;
     Ok(())
+}
+
+/// Extends the cell of this key, which has a chart, by an update and its file.
+fn extend(
+    alloc: Global,
+    state: &mut State,
+    key: Key,
+    held: Held,
+    dataset: &Dataset,
+    file: Octets,
+) -> Result<(), CommandFault>
+    requires held { IsHeld held }
+    requires stands { held.cancelled ≡ false }
+    requires short { IsFileLength (length file) }
+    requires extends { IsExtension state.old.cells key held dataset.now }
+    requires closed { IfSome (chart_of (map.get state.old.cells key)) IsClosed }
+    ensures after { Gives (now result state.new.cells) (extended_in state.old.cells key held dataset.now file) }
+    ensures err { OnErr result (state.new ≡ state.old) }
+{
+    extend_in(alloc, &mut state.cells, key, held, dataset, file)
 }
 
 impl LiveCells {
@@ -206,6 +162,7 @@ impl LiveCells {
         requires short { IsFileLength (length file) }
         requires cancelled { (chart ≡ None) ↔ (held.cancelled ≡ true) }
         requires chart { IfSome chart (IsChartOf key held) }
+        requires closed { IfSome chart IsClosed }
         ensures put { GivesState result self.new (store_within (map.insert self.old.cells key (record { held = held; files = files_after (map.get self.old.cells key) effect file; chart = chart }))) }
         ensures err { OnErr result (self.new ≡ self.old) }
     {
@@ -216,6 +173,37 @@ impl LiveCells {
         }
         put(alloc, &mut self.state, key, effect, held, chart, file)?;
         self.bytes = bytes;
+        Ok(())
+    }
+
+    /// Extends the cell of this key, which has a chart, by an update and its file, where there is room for that.
+    ///
+    /// The chart is extended in its place.
+    pub fn extend(
+        &mut self,
+        alloc: Global,
+        key: Key,
+        held: Held,
+        dataset: &Dataset,
+        file: Octets,
+    ) -> Result<(), CommandFault>
+        requires held { IsHeld held }
+        requires stands { held.cancelled ≡ false }
+        requires short { IsFileLength (length file) }
+        requires extends { IsExtension self.old.cells key held dataset.now }
+        ensures extended { GivesState result self.new (extended_within self.old.cells key held dataset.now file) }
+        ensures err { OnErr result (self.new ≡ self.old) }
+    {
+        charts_are_closed();
+        let total = self.bytes + file.as_slice().len() as u64;
+        if total > STORE_LIMIT {
+            // What refuses the chart comes before the limit.
+            let chart = chart_of(holding(&self.state, key));
+            build(alloc, chart, dataset)?;
+            return Err(CommandFault::Refused(Refusal::StoreFull(total)));
+        }
+        extend(alloc, &mut self.state, key, held, dataset, file)?;
+        self.bytes = total;
         Ok(())
     }
 }

@@ -5,22 +5,24 @@ ghost use Rattle.chart_model.specs.Change.{IsChange};
 ghost use Rattle.std.specs.Option.{option_copied};
 ghost use Rattle.std.specs.FinMap as map;
 ghost use Rattle.chart_model.specs.State.{IsHolding, IsFileLength};
-ghost use Rattle.ecdis_cli.specs.Load.{held_of, chart_of, held_after, chart_after, IsJudged, taken, loaded, load_of, GivesLoaded};
+ghost use Rattle.ecdis_cli.specs.Load.{held_after, taken, loaded, load_of, GivesLoaded};
 ghost use Rattle.ecdis_cli.specs.Marked.{Marked};
 ghost use Rattle.ecdis_cli.specs.Commands.{Gives};
 ghost use Rattle.ecdis_cli.specs.Fetch.{fetched};
 
 use crate::fault::CommandFault;
 use crate::fetch::{FILE_LIMIT, fetch};
+use crate::holding::held_of;
 use crate::live::LiveCells;
 use crate::refusal::Refusal;
 use crate::word::Word;
-use chart_model::{Cell, Dataset, Header, Held, Holding, Key, Octets};
+use chart_model::{Dataset, Header, Held, Holding, Key, Octets};
 use chart_ports::{Shelf, Steps};
 use std::alloc::Global;
 use std::sync::ledger::Ledger;
 use update_sequence::{
-    Effect, build, charts_are_cells, files_are_data_sets, headers_follow, judge, read_data_set,
+    Effect, build, charts_are_cells, charts_are_closed, files_are_data_sets, headers_follow, judge,
+    read_data_set,
 };
 
 /// The cell of a file that was taken over, and the numbers that are held of it now.
@@ -28,26 +30,6 @@ use update_sequence::{
 pub struct Accepted {
     pub key: Key,
     pub held: Held,
-}
-
-/// What is held of a cell: its numbers.
-fn held_of(before: Option<&Holding>) -> Option<&Held>
-    ensures { option_copied result ≡ held_of (option_copied before.entry) }
-{
-    match before {
-        Some(here) => Some(&here.held),
-        None => None,
-    }
-}
-
-/// What is held of a cell: its chart, unless it is cancelled.
-fn chart_of(before: Option<&Holding>) -> Option<&Cell>
-    ensures { option_copied result ≡ chart_of (option_copied before.entry) }
-{
-    match before {
-        Some(here) => here.chart.as_ref(),
-        None => None,
-    }
 }
 
 /// The numbers that are held of a cell after a file.
@@ -69,23 +51,6 @@ fn held_after(before: Option<&Holding>, effect: Effect, header: &Header) -> Held
     }
 }
 
-/// The chart of a cell after a file.
-fn chart_after(
-    alloc: Global,
-    chart: Option<&Cell>,
-    effect: Effect,
-    dataset: &Dataset,
-) -> Result<Option<Cell>, CommandFault>
-    requires { IsJudged (option_copied chart) effect dataset.now }
-    ensures { Gives result (chart_after (option_copied chart.entry) effect dataset.now) }
-{
-    match effect {
-        Effect::Replace => Ok(Some(build(alloc, None, dataset)?)),
-        Effect::Extend => Ok(Some(build(alloc, chart, dataset)?)),
-        Effect::Cancel => Ok(None),
-    }
-}
-
 /// Takes over a data set and its file.
 fn take(
     alloc: Global,
@@ -99,14 +64,21 @@ fn take(
     ensures err { OnErr result (live.new ≡ live.old) }
 {
     charts_are_cells();
+    charts_are_closed();
     headers_follow();
     let key = dataset.header.key;
     let before = live.cells().get(key);
     let effect = judge(held_of(before), dataset)?;
-    live.check_room(key)?;
-    let chart = chart_after(alloc, chart_of(before), effect, dataset)?;
     let held = held_after(before, effect, &dataset.header);
-    live.put(alloc, key, effect, held, chart, file)?;
+    live.check_room(key)?;
+    match effect {
+        Effect::Replace => {
+            let chart = build(alloc, None, dataset)?;
+            live.put(alloc, key, effect, held, Some(chart), file)?;
+        }
+        Effect::Extend => live.extend(alloc, key, held, dataset, file)?,
+        Effect::Cancel => live.put(alloc, key, effect, held, None, file)?,
+    }
     Ok(Accepted { key, held })
 }
 

@@ -1,5 +1,5 @@
 -- The parts of the line stand behind each other.
-use Rattle.std.proofs.Common.{◌≡◌, ℕ, List, [], ◌∷◌, ◌++◌, codes, length, refl, sym, ap, ◌∙◌}
+use Rattle.std.proofs.Common.{ℕ, [], ◌∷◌, ◌++◌, codes, length, ap, ◌∙◌}
 use Rattle.std.specs.Fmt.{decimal}
 use Rattle.ecdis_cli.specs.Listing.{chart_word}
 use Rattle.ecdis_cli.proofs.CellLines.{line-joined}
