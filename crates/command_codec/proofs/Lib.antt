@@ -1,0 +1,3 @@
+pub mod ByteTests
+pub mod Spellings
+pub mod Readings

@@ -1,0 +1,8 @@
+use Rattle.std.proofs.Common.{arith}
+use Rattle.std.proofs.lemmas.Result.{MatchResult-weaker}
+use Rattle.command_codec.proofs.Readings.{loaded_first}
+use Rattle.command_codec.proofs.decode.read.Goals as goal
+
+pub returns-in-1-clause-memory : goal.returns-in-1-clause-memory
+returns-in-1-clause-memory c =
+    MatchResult-weaker c.load_of.result c.load_of.ensures.memory (λ _ _. tt) (λ _ loads. (_, loaded_first c.args.bytes.now _ (omega arith) (omega arith) loads))

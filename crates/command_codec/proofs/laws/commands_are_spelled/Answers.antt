@@ -1,0 +1,5 @@
+use Rattle.command_codec.proofs.Spellings.{found, given}
+use Rattle.command_codec.proofs.laws.commands_are_spelled.Goals as goal
+
+pub returns : goal.returns
+returns c = λ bytes command. (found bytes command, given bytes command)

@@ -1,0 +1,72 @@
+//! Commands of bytes.
+
+ghost use Rattle.std.specs.Prelude.{◌≡◌, IfOk, IfErr, IfSome, IfNone, List, ℕ, Some};
+ghost use Rattle.chart_model.specs.declared.command.Command.{Command as CommandValue};
+ghost use Rattle.chart_model.specs.declared.command.Command.TheVariants.{Load};
+ghost use Rattle.command_codec.specs.Spelling.{Spells};
+ghost use Rattle.command_codec.specs.Reading.{load_in, rollback_in, drop_in, command_in};
+
+use crate::first_byte::{DROPS, LOADS, ROLLS_BACK};
+use chart_model::{Command, Key, Octets};
+use std::alloc::{AllocError, Global};
+
+/// The most bytes of a file.
+const LONGEST_FILE: usize = 8_388_608;
+
+/// The command that loads these bytes, where a file may have so many.
+fn load_of(alloc: Global, rest: &[u8]) -> Result<Option<Command>, AllocError>
+    ensures command { IfOk result (λ found. found ≡ load_in rest.now) }
+    ensures memory { IfErr result (λ _. load_in rest.now ≡ Some (Load rest.now)) }
+{
+    if rest.len() > LONGEST_FILE {
+        return Ok(None);
+    }
+    let file = Octets::from_vec(Vec::from_slice(alloc, rest)?);
+    Ok(Some(Command::Load(file)))
+}
+
+/// The command that keeps a cell's files up to an update, where the bytes are its number and a key.
+fn rollback_of(rest: &[u8]) -> Option<Command>
+    ensures { result ≡ rollback_in rest.now }
+{
+    let [a, b, c, d, key @ ..] = rest else {
+        return None;
+    };
+    let key = Key::from_bytes(key)?;
+    Some(Command::Rollback(key, u32::from_be_bytes([*a, *b, *c, *d])))
+}
+
+/// The command that takes a cell away, where the bytes are a key.
+fn drop_of(rest: &[u8]) -> Option<Command>
+    ensures { result ≡ drop_in rest.now }
+{
+    let key = Key::from_bytes(rest)?;
+    Some(Command::Drop(key))
+}
+
+/// The command that the bytes spell, as the function on lists has it.
+#[tactic(auto, unfolding(crate::specs::Reading::command_in))]
+fn read(alloc: Global, bytes: &[u8]) -> Result<Option<Command>, AllocError>
+    ensures command { IfOk result (λ found. found ≡ command_in bytes.now) }
+    ensures memory { IfErr result (λ _. (file : List ℕ) × (command_in bytes.now ≡ Some (Load file))) }
+{
+    match bytes {
+        [LOADS, rest @ ..] => load_of(alloc, rest),
+        [ROLLS_BACK, rest @ ..] => Ok(rollback_of(rest)),
+        [DROPS, rest @ ..] => Ok(drop_of(rest)),
+        _ => Ok(None),
+    }
+}
+
+/// The command that the bytes spell, all of them, or none where they spell no command. The bytes of a
+/// file are copied once, and nothing else takes memory.
+pub fn decode_command(alloc: Global, bytes: &[u8]) -> Result<Option<Command>, AllocError>
+    ensures found { IfOk result (λ found. IfSome found (Spells bytes.now)) }
+    // No bytes that spell a command are refused.
+    ensures none { IfOk result (λ found. IfNone found ((command : CommandValue) → ¬ Spells bytes.now command)) }
+    // Memory runs out only where there is a file to copy.
+    ensures memory { IfErr result (λ _. (file : List ℕ) × Spells bytes.now (Load file)) }
+    ensures function { IfOk result (λ found. found ≡ command_in bytes.now) }
+{
+    read(alloc, bytes)
+}

@@ -1,0 +1,36 @@
+//! Bytes of commands.
+
+ghost use Rattle.std.specs.Prelude.{◌≡◌, ◌≤◌, ◌∷◌, ◌++◌, length, IfOk};
+ghost use Rattle.command_codec.specs.Spelling.{spelling, IsWithinLimit, Spells};
+
+use crate::first_byte::{DROPS, LOADS, ROLLS_BACK};
+use chart_model::{Command, Octets};
+use std::alloc::{AllocError, Global};
+
+/// A first byte, a number and what stands behind them, in one vector.
+fn joined(alloc: Global, first: u8, number: &[u8], rest: &[u8]) -> Result<Octets, AllocError>
+    requires number { length number.now ≤ 4 }
+    requires rest { length rest.now ≤ 8388608 }
+    ensures { IfOk result (λ octets. octets ≡ first ∷ (number.now ++ rest.now)) }
+{
+    let mut bytes = Vec::with_capacity(alloc, 1 + number.len() + rest.len())?;
+    bytes.push(first)?;
+    bytes.extend_from_slice(number)?;
+    bytes.extend_from_slice(rest)?;
+    Ok(Octets::from_vec(bytes))
+}
+
+/// The bytes that spell a command. A file in it has at most 8,388,608 bytes.
+pub fn encode_command(alloc: Global, command: &Command) -> Result<Octets, AllocError>
+    requires { IsWithinLimit command.now }
+    ensures spelled { IfOk result (λ octets. Spells octets command.now) }
+    ensures bytes { IfOk result (λ octets. octets ≡ spelling command.now) }
+{
+    match command {
+        Command::Load(file) => joined(alloc, LOADS, &[], file.as_slice()),
+        Command::Rollback(key, update) => {
+            joined(alloc, ROLLS_BACK, &update.to_be_bytes(), key.as_slice())
+        }
+        Command::Drop(key) => joined(alloc, DROPS, &[], key.as_slice()),
+    }
+}
