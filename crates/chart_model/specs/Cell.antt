@@ -11,6 +11,7 @@ use Rattle.chart_model.specs.contracts.dataset.Header as header
 use Rattle.chart_model.specs.contracts.cell.Vector as vector
 use Rattle.chart_model.specs.contracts.cell.Feature as feature
 use Rattle.chart_model.specs.Attrs.{Attrs}
+use Rattle.chart_model.specs.Key.{IsKey}
 use Rattle.chart_model.specs.Names.{name_cmp, name_code}
 use Rattle.chart_model.specs.Record.{IsVectorName, IsFeatureName, AreCoords, IsPlainText, IsPrim}
 
@@ -32,8 +33,9 @@ cell_code =
 abbrev pub empty_cell : Header → CellValue
 empty_cell header = record { header = header; vectors = map.empty; features = map.empty }
 
--- edition and update of a chart: no chart has the edition 0, which cancels
+-- key, edition and update of a chart: no chart has the edition 0, which cancels
 pub record IsChartHeader (header : Header) : Type 0 where
+  pub key : IsKey header.key
   pub edition : IsInRange 1 999999999 header.edition
   pub update : header.update ≤ 999999999
 

@@ -2,6 +2,7 @@
 use Rattle.std.specs.Prelude.{◌≡◌, ◌≤◌, ◌↔◌, Bool, true, false, List, [], All, None}
 use Rattle.chart_model.specs.declared.dataset.Header.{Header}
 use Rattle.chart_model.specs.Change.{Change}
+use Rattle.chart_model.specs.Key.{IsKey}
 
 pub record DatasetValue : Type 0 where
   pub header : Header
@@ -17,6 +18,7 @@ pub record IsPlainInsert (change : Change) : Type 0 where
   pub related_edit : change.related_edit ≡ None
 
 pub record IsDataset (dataset : DatasetValue) : Type 0 where
+  pub key : IsKey dataset.header.key
   pub edition : dataset.header.edition ≤ 999999999
   pub update : dataset.header.update ≤ 999999999
   pub cancels : (dataset.cancels ≡ true) ↔ (dataset.header.edition ≡ 0)

@@ -6,6 +6,7 @@ use Rattle.std.specs.FinMap as map
 use Rattle.chart_model.specs.declared.state.Held.{Held}
 use Rattle.chart_model.specs.declared.state.Holding.{Holding}
 use Rattle.chart_model.specs.contracts.state.Holding as holding
+use Rattle.chart_model.specs.Key.{IsKey}
 use Rattle.chart_model.specs.Keys.{key_cmp}
 use Rattle.chart_model.specs.Cell.{CellValue, IsCell}
 
@@ -36,6 +37,7 @@ pub record IsChartOf (key : List ℕ) (held : Held) (chart : CellValue) : Type 0
 
 -- what is held under a key: a file at least, and a chart unless the cell is cancelled
 pub record IsHolding (key : List ℕ) (here : Holding) : Type 0 where
+  pub keyed : IsKey key
   pub held : IsHeld here.held
   pub nonempty : 1 ≤ length here.files
   pub files : All (λ file. IsFileLength (length file)) here.files
