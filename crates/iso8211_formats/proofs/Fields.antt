@@ -1,9 +1,12 @@
 -- A field gives the layout that it spells, and no other.
-use Rattle.std.proofs.Common.{◌≡◌, ℕ, ◌≤◌, true, eqb, leb, ◌&&◌, List, [], ◌∷◌, ◌++◌, length, take, drop, map, Option, Some, None, refl, sym, ap, subst, ◌∙◌, inl, inr, arith, append_assoc, length-append, length-take, take-append-drop}
+use Rattle.std.proofs.Common.{◌≡◌, ℕ, ◌≤◌, true, eqb, leb, ◌&&◌, List, [], ◌∷◌, ◌++◌, length, take, drop, map, Option, Some, None, Ok, Err, ◌↔◌, refl, sym, ap, subst, ◌∙◌, inl, inr, arith, append_assoc, length-append, length-take, take-append-drop}
+use Rattle.std.specs.Prelude.{IfOk}
 use Rattle.std.specs.List.{AllByRecursion, join_with_byte, slice_split}
+use Rattle.std.specs.Option.{ok_or}
 use Rattle.std.proofs.lemmas.Bool.{eqb-true, eq-eqb, leb-true, le-leb, and_parts}
 use Rattle.std.proofs.lemmas.List.{length-map, drop_at}
 use Rattle.std.proofs.lemmas.List.Splits.{join_with_byte-slice_split, length-slice_split}
+use Rattle.iso8211_formats.specs.declared.fault.DescriptorFault.TheVariants.{Bad}
 use Rattle.iso8211_formats.specs.declared.format.Format.{Format}
 use Rattle.iso8211_formats.specs.Layout.{Layout, IsLayout, IsSound}
 use Rattle.iso8211_formats.specs.Grammar.{Spells, Item, IsItem, item_text, expanded, format_controls, array_descriptor}
@@ -131,3 +134,20 @@ descriptor_of_again field layout s =
 -- a field spells one layout at most
 pub one_layout : (field : List ℕ) (a b : Layout) → Spells a field → Spells b field → a ≡ b
 one_layout field a b p q = some_is a b (sym (descriptor_of_again field a p) ∙ descriptor_of_again field b q)
+
+-- ---- what an answer says of the spellings
+
+pub reads_spelled : (field : List ℕ) (answer : Option Layout) → answer ≡ descriptor_of field → (layout : Layout) → (ok_or answer Bad ≡ Ok layout) ↔ Spells layout field
+reads_spelled field None e layout =
+    (λ h. absurd cc, λ s. let none : ◌≡◌ {A = Option Layout} None (Some layout) = e ∙ descriptor_of_again field layout s in absurd cc)
+reads_spelled field (Some d) e layout =
+    (λ h. let same : d ≡ layout = cc in descriptor_of_found field layout (sym e ∙ ap (λ (l : Layout). Some l) same), λ s. ap (λ (l : Layout). Ok l) (some_is d layout (e ∙ descriptor_of_again field layout s)))
+
+pub refuses_others : (field : List ℕ) (answer : Option Layout) → answer ≡ descriptor_of field → (ok_or answer Bad ≡ Err Bad) ↔ ((layout : Layout) → Spells layout field → ⊥)
+refuses_others field None e =
+    (λ h layout s. let none : ◌≡◌ {A = Option Layout} None (Some layout) = e ∙ descriptor_of_again field layout s in cc, λ no. refl)
+refuses_others field (Some d) e = (λ h. absurd cc, λ no. absurd (no d (descriptor_of_found field d (sym e))))
+
+pub ok_is_layout : (field : List ℕ) (answer : Option Layout) → answer ≡ descriptor_of field → IfOk (ok_or answer Bad) IsLayout
+ok_is_layout field None e = tt
+ok_is_layout field (Some d) e = (descriptor_of_found field d (sym e)).sound

@@ -1,17 +1,10 @@
 -- The whole field, stage by stage.
-use Rattle.std.proofs.Common.{◌≡◌, ℕ, ◌<◌, ◌≤◌, Bool, true, false, eqb, leb, List, length, Option, Some, None, Result, Ok, Err, refl, sym, ap, ◌∙◌, inl, inr, arith}
-use Rattle.std.specs.Prelude.{IfOk, IsErrOf}
+use Rattle.std.proofs.Common.{◌≡◌, ℕ, ◌<◌, ◌≤◌, Bool, true, false, eqb, leb, List, length, Option, Some, None, refl, sym, ap, ◌∙◌, inl, inr, arith}
 use Rattle.std.proofs.lemmas.Bool.{leb-false, le-leb, lt-leb, eq-eqb, ne_eqb, and_right, cases_Bool}
 use Rattle.iso8211_formats.specs.declared.format.Format.{Format}
-use Rattle.iso8211_formats.specs.declared.fault.DescriptorFault.{DescriptorFault}
-use Rattle.iso8211_formats.specs.declared.fault.DescriptorFault.TheVariants.{Bad, NoMemory}
-use Rattle.iso8211_formats.specs.Layout.{Layout, IsLayout}
-use Rattle.iso8211_formats.specs.Grammar.{Spells}
 use Rattle.iso8211_formats.specs.Reading.{◌>>=◌, guarded, parts_of, labels_of, formats_of, at_most, layout_with, descriptor_of}
-use Rattle.iso8211_formats.specs.Answers.{Fails, Gives}
 use Rattle.iso8211_formats.proofs.Options.{bind_some, guarded_some}
 use Rattle.iso8211_formats.proofs.LabelTexts.{length-labels_of}
-use Rattle.iso8211_formats.proofs.Fields.{descriptor_of_found, descriptor_of_again}
 
 abbrev Parts : Type 0
 Parts = List ℕ × List ℕ
@@ -53,9 +46,8 @@ long_array field parts e long =
     with_parts field parts e
     ∙ nothing_after (labels_of parts.0) _ (λ labels l. nothing_after (formats_of parts.1) (layout_with labels) (λ formats f. many_labels labels formats (omega (arith, length-labels_of parts.0 labels l, long))))
 
-pub labels_fail : (field : List ℕ) (parts : Parts) (fault : DescriptorFault) → parts_of field ≡ Some parts → Fails fault (labels_of parts.0) → Fails fault (descriptor_of field)
-labels_fail field parts Bad e l = with_parts field parts e ∙ ap (λ (o : Option Labels). o >>= λ ls. formats_of parts.1 >>= λ formats. layout_with ls formats) l
-labels_fail field parts NoMemory e l = tt
+pub no_labels : (field : List ℕ) (parts : Parts) → parts_of field ≡ Some parts → labels_of parts.0 ≡ None → descriptor_of field ≡ None
+no_labels field parts e l = with_parts field parts e ∙ ap (λ (o : Option Labels). o >>= λ ls. formats_of parts.1 >>= λ formats. layout_with ls formats) l
 
 over_limit : (most : ℕ) (formats : List Format) → at_most most (Some formats) ≡ None → most < length formats
 unfolding at_most
@@ -65,21 +57,16 @@ over_limit most formats e =
       | inr h ↦ leb-false _ _ h
     ]
 
-pub formats_fail : (field : List ℕ) (parts : Parts) (labels : Labels) (fault : DescriptorFault) → parts_of field ≡ Some parts → labels_of parts.0 ≡ Some labels → Fails fault (at_most (length labels.0) (formats_of parts.1)) → Fails fault (descriptor_of field)
-formats_fail field parts labels Bad e l f =
+pub no_formats : (field : List ℕ) (parts : Parts) (labels : Labels) (most : ℕ) → parts_of field ≡ Some parts → labels_of parts.0 ≡ Some labels → length labels.0 ≤ most → at_most most (formats_of parts.1) ≡ None → descriptor_of field ≡ None
+no_formats field parts labels most e l few f =
     with_labels field parts labels e l
-    ∙ nothing_after (formats_of parts.1) (layout_with labels) (λ formats g. let over = over_limit (length labels.0) formats (ap (at_most (length labels.0)) (sym g) ∙ f) in other_count labels formats (λ same. omega (arith, over, same)))
-formats_fail field parts labels NoMemory e l f = tt
+    ∙ nothing_after (formats_of parts.1) (layout_with labels) (λ formats g. let over = over_limit most formats (ap (at_most most) (sym g) ∙ f) in other_count labels formats (λ same. omega (arith, over, same)))
 
 within_limit : (most : ℕ) (read : Option (List Format)) (formats : List Format) → at_most most read ≡ Some formats → read ≡ Some formats
 unfolding at_most
 within_limit most read formats e =
     let b = bind_some read (λ (fs : List Format). guarded (leb (length fs) most) fs) formats e in
     b.1 ∙ ap (λ (fs : List Format). Some fs) (guarded_some (leb (length b.0) most) b.0 formats b.2).1
-
-pub too_many : (field : List ℕ) (parts : Parts) (labels : Labels) (most : ℕ) (formats : List Format) → parts_of field ≡ Some parts → labels_of parts.0 ≡ Some labels → at_most most (formats_of parts.1) ≡ Some formats → 64 < length labels.0 → descriptor_of field ≡ None
-too_many field parts labels most formats e l f many =
-    with_formats field parts labels formats e l (within_limit most _ formats f) ∙ many_labels labels formats many
 
 pub not_as_many : (field : List ℕ) (parts : Parts) (labels : Labels) (most : ℕ) (formats : List Format) → parts_of field ≡ Some parts → labels_of parts.0 ≡ Some labels → at_most most (formats_of parts.1) ≡ Some formats → (length formats ≡ length labels.0 → ⊥) → descriptor_of field ≡ None
 not_as_many field parts labels most formats e l f other =
@@ -91,23 +78,3 @@ made field parts labels most formats e l f few same =
     let is_few : leb (length labels.0) 64 ≡ true = le-leb _ _ few in
     let as_many : eqb (length formats) (length labels.0) ≡ true = eq-eqb _ _ same in
     with_formats field parts labels formats e l (within_limit most _ formats f) ∙ rw (is_few, as_many) refl
-
--- ---- what an answer says of the spellings
-
-pub gives_found : (field : List ℕ) (answer : Result Layout DescriptorFault) → Gives answer (descriptor_of field) → IfOk answer (λ descriptor. Spells descriptor field)
-gives_found field (Ok d) h = descriptor_of_found field d h
-gives_found field (Err fault) h = tt
-
-pub gives_only : (field : List ℕ) (answer : Result Layout DescriptorFault) → Gives answer (descriptor_of field) → (layout : Layout) → Spells layout field → Gives answer (Some layout)
-gives_only field (Ok d) h layout s = sym (descriptor_of_again field layout s) ∙ h
-gives_only field (Err Bad) h layout s = sym (descriptor_of_again field layout s) ∙ h
-gives_only field (Err NoMemory) h layout s = tt
-
-pub gives_bad : (field : List ℕ) (answer : Result Layout DescriptorFault) → Gives answer (descriptor_of field) → IsErrOf answer Bad → (layout : Layout) → Spells layout field → ⊥
-gives_bad field (Ok d) h bad layout s = cc
-gives_bad field (Err Bad) h bad layout s = let e : ◌≡◌ {A = Option Layout} (Some layout) None = sym (descriptor_of_again field layout s) ∙ h in cc
-gives_bad field (Err NoMemory) h bad layout s = cc
-
-pub gives_layout : (field : List ℕ) (answer : Result Layout DescriptorFault) → Gives answer (descriptor_of field) → IfOk answer IsLayout
-gives_layout field (Ok d) h = (descriptor_of_found field d h).sound
-gives_layout field (Err fault) h = tt

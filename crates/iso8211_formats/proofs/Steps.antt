@@ -1,13 +1,10 @@
 -- One item after another, with a limit on the formats.
-use Rattle.std.proofs.Common.{◌≡◌, ℕ, ◌+◌, ◌<◌, ◌≤◌, Bool, true, false, leb, eqb, List, [], ◌∷◌, ◌++◌, length, Option, Some, None, Err, refl, sym, ap, ◌∙◌, inl, inr, arith, append_assoc, append-nil, length-append}
+use Rattle.std.proofs.Common.{◌≡◌, ℕ, ◌+◌, ◌<◌, ◌≤◌, Bool, true, false, leb, eqb, List, [], ◌∷◌, ◌++◌, length, Option, Some, None, refl, sym, ap, ◌∙◌, inl, inr, arith, append_assoc, append-nil, length-append}
 use Rattle.std.proofs.lemmas.Bool.{leb-false, lt-leb, le-leb, cases_Bool}
 use Rattle.std.specs.Prelude.{option_map}
 use Rattle.std.specs.List.{slice_split}
 use Rattle.iso8211_formats.specs.declared.format.Format.{Format}
 use Rattle.iso8211_formats.specs.Reading.{◌>>=◌, guarded, cut_at, item_of, items_of, at_most, behind}
-use Rattle.iso8211_formats.specs.declared.fault.DescriptorFault.{DescriptorFault}
-use Rattle.iso8211_formats.specs.declared.fault.DescriptorFault.TheVariants.{Bad, NoMemory}
-use Rattle.iso8211_formats.specs.Answers.{Fails, Leaves}
 use Rattle.iso8211_formats.proofs.Options.{guarded_some, chosen}
 use Rattle.iso8211_formats.proofs.Cuts.{Lacks, cut_at_found}
 use Rattle.iso8211_formats.proofs.Items.{onto_front, whole_part}
@@ -106,13 +103,3 @@ pub behind-nil : (o : Option (List Format)) → behind [] o ≡ o
 unfolding behind
 behind-nil None = refl
 behind-nil (Some f) = refl
-
--- ---- an answer of one item's step as the answer of all
-
-pub fails_more : (most : ℕ) (formats new : List Format) (rest : List ℕ) (parts : List ℕ × List ℕ) (whole : Option (List Format)) (fault : DescriptorFault) → cut_at 44 rest ≡ Some parts → Leaves (Err fault) new (at_most most (behind formats (item_of parts.0))) → at_most most (behind formats (items_of (slice_split (λ b. eqb b 44) rest))) ≡ whole → Fails fault whole
-fails_more most formats new rest parts whole Bad cut pushed same = sym same ∙ items_more_bad most formats rest parts cut pushed
-fails_more most formats new rest parts whole NoMemory cut pushed same = tt
-
-pub fails_last : (most : ℕ) (formats new : List Format) (rest : List ℕ) (whole : Option (List Format)) (fault : DescriptorFault) → cut_at 44 rest ≡ None → Leaves (Err fault) new (at_most most (behind formats (item_of rest))) → at_most most (behind formats (items_of (slice_split (λ b. eqb b 44) rest))) ≡ whole → Fails fault whole
-fails_last most formats new rest whole Bad cut pushed same = sym same ∙ items_last most formats rest cut ∙ pushed
-fails_last most formats new rest whole NoMemory cut pushed same = tt

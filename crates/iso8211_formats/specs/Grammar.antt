@@ -6,10 +6,11 @@ use Rattle.std.specs.Str.Parse.{IsNumeral, digits_value}
 use Rattle.iso8211_formats.specs.declared.format.Format.{Format}
 use Rattle.iso8211_formats.specs.declared.format.Format.TheVariants.{TextOpen, Text, Unsigned, Signed, Bits}
 use Rattle.iso8211_formats.specs.Layout.{Layout, IsLayout, IsSound}
+use Rattle.iso8211_formats.specs.Terminators.{field_terminator, unit_terminator}
 
--- without the byte 0x1F, the unit terminator
+-- without a unit terminator
 abbrev pub HasNoTerminator : List ℕ → Type 0
-HasNoTerminator text = AllByRecursion (λ byte. (byte == 31) ≡ false) text
+HasNoTerminator text = AllByRecursion (λ byte. (byte == unit_terminator) ≡ false) text
 
 -- a label is any four bytes but the unit terminator
 abbrev pub IsLabel : List ℕ → Type 0
@@ -88,4 +89,6 @@ pub record Spells (layout : Layout) (field : List ℕ) : Type 0 where
   pub has_items : 1 ≤ length items
   pub each_item : AllByRecursion IsItem items
   pub formats : layout.formats ≡ expanded items
-  pub whole : field ≡ controls ++ name ++ 31 ∷ array_descriptor layout.repeats_from layout.labels ++ 31 ∷ format_controls items ++ 30 ∷ []
+  pub whole :
+      field ≡ controls ++ name ++ unit_terminator ∷ array_descriptor layout.repeats_from layout.labels
+      ++ unit_terminator ∷ format_controls items ++ field_terminator ∷ []

@@ -1,4 +1,4 @@
+pub mod Terminators
 pub mod Layout
 pub mod Grammar
 pub mod Reading
-pub mod Answers

@@ -9,6 +9,7 @@ use Rattle.std.specs.Option.{option_or}
 use Rattle.iso8211_formats.specs.declared.format.Format.{Format}
 use Rattle.iso8211_formats.specs.declared.format.Format.TheVariants.{TextOpen, Text, Unsigned, Signed, Bits}
 use Rattle.iso8211_formats.specs.Layout.{Layout}
+use Rattle.iso8211_formats.specs.Terminators.{field_terminator, unit_terminator}
 
 infixl 10 ◌>>=◌
 abbrev pub ◌>>=◌ : {A B : Type 0} → Option A → (A → Option B) → Option B
@@ -97,7 +98,7 @@ items_of (text ∷ texts) = do
 unfoldable pub before_end : List ℕ → Option (List ℕ)
 before_end [] = None
 before_end (x ∷ []) = None
-before_end (x ∷ y ∷ []) = guarded (x == 41 && y == 30) []
+before_end (x ∷ y ∷ []) = guarded (x == 41 && y == field_terminator) []
 before_end (x ∷ y ∷ z ∷ rest) = option_map (λ text. x ∷ text) (before_end (y ∷ z ∷ rest))
 
 -- the items of the format controls with the field terminator behind them, without the parentheses
@@ -153,8 +154,8 @@ layout_with labels formats =
 unfoldable pub parts_of : List ℕ → Option (List ℕ × List ℕ)
 parts_of field = do
   named ← guarded (nat_le 9 (length field)) (drop 9 field)
-  name ← cut_at 31 named
-  cut_at 31 name.1
+  name ← cut_at unit_terminator named
+  cut_at unit_terminator name.1
 
 unfoldable pub descriptor_of : List ℕ → Option Layout
 descriptor_of field = do

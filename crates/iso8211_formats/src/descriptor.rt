@@ -4,16 +4,19 @@ ghost use Rattle.std.specs.Prelude.{◌≡◌, length};
 ghost use Rattle.iso8211_formats.specs.Layout.{IsLayout};
 
 use crate::format::FormatList;
-use chart_model::Sequence;
+use arrayvec::ArrayVec;
 use std::marker::Model;
 
+/// The most subfields that a field has.
+pub const MOST_SUBFIELDS: usize = 64;
+
 /// Labels of four bytes, in the order of their subfields.
-pub type LabelList = Sequence<[u8; 4]>;
+pub type LabelList = ArrayVec<[u8; 4], MOST_SUBFIELDS>;
 
 /// The subfields of a field (ISO/IEC 8211, data descriptive field).
 ///
-/// There are 1 to 64 labels and as many formats. Contracts see a descriptor as the record of its
-/// fields.
+/// There are 1 to 64 labels and as many formats, which lie in the descriptor itself. Contracts see it as
+/// the record of its fields.
 #[derive(Debug, Drop)]
 pub struct Descriptor {
     /// The label of each subfield.
@@ -30,19 +33,19 @@ impl Model for Descriptor {
     ghost Value = { Layout };
 
     ghost view = { λ descriptor.
-        record { labels = descriptor.labels; formats = descriptor.formats; repeats_from = descriptor.repeats_from } };
+        record { labels = descriptor.labels.items; formats = descriptor.formats.items; repeats_from = descriptor.repeats_from } };
 
     ghost invariant = { λ descriptor. IsLayout
-        (record { labels = descriptor.labels; formats = descriptor.formats; repeats_from = descriptor.repeats_from }) };
+        (record { labels = descriptor.labels.items; formats = descriptor.formats.items; repeats_from = descriptor.repeats_from }) };
 }
 
 impl Descriptor {
-    /// How many subfields there are, 1 to 64. It takes no memory.
+    /// How many subfields there are, 1 to 64.
     pub fn subfield_count(&self) -> usize
         ensures count { result ≡ length self.now.labels }
         // What every descriptor keeps.
         ensures layout { IsLayout self.now }
     {
-        self.labels.as_slice().len()
+        self.labels.len()
     }
 }

@@ -1,18 +1,16 @@
 //! A data descriptive field.
 
-ghost use Rattle.std.specs.Prelude.{◌≡◌, ◌↔◌, List, ℕ, option_map, IfOk, IsErrOf, Some};
+ghost use Rattle.std.specs.Prelude.{◌≡◌, ◌↔◌, List, ℕ, option_map, IfOk, Some, Ok, Err};
+ghost use Rattle.std.specs.Option.{ok_or};
 ghost use Rattle.iso8211_formats.specs.Layout.{Layout, IsLayout};
 ghost use Rattle.iso8211_formats.specs.Grammar.{Spells};
-ghost use Rattle.iso8211_formats.specs.Reading.{parts_of, layout_with, descriptor_of};
-ghost use Rattle.iso8211_formats.specs.Answers.{Gives};
+ghost use Rattle.iso8211_formats.specs.Reading.{parts_of, descriptor_of};
 
-use crate::descriptor::{Descriptor, LabelList};
+use crate::descriptor::{Descriptor, MOST_SUBFIELDS};
 use crate::fault::DescriptorFault;
-use crate::format::FormatList;
 use crate::format_controls::read_formats;
 use crate::labels::read_labels;
 use crate::text::cut;
-use std::alloc::Global;
 
 /// Stands between the parts of a field.
 const UNIT_TERMINATOR: u8 = 0x1F;
@@ -20,11 +18,8 @@ const UNIT_TERMINATOR: u8 = 0x1F;
 /// The bytes of the field controls, which aren't looked at.
 const FIELD_CONTROLS: usize = 9;
 
-/// The most labels of a field.
-const MOST_LABELS: usize = 64;
-
 /// The bytes of an array descriptor with a mark and the most labels.
-const LONGEST_ARRAY: usize = 5 * MOST_LABELS;
+const LONGEST_ARRAY: usize = 5 * MOST_SUBFIELDS;
 
 /// The array descriptor, and the format controls with the field terminator behind them.
 #[tactic(auto, unfolding(crate::specs::Reading::parts_of))]
@@ -41,22 +36,26 @@ fn parts(field: &[u8]) -> Option<(&[u8], &[u8])>
 }
 
 /// The descriptor of a field, as the function on lists has it.
-fn read(alloc: Global, field: &[u8]) -> Result<Descriptor, DescriptorFault>
-    ensures { Gives result (descriptor_of field.now) }
+fn read(field: &[u8]) -> Option<Descriptor>
+    ensures { result ≡ descriptor_of field.now }
 {
     let Some((array, controls)) = parts(field) else {
-        return Err(DescriptorFault::Bad);
+        return None;
     };
     if array.len() > LONGEST_ARRAY {
-        return Err(DescriptorFault::Bad);
+        return None;
     }
-    let (labels, repeats_from) = read_labels(alloc, array)?;
-    let count = labels.as_slice().len();
-    let formats = read_formats(alloc, controls, count)?;
-    if count > MOST_LABELS || formats.as_slice().len() != count {
-        return Err(DescriptorFault::Bad);
+    let Some((labels, repeats_from)) = read_labels(array) else {
+        return None;
+    };
+    let count = labels.len();
+    let Some(formats) = read_formats(controls) else {
+        return None;
+    };
+    if formats.len() != count {
+        return None;
     }
-    Ok(Descriptor {
+    Some(Descriptor {
         labels,
         formats,
         repeats_from,
@@ -71,20 +70,21 @@ fn read(alloc: Global, field: &[u8]) -> Result<Descriptor, DescriptorFault>
 /// of four bytes by `!`; one of them may have `*` before it. The format controls are a list of items
 /// in parentheses, joined by commas, that gives each label a format.
 ///
-/// It looks at each byte of the field a bounded number of times.
-pub fn read_descriptor(alloc: Global, field: &[u8]) -> Result<Descriptor, DescriptorFault>
-    // What is read is spelled so.
-    ensures found { IfOk result (λ descriptor. Spells descriptor field.now) }
-    // What is spelled so is read, unless memory runs out.
-    ensures only { (layout : Layout) → Spells layout field.now → Gives result (Some layout) }
-    // A field is refused only where it spells no descriptor.
-    ensures bad { IsErrOf result DescriptorFault.Bad →
-        (layout : Layout) → Spells layout field.now → ⊥ }
+/// It looks at each byte of the field a bounded number of times, and takes no memory.
+///
+/// # Errors
+///
+/// `Bad` where the field spells no descriptor.
+pub fn read_descriptor(field: &[u8]) -> Result<Descriptor, DescriptorFault>
+    // What is read is what the field spells.
+    ensures read { (layout : Layout) → (result ≡ Ok layout) ↔ Spells layout field.now }
+    // A field is refused where it spells no descriptor.
+    ensures bad { (result ≡ Err DescriptorFault.Bad) ↔ ((layout : Layout) → Spells layout field.now → ⊥) }
     // What every descriptor keeps.
     ensures layout { IfOk result IsLayout }
-    ensures exact { Gives result (descriptor_of field.now) }
+    ensures exact { result ≡ ok_or (descriptor_of field.now) DescriptorFault.Bad }
 {
-    read(alloc, field)
+    read(field).ok_or(DescriptorFault::Bad)
 }
 
 /// A field spells one descriptor at most.

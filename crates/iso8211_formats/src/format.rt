@@ -1,11 +1,13 @@
 //! How a subfield is spelled.
 
-use chart_model::Sequence;
+use crate::descriptor::MOST_SUBFIELDS;
+use arrayvec::ArrayVec;
 
 /// How a subfield is spelled (ISO/IEC 8211, format controls).
-#[derive(Clone, Copy, Debug, PartialEq, Eq)]
+#[derive(Clone, Copy, Debug, Default, PartialEq, Eq)]
 pub enum Format {
     /// A text up to its unit terminator: `A`, `I` or `R` without a width.
+    #[default]
     TextOpen,
     /// A text of so many bytes: `A`, `I` or `R` with a width, 1 to 99,999.
     Text(u32),
@@ -18,4 +20,4 @@ pub enum Format {
 }
 
 /// Formats in the order of their subfields.
-pub type FormatList = Sequence<Format>;
+pub type FormatList = ArrayVec<Format, MOST_SUBFIELDS>;

@@ -1,14 +1,12 @@
 //! The format controls: how a field's subfields are spelled.
 
-ghost use Rattle.std.specs.Prelude.{◌≡◌, ◌++◌, ◌<◌, ◌≤◌, ◌==◌, length, replicate, option_map, OnOk};
+ghost use Rattle.std.specs.Prelude.{◌≡◌, ◌+◌, ◌++◌, ◌<◌, ◌≤◌, ◌==◌, if◌then◌else◌, length, replicate, option_map, Some, None};
 ghost use Rattle.std.specs.List.{slice_split};
 ghost use Rattle.iso8211_formats.specs.Reading.{open_format, binary_format, format_with, sized_format, format_of, count_of, item_of, items_of, formats_of, is_text_letter, before_end, items_text, at_most, behind};
-ghost use Rattle.iso8211_formats.specs.Answers.{Gives, Leaves};
+ghost use Rattle.arrayvec.specs.ArrayVec.{array_vec_len};
 
-use crate::fault::DescriptorFault;
 use crate::format::{Format, FormatList};
 use crate::text::{cut, digit_count, read_number};
-use std::alloc::{AllocError, Global};
 
 /// Ends a field.
 const FIELD_TERMINATOR: u8 = 0x1E;
@@ -126,41 +124,46 @@ fn read_item(text: &[u8]) -> Option<(u32, Format)>
 }
 
 /// Adds a format so many times.
-fn push_repeated(formats: &mut FormatList, format: Format, count: u32) -> Result<(), AllocError>
-    ensures { OnOk result (formats.new ≡ formats.old ++ replicate count format) }
+fn push_repeated(formats: &mut FormatList, format: Format, count: u32)
+    requires { array_vec_len formats.old + count ≤ 64 }
+    ensures { formats.new.items ≡ formats.old.items ++ replicate count format }
 {
     for _ in 0..count {
-        formats.push(format)?;
+        formats.push(format);
     }
-    Ok(())
 }
 
-/// Adds the formats of an item, where there are at most so many formats then.
-fn push_item(formats: &mut FormatList, text: &[u8], most: usize) -> Result<(), DescriptorFault>
-    ensures { Leaves result formats.new (at_most most (behind formats.old (item_of text.now))) }
+/// Adds the formats of an item, and says whether it is one and there was room for them.
+fn push_item(formats: &mut FormatList, text: &[u8]) -> bool
+    ensures { (if result then Some formats.new.items else None) ≡ at_most 64 (behind formats.old.items (item_of text.now)) }
 {
     let Some((count, format)) = read_item(text) else {
-        return Err(DescriptorFault::Bad);
+        return false;
     };
-    if formats.as_slice().len() as u64 + u64::from(count) > most as u64 {
-        return Err(DescriptorFault::Bad);
+    if count as usize > formats.remaining_capacity() {
+        return false;
     }
-    push_repeated(formats, format, count)?;
-    Ok(())
+    push_repeated(formats, format, count);
+    true
 }
 
-/// The formats of items with commas between them, at most so many.
-fn read_items(alloc: Global, text: &[u8], most: usize) -> Result<FormatList, DescriptorFault>
-    ensures { Gives result (at_most most (items_of (slice_split (λ byte. byte == 44) text.now))) }
+/// The formats of items with commas between them, at most 64.
+fn read_items(text: &[u8]) -> Option<FormatList>
+    ensures { option_map (λ formats. formats.items) result ≡ at_most 64 (items_of (slice_split (λ byte. byte == 44) text.now)) }
 {
-    let mut formats = FormatList::new(alloc);
+    let mut formats = FormatList::new();
     let mut rest = text;
     while let Some((item, after)) = cut(rest, b',') {
-        push_item(&mut formats, item, most)?;
+        if !push_item(&mut formats, item) {
+            return None;
+        }
         rest = after;
     }
-    push_item(&mut formats, rest, most)?;
-    Ok(formats)
+    if push_item(&mut formats, rest) {
+        Some(formats)
+    } else {
+        None
+    }
 }
 
 /// A text without `)` and the field terminator at its end.
@@ -181,17 +184,13 @@ fn items_of_controls(controls: &[u8]) -> Option<&[u8]>
     }
 }
 
-/// The formats of the format controls with the field terminator behind them, at most so many.
+/// The formats of the format controls with the field terminator behind them, at most 64.
 #[tactic(auto, unfolding(crate::specs::Reading::formats_of, crate::specs::Reading::at_most))]
-pub fn read_formats(
-    alloc: Global,
-    controls: &[u8],
-    most: usize,
-) -> Result<FormatList, DescriptorFault>
-    ensures { Gives result (at_most most (formats_of controls.now)) }
+pub fn read_formats(controls: &[u8]) -> Option<FormatList>
+    ensures { option_map (λ formats. formats.items) result ≡ at_most 64 (formats_of controls.now) }
 {
     match items_of_controls(controls) {
-        Some(items) => read_items(alloc, items, most),
-        None => Err(DescriptorFault::Bad),
+        Some(items) => read_items(items),
+        None => None,
     }
 }

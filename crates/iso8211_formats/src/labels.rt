@@ -3,13 +3,11 @@
 //! A label is found by its place, so that it may hold any bytes, `!` and `*` too: without a mark
 //! there are five bytes a label but for the last, and with one five bytes each.
 
-ghost use Rattle.std.specs.Prelude.{◌≡◌, ◌++◌, ◌∷◌, ◌+◌, ◌≤◌, List, ℕ, length, take, option_map, OnOk, IfSome, IfNone, IsSome, is_some, Some, None};
+ghost use Rattle.std.specs.Prelude.{◌≡◌, ◌++◌, ◌∷◌, ◌+◌, ◌*◌, ◌≤◌, List, ℕ, length, take, option_map, IfSome, IfNone, IsSome, is_some, Some, None};
 ghost use Rattle.iso8211_formats.specs.Reading.{plain_labels, grouped_labels, labels_of, closed_label};
-ghost use Rattle.iso8211_formats.specs.Answers.{Gives};
+ghost use Rattle.arrayvec.specs.ArrayVec.{array_vec_len};
 
 use crate::descriptor::LabelList;
-use crate::fault::DescriptorFault;
-use std::alloc::{AllocError, Global};
 
 /// What follows a label with `!` behind it.
 #[tactic(auto, unfolding(crate::specs::Reading::closed_label))]
@@ -43,20 +41,19 @@ fn is_plain(text: &[u8]) -> bool
 }
 
 /// Adds these labels.
-fn push_plain(labels: &mut LabelList, text: &[u8]) -> Result<(), AllocError>
-    requires { IsSome (plain_labels text.now) }
-    ensures { OnOk result
-        (option_map (λ more. labels.old ++ more) (plain_labels text.now) ≡ Some labels.new) }
+fn push_plain(labels: &mut LabelList, text: &[u8])
+    requires plain { IsSome (plain_labels text.now) }
+    requires room { 5 * array_vec_len labels.old + length text.now ≤ 320 }
+    ensures { option_map (λ more. labels.old.items ++ more) (plain_labels text.now) ≡ Some labels.new.items }
 {
     let mut rest = text;
     while let Some(after) = after_label(rest) {
         let label = label_at(rest);
-        labels.push(label)?;
+        labels.push(label);
         rest = after;
     }
     let last = label_at(rest);
-    labels.push(last)?;
-    Ok(())
+    labels.push(last);
 }
 
 /// The labels of the group, where the text begins with the mark and they follow to its end.
@@ -73,23 +70,23 @@ fn group_of(text: &[u8]) -> Option<&[u8]>
 }
 
 /// Labels of which one has the mark, and the place of that one.
-fn read_grouped(alloc: Global, text: &[u8]) -> Result<(LabelList, u32), DescriptorFault>
+fn read_grouped(text: &[u8]) -> Option<(LabelList, u32)>
     requires { length text.now ≤ 320 }
-    ensures { Gives result (grouped_labels 1 text.now) }
+    ensures { option_map (λ read. (read.0.items, read.1)) result ≡ grouped_labels 1 text.now }
 {
-    let mut labels = LabelList::new(alloc);
+    let mut labels = LabelList::new();
     let mut place = 1;
     let mut rest = text;
     loop {
         if let Some(group) = group_of(rest) {
-            push_plain(&mut labels, group)?;
-            return Ok((labels, place));
+            push_plain(&mut labels, group);
+            return Some((labels, place));
         }
         let Some(after) = after_label(rest) else {
-            return Err(DescriptorFault::Bad);
+            return None;
         };
         let label = label_at(rest);
-        labels.push(label)?;
+        labels.push(label);
         place += 1;
         rest = after;
     }
@@ -97,15 +94,17 @@ fn read_grouped(alloc: Global, text: &[u8]) -> Result<(LabelList, u32), Descript
 
 /// The labels of an array descriptor, and the place, from 1, of the label that has the mark.
 #[tactic(auto, unfolding(crate::specs::Reading::labels_of))]
-pub fn read_labels(alloc: Global, text: &[u8]) -> Result<(LabelList, Option<u32>), DescriptorFault>
+pub fn read_labels(text: &[u8]) -> Option<(LabelList, Option<u32>)>
     requires { length text.now ≤ 320 }
-    ensures { Gives result (labels_of text.now) }
+    ensures { option_map (λ read. (read.0.items, read.1)) result ≡ labels_of text.now }
 {
     if is_plain(text) {
-        let mut labels = LabelList::new(alloc);
-        push_plain(&mut labels, text)?;
-        return Ok((labels, None));
+        let mut labels = LabelList::new();
+        push_plain(&mut labels, text);
+        return Some((labels, None));
     }
-    let (labels, place) = read_grouped(alloc, text)?;
-    Ok((labels, Some(place)))
+    match read_grouped(text) {
+        Some((labels, place)) => Some((labels, Some(place))),
+        None => None,
+    }
 }

@@ -19,13 +19,12 @@ fn field(alloc: Global, array: &[u8], controls: &[u8]) -> Result<Vec<u8>, AllocE
 /// Reads a field, and compares what it says.
 fn check(
     rt: &impl Abort,
-    alloc: Global,
     bytes: &[u8],
     labels: &[[u8; 4]],
     formats: &[Format],
     repeats_from: Option<u32>,
 ) {
-    match read_descriptor(alloc, bytes) {
+    match read_descriptor(bytes) {
         Ok(descriptor) => {
             assert_eq!(rt; descriptor.subfield_count(), labels.len());
             assert!(rt; descriptor.labels.as_slice() == labels);
@@ -65,7 +64,7 @@ fn general_information(rt: HostRuntime) -> Result<(), Fail> {
         Format::Unsigned(2),
         Format::TextOpen,
     ];
-    check(&rt, rt.alloc(), &bytes, &labels, &formats, None);
+    check(&rt, &bytes, &labels, &formats, None);
     Ok(())
 }
 
@@ -73,50 +72,29 @@ fn general_information(rt: HostRuntime) -> Result<(), Fail> {
 fn repeated_groups(rt: HostRuntime) -> Result<(), Fail> {
     let attributes = field(rt.alloc(), b"*ATTL!ATVL", b"(b12,A)")?;
     let formats = [Format::Unsigned(2), Format::TextOpen];
-    check(
-        &rt,
-        rt.alloc(),
-        &attributes,
-        &[*b"ATTL", *b"ATVL"],
-        &formats,
-        Some(1),
-    );
+    check(&rt, &attributes, &[*b"ATTL", *b"ATVL"], &formats, Some(1));
 
     let soundings = field(rt.alloc(), b"*YCOO!XCOO!VE3D", b"(3b24)")?;
     let labels = [*b"YCOO", *b"XCOO", *b"VE3D"];
-    check(
-        &rt,
-        rt.alloc(),
-        &soundings,
-        &labels,
-        &[Format::Signed(4); 3],
-        Some(1),
-    );
+    check(&rt, &soundings, &labels, &[Format::Signed(4); 3], Some(1));
 
     let related = field(rt.alloc(), b"*LNAM!RIND!COMT", b"(B(64),b11,A)")?;
     let labels = [*b"LNAM", *b"RIND", *b"COMT"];
     let formats = [Format::Bits(64), Format::Unsigned(1), Format::TextOpen];
-    check(&rt, rt.alloc(), &related, &labels, &formats, Some(1));
+    check(&rt, &related, &labels, &formats, Some(1));
 
     let later = field(rt.alloc(), b"AAAA!BBBB!*CCCC", b"(I,002R(0012))")?;
     let labels = [*b"AAAA", *b"BBBB", *b"CCCC"];
     let formats = [Format::TextOpen, Format::Text(12), Format::Text(12)];
-    check(&rt, rt.alloc(), &later, &labels, &formats, Some(3));
+    check(&rt, &later, &labels, &formats, Some(3));
 
     // A label may hold any bytes: its place tells what it is.
     let odd = field(rt.alloc(), b"*ABC!!DEF!*GHIJ", b"(A(),I(99999),b22)")?;
     let labels = [*b"*ABC", *b"!DEF", *b"GHIJ"];
     let formats = [Format::TextOpen, Format::Text(99_999), Format::Signed(2)];
-    check(&rt, rt.alloc(), &odd, &labels, &formats, Some(3));
+    check(&rt, &odd, &labels, &formats, Some(3));
     let stars = field(rt.alloc(), b"****", b"(b21)")?;
-    check(
-        &rt,
-        rt.alloc(),
-        &stars,
-        &[*b"****"],
-        &[Format::Signed(1)],
-        None,
-    );
+    check(&rt, &stars, &[*b"****"], &[Format::Signed(1)], None);
     Ok(())
 }
 
@@ -165,7 +143,7 @@ fn other_labels_and_formats(rt: HostRuntime) -> Result<(), Fail> {
     ];
     for (array, controls) in &cases {
         let bytes = field(rt.alloc(), array, controls)?;
-        let answer = read_descriptor(rt.alloc(), &bytes);
+        let answer = read_descriptor(&bytes);
         assert!(rt;
             matches!(answer, Err(DescriptorFault::Bad)),
             "{array:?} {controls:?}"
@@ -186,12 +164,11 @@ fn other_fields(rt: HostRuntime) {
         b"1600;&   Name\x1FABCD\x1F(A)\x1E\x1E",
     ];
     for bytes in cases {
-        let answer = read_descriptor(rt.alloc(), bytes);
+        let answer = read_descriptor(bytes);
         assert!(rt; matches!(answer, Err(DescriptorFault::Bad)));
     }
     check(
         &rt,
-        rt.alloc(),
         b"1600;&   \x1FABCD\x1F(A)\x1E",
         &[*b"ABCD"],
         &[Format::TextOpen],
@@ -214,7 +191,6 @@ fn sixty_four_labels(rt: HostRuntime) -> Result<(), Fail> {
     let most = field(rt.alloc(), &array, b"(64b11)")?;
     check(
         &rt,
-        rt.alloc(),
         &most,
         &[*b"ABCD"; 64],
         &[Format::Unsigned(1); 64],
@@ -222,11 +198,6 @@ fn sixty_four_labels(rt: HostRuntime) -> Result<(), Fail> {
     );
     array.extend_from_slice(b"!ABCD")?;
     let more = field(rt.alloc(), &array, b"(65b11)")?;
-    assert!(rt;
-        matches!(
-            read_descriptor(rt.alloc(), &more),
-            Err(DescriptorFault::Bad)
-        )
-    );
+    assert!(rt; matches!(read_descriptor(&more), Err(DescriptorFault::Bad)));
     Ok(())
 }

@@ -1,14 +1,8 @@
-use Rattle.iso8211_formats.proofs.Stages.{gives_found, gives_only, gives_bad, gives_layout}
+use Rattle.iso8211_formats.proofs.Fields.{reads_spelled, refuses_others}
 use Rattle.iso8211_formats.proofs.field.read_descriptor.Goals as goal
 
-pub returns-clause-found : goal.returns-clause-found
-returns-clause-found c = gives_found c.args.field.now c.read.result c.read.ensures
-
-pub returns-clause-only : goal.returns-clause-only
-returns-clause-only c = gives_only c.args.field.now c.read.result c.read.ensures
+pub returns-clause-read : goal.returns-clause-read
+returns-clause-read c = rw c.ok_or.ensures.value (reads_spelled c.args.field.now c.read.result c.read.ensures)
 
 pub returns-clause-bad : goal.returns-clause-bad
-returns-clause-bad c = gives_bad c.args.field.now c.read.result c.read.ensures
-
-pub returns-clause-layout : goal.returns-clause-layout
-returns-clause-layout c = gives_layout c.args.field.now c.read.result c.read.ensures
+returns-clause-bad c = rw c.ok_or.ensures.value (refuses_others c.args.field.now c.read.result c.read.ensures)

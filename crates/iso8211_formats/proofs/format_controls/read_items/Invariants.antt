@@ -5,8 +5,8 @@ use Rattle.iso8211_formats.proofs.format_controls.read_items.Given as goal
 
 abbrev pub invariant-loop-item : goal.invariant-loop-item
 invariant-loop-item l =
-    at_most l.most (behind l.formats (items_of (slice_split (λ b. eqb b 44) l.rest)))
-    ≡ at_most l.most (items_of (slice_split (λ b. eqb b 44) l.text))
+    at_most 64 (behind l.formats.items (items_of (slice_split (λ b. eqb b 44) l.rest)))
+    ≡ at_most 64 (items_of (slice_split (λ b. eqb b 44) l.text))
 
 abbrev pub decreases-loop-item : goal.decreases-loop-item
 decreases-loop-item l = length l.rest
