@@ -1,5 +1,6 @@
 -- What stands under a label in the fields of a record.
-use Rattle.std.specs.Prelude.{ℕ, zero, suc, Bool, true, false, if◌then◌else◌, List, [], ◌∷◌, ◌++◌, length, slice_get, Option, Some, None, option_and_then, Result, Ok, Err}
+use Rattle.std.specs.Prelude.{ℕ, zero, suc, List, [], ◌∷◌, ◌++◌, slice_get}
+use Rattle.std.specs.Prelude.{Option, Some, None, option_and_then, Result, Ok, Err}
 use Rattle.std.specs.List.{flat_map}
 use Rattle.iso8211_records.specs.declared.value.Value.{Value}
 use Rattle.s57_fields.specs.declared.fault.FieldFault.{FieldFault}
@@ -44,7 +45,8 @@ abbrev pub column : ℕ → ℕ → List (List Value) → List Value
 column at between fields = flat_map (λ values. every between at values) fields
 
 -- each of the values as it is read, or the fault where one isn't what it has to be
-unfoldable pub read_each : {A : Type 0} → (Value → Option A) → FieldFault → List Value → Result (List A) FieldFault
+unfoldable pub read_each :
+    {A : Type 0} → (Value → Option A) → FieldFault → List Value → Result (List A) FieldFault
 read_each read fault [] = Ok []
 read_each read fault (value ∷ values) = do
   x ← or_fault fault (read value)
@@ -52,7 +54,8 @@ read_each read fault (value ∷ values) = do
   Ok (x ∷ xs)
 
 -- what the subfield is read as in each group of each field of the tag, in order
-unfoldable pub column_in : {A : Type 0} → (Value → Option A) → RowValues → Subfield → Result (List A) FieldFault
+unfoldable pub column_in :
+    {A : Type 0} → (Value → Option A) → RowValues → Subfield → Result (List A) FieldFault
 column_in read row subfield = do
   place ← or_fault (missing row) (repeated_at subfield.place)
   read_each read (bad row subfield.label) (column place.0 place.1 row.fields)

@@ -14,12 +14,19 @@ use Rattle.s57_fields.specs.declared.general.Dspm.{Dspm}
 use Rattle.s57_fields.specs.declared.general.DsidRow.{DsidRow}
 use Rattle.s57_fields.specs.declared.general.DssiRow.{DssiRow}
 use Rattle.s57_fields.specs.declared.general.DspmRow.{DspmRow}
-use Rattle.s57_fields.specs.declared.labels.TheConstants.{DSNM, EDTN, UPDN, ISDT, PROF, AGEN, AALL, CSCL, DUNI, COUN, COMF, SOMF}
+use Rattle.s57_fields.specs.Labels as labels
 
 -- ---- DSID
 
 abbrev pub dsid_row : Option Layout → DsidRow
-dsid_row layout = record { dsnm = subfield_of layout DSNM; edtn = subfield_of layout EDTN; updn = subfield_of layout UPDN; isdt = subfield_of layout ISDT; prof = subfield_of layout PROF; agen = subfield_of layout AGEN }
+dsid_row layout = record {
+  dsnm = subfield_of layout labels.DSNM;
+  edtn = subfield_of layout labels.EDTN;
+  updn = subfield_of layout labels.UPDN;
+  isdt = subfield_of layout labels.ISDT;
+  prof = subfield_of layout labels.PROF;
+  agen = subfield_of layout labels.AGEN;
+}
 
 unfoldable pub dsid_in : DsidRow → RowValues → Result Dsid FieldFault
 dsid_in row values = do
@@ -34,7 +41,7 @@ dsid_in row values = do
 -- ---- DSSI
 
 abbrev pub dssi_row : Option Layout → DssiRow
-dssi_row layout = record { aall = subfield_of layout AALL }
+dssi_row layout = record { aall = subfield_of layout labels.AALL }
 
 unfoldable pub dssi_in : DssiRow → RowValues → Result Dssi FieldFault
 dssi_in row values = do
@@ -44,7 +51,13 @@ dssi_in row values = do
 -- ---- DSPM
 
 abbrev pub dspm_row : Option Layout → DspmRow
-dspm_row layout = record { cscl = subfield_of layout CSCL; duni = subfield_of layout DUNI; coun = subfield_of layout COUN; comf = subfield_of layout COMF; somf = subfield_of layout SOMF }
+dspm_row layout = record {
+  cscl = subfield_of layout labels.CSCL;
+  duni = subfield_of layout labels.DUNI;
+  coun = subfield_of layout labels.COUN;
+  comf = subfield_of layout labels.COMF;
+  somf = subfield_of layout labels.SOMF;
+}
 
 unfoldable pub dspm_in : DspmRow → RowValues → Result Dspm FieldFault
 dspm_in row values = do

@@ -13,7 +13,7 @@ use Rattle.s57_fields.specs.declared.identifiers.Frid.{Frid}
 use Rattle.s57_fields.specs.declared.identifiers.VridRow.{VridRow}
 use Rattle.s57_fields.specs.declared.identifiers.FridRow.{FridRow}
 use Rattle.s57_fields.specs.declared.identifiers.FoidRow.{FoidRow}
-use Rattle.s57_fields.specs.declared.labels.TheConstants.{RCNM, RCID, RVER, RUIN, PRIM, GRUP, OBJL, AGEN, FIDN, FIDS}
+use Rattle.s57_fields.specs.Labels as labels
 
 -- the update instruction, which is looked at in updates alone
 abbrev pub ruin_in : Bool → Result ℕ FieldFault → Result ℕ FieldFault
@@ -22,7 +22,12 @@ ruin_in update answer = if update then answer else Ok 0
 -- ---- VRID
 
 abbrev pub vrid_row : Option Layout → VridRow
-vrid_row layout = record { rcnm = subfield_of layout RCNM; rcid = subfield_of layout RCID; rver = subfield_of layout RVER; ruin = subfield_of layout RUIN }
+vrid_row layout = record {
+  rcnm = subfield_of layout labels.RCNM;
+  rcid = subfield_of layout labels.RCID;
+  rver = subfield_of layout labels.RVER;
+  ruin = subfield_of layout labels.RUIN;
+}
 
 unfoldable pub vrid_in : Bool → VridRow → RowValues → Result Vrid FieldFault
 vrid_in update row values = do
@@ -35,7 +40,15 @@ vrid_in update row values = do
 -- ---- FRID
 
 abbrev pub frid_row : Option Layout → FridRow
-frid_row layout = record { rcnm = subfield_of layout RCNM; rcid = subfield_of layout RCID; prim = subfield_of layout PRIM; grup = subfield_of layout GRUP; objl = subfield_of layout OBJL; rver = subfield_of layout RVER; ruin = subfield_of layout RUIN }
+frid_row layout = record {
+  rcnm = subfield_of layout labels.RCNM;
+  rcid = subfield_of layout labels.RCID;
+  prim = subfield_of layout labels.PRIM;
+  grup = subfield_of layout labels.GRUP;
+  objl = subfield_of layout labels.OBJL;
+  rver = subfield_of layout labels.RVER;
+  ruin = subfield_of layout labels.RUIN;
+}
 
 unfoldable pub frid_in : Bool → FridRow → RowValues → Result Frid FieldFault
 frid_in update row values = do
@@ -51,7 +64,11 @@ frid_in update row values = do
 -- ---- FOID
 
 abbrev pub foid_row : Option Layout → FoidRow
-foid_row layout = record { agen = subfield_of layout AGEN; fidn = subfield_of layout FIDN; fids = subfield_of layout FIDS }
+foid_row layout = record {
+  agen = subfield_of layout labels.AGEN;
+  fidn = subfield_of layout labels.FIDN;
+  fids = subfield_of layout labels.FIDS;
+}
 
 unfoldable pub foid_of : FoidRow → RowValues → Result Foid FieldFault
 foid_of row values = do

@@ -3,10 +3,12 @@ pub mod Columns
 pub mod Files
 pub mod General
 pub mod Identifiers
+pub mod Labels
 pub mod Lists
 pub mod Names
 pub mod Number
 pub mod Places
 pub mod RowValues
 pub mod Signed
+pub mod Tags
 pub mod Texts

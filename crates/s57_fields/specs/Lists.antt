@@ -25,12 +25,12 @@ use Rattle.s57_fields.specs.declared.lists.FeaturePointerRow.{FeaturePointerRow}
 use Rattle.s57_fields.specs.declared.lists.CoordinateRow.{CoordinateRow}
 use Rattle.s57_fields.specs.declared.lists.SoundingRow.{SoundingRow}
 use Rattle.s57_fields.specs.declared.lists.RelatedRow.{RelatedRow}
-use Rattle.s57_fields.specs.declared.labels.TheConstants.{ATTL, ATVL, VPUI, VPIX, NVPT, NAME, ORNT, USAG, TOPI, MASK, CCUI, CCIX, CCNC, YCOO, XCOO, VE3D, FFUI, FFIX, NFPT, LNAM, RIND, FSUI, FSIX, NSPT}
+use Rattle.s57_fields.specs.Labels as labels
 
 -- ---- ATTV and ATTF
 
 abbrev pub attribute_row : Option Layout → AttributeRow
-attribute_row layout = record { attl = subfield_of layout ATTL; atvl = subfield_of layout ATVL }
+attribute_row layout = record { attl = subfield_of layout labels.ATTL; atvl = subfield_of layout labels.ATVL }
 
 -- each code with the text beside it
 abbrev pub attributes : List ℕ → List (List ℕ) → List Attr
@@ -49,16 +49,32 @@ attributes_in row values = listed values.fields (attribute_columns row values)
 -- ---- VRPC, SGCC, FFPC and FSPC
 
 abbrev pub vrpc_row : Option Layout → ControlRow
-vrpc_row layout = record { instruction = subfield_of layout VPUI; index = subfield_of layout VPIX; count = subfield_of layout NVPT }
+vrpc_row layout = record {
+  instruction = subfield_of layout labels.VPUI;
+  index = subfield_of layout labels.VPIX;
+  count = subfield_of layout labels.NVPT;
+}
 
 abbrev pub sgcc_row : Option Layout → ControlRow
-sgcc_row layout = record { instruction = subfield_of layout CCUI; index = subfield_of layout CCIX; count = subfield_of layout CCNC }
+sgcc_row layout = record {
+  instruction = subfield_of layout labels.CCUI;
+  index = subfield_of layout labels.CCIX;
+  count = subfield_of layout labels.CCNC;
+}
 
 abbrev pub ffpc_row : Option Layout → ControlRow
-ffpc_row layout = record { instruction = subfield_of layout FFUI; index = subfield_of layout FFIX; count = subfield_of layout NFPT }
+ffpc_row layout = record {
+  instruction = subfield_of layout labels.FFUI;
+  index = subfield_of layout labels.FFIX;
+  count = subfield_of layout labels.NFPT;
+}
 
 abbrev pub fspc_row : Option Layout → ControlRow
-fspc_row layout = record { instruction = subfield_of layout FSUI; index = subfield_of layout FSIX; count = subfield_of layout NSPT }
+fspc_row layout = record {
+  instruction = subfield_of layout labels.FSUI;
+  index = subfield_of layout labels.FSIX;
+  count = subfield_of layout labels.NSPT;
+}
 
 unfoldable pub control_in : ControlRow → RowValues → Result Control FieldFault
 control_in row values = do
@@ -70,14 +86,26 @@ control_in row values = do
 -- ---- VRPT and FSPT
 
 abbrev pub vrpt_row : Option Layout → VectorPointerRow
-vrpt_row layout = record { name = subfield_of layout NAME; ornt = subfield_of layout ORNT; usag = subfield_of layout USAG; topi = subfield_of layout TOPI; mask = subfield_of layout MASK }
+vrpt_row layout = record {
+  name = subfield_of layout labels.NAME;
+  ornt = subfield_of layout labels.ORNT;
+  usag = subfield_of layout labels.USAG;
+  topi = subfield_of layout labels.TOPI;
+  mask = subfield_of layout labels.MASK;
+}
 
 abbrev pub fspt_row : Option Layout → FeaturePointerRow
-fspt_row layout = record { name = subfield_of layout NAME; ornt = subfield_of layout ORNT; usag = subfield_of layout USAG; mask = subfield_of layout MASK }
+fspt_row layout = record {
+  name = subfield_of layout labels.NAME;
+  ornt = subfield_of layout labels.ORNT;
+  usag = subfield_of layout labels.USAG;
+  mask = subfield_of layout labels.MASK;
+}
 
 abbrev pub vector_pointers : List Name → List ℕ → List ℕ → List ℕ → List ℕ → List Pointer
 vector_pointers names ornts usags topis masks =
-    map (λ it. record { target = it.0.0.0.0; ornt = it.0.0.0.1; usag = it.0.0.1; topi = it.0.1; mask = it.1 }) (zip (zip (zip (zip names ornts) usags) topis) masks)
+    map (λ it. record { target = it.0.0.0.0; ornt = it.0.0.0.1; usag = it.0.0.1; topi = it.0.1; mask = it.1 })
+    (zip (zip (zip (zip names ornts) usags) topis) masks)
 
 unfoldable pub vector_pointer_columns : VectorPointerRow → RowValues → Result (List Pointer) FieldFault
 vector_pointer_columns row values = do
@@ -94,7 +122,8 @@ vector_pointers_in row values = listed values.fields (vector_pointer_columns row
 -- a feature's pointers have no topology: 255
 abbrev pub feature_pointers : List Name → List ℕ → List ℕ → List ℕ → List Pointer
 feature_pointers names ornts usags masks =
-    map (λ it. record { target = it.0.0.0; ornt = it.0.0.1; usag = it.0.1; topi = 255; mask = it.1 }) (zip (zip (zip names ornts) usags) masks)
+    map (λ it. record { target = it.0.0.0; ornt = it.0.0.1; usag = it.0.1; topi = 255; mask = it.1 })
+    (zip (zip (zip names ornts) usags) masks)
 
 unfoldable pub feature_pointer_columns : FeaturePointerRow → RowValues → Result (List Pointer) FieldFault
 feature_pointer_columns row values = do
@@ -110,10 +139,14 @@ feature_pointers_in row values = listed values.fields (feature_pointer_columns r
 -- ---- SG2D and SG3D
 
 abbrev pub sg2d_row : Option Layout → CoordinateRow
-sg2d_row layout = record { ycoo = subfield_of layout YCOO; xcoo = subfield_of layout XCOO }
+sg2d_row layout = record { ycoo = subfield_of layout labels.YCOO; xcoo = subfield_of layout labels.XCOO }
 
 abbrev pub sg3d_row : Option Layout → SoundingRow
-sg3d_row layout = record { ycoo = subfield_of layout YCOO; xcoo = subfield_of layout XCOO; ve3d = subfield_of layout VE3D }
+sg3d_row layout = record {
+  ycoo = subfield_of layout labels.YCOO;
+  xcoo = subfield_of layout labels.XCOO;
+  ve3d = subfield_of layout labels.VE3D;
+}
 
 -- degrees times 10,000,000
 abbrev pub LATITUDE : ℕ
@@ -150,7 +183,7 @@ soundings_in row values = listed values.fields (sounding_columns row values)
 -- ---- FFPT
 
 abbrev pub ffpt_row : Option Layout → RelatedRow
-ffpt_row layout = record { lnam = subfield_of layout LNAM; rind = subfield_of layout RIND }
+ffpt_row layout = record { lnam = subfield_of layout labels.LNAM; rind = subfield_of layout labels.RIND }
 
 abbrev pub related : List Foid → List ℕ → List Related
 related foids rinds = map (λ pair. record { foid = pair.0; rind = pair.1 }) (zip foids rinds)

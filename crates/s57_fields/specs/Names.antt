@@ -19,7 +19,11 @@ name_in _ = None
 
 -- eight bytes: AGEN in two, FIDN in four and FIDS in two
 unfoldable pub foid_in : List ℕ → Option Foid
-foid_in (a ∷ b ∷ c ∷ d ∷ e ∷ f ∷ g ∷ h ∷ []) = Some (record { agen = two_bytes a b; fidn = four_bytes c d e f; fids = two_bytes g h })
+foid_in (a ∷ b ∷ c ∷ d ∷ e ∷ f ∷ g ∷ h ∷ []) = Some (record {
+  agen = two_bytes a b;
+  fidn = four_bytes c d e f;
+  fids = two_bytes g h;
+})
 foid_in _ = None
 
 -- a value that is a string of such bits (NAME)

@@ -1,5 +1,6 @@
 -- Unsigned numbers: binary, or digits in a text.
-use Rattle.std.specs.Prelude.{ℕ, ℤ, pos, negsuc, ◌&&◌, nat_lt, nat_le, if◌then◌else◌, List, length, Option, Some, None}
+use Rattle.std.specs.Prelude.{ℕ, ℤ, pos, negsuc, ◌&&◌, nat_lt, nat_le, if◌then◌else◌}
+use Rattle.std.specs.Prelude.{List, length, Option, Some, None}
 use Rattle.std.specs.Str.{all_ascii_digits}
 use Rattle.std.specs.Str.Parse.{digits_value}
 use Rattle.iso8211_records.specs.declared.value.Value.{Value}
@@ -13,7 +14,8 @@ natural_up_to most (negsuc n) = None
 -- the number that one or more digits write, where it is at most so much
 unfoldable pub digits_up_to : ℕ → List ℕ → Option ℕ
 digits_up_to most text =
-    if nat_lt 0 (length text) && (all_ascii_digits text && nat_le (digits_value 10 text) most) then Some (digits_value 10 text) else None
+    if nat_lt 0 (length text) && (all_ascii_digits text && nat_le (digits_value 10 text) most)
+    then Some (digits_value 10 text) else None
 
 -- the number that a value is, where it is a binary number or digits, and at most so much
 unfoldable pub number_up_to : ℕ → Value → Option ℕ

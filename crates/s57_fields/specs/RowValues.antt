@@ -11,7 +11,11 @@ pub record RowValues : Type 0 where
   pub fields : List (List Value)
 
 abbrev pub fields_in : ℕ → List ℕ → List RawField → RowValues
-fields_in number tag fields = record { number = number; tag = tag; fields = map (λ field. field.values) (filter (λ field. bytes_eq field.tag tag) fields) }
+fields_in number tag fields = record {
+  number = number;
+  tag = tag;
+  fields = map (λ field. field.values) (filter (λ field. bytes_eq field.tag tag) fields);
+}
 
 abbrev pub first_of : List (List Value) → Option (List Value)
 first_of [] = None

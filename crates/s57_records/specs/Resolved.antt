@@ -2,7 +2,7 @@
 use Rattle.std.specs.Prelude.{◌≡◌, ℕ, List, Option}
 use Rattle.iso8211_formats.specs.Layout.{Layout}
 use Rattle.iso8211_records.specs.Kinds.{layout_at}
-use Rattle.s57_fields.specs.declared.tags.TheConstants.{DSID, DSSI, DSPM, VRID, ATTV, VRPC, VRPT, SGCC, SG2D, SG3D, FRID, FOID, ATTF, FFPC, FFPT, FSPC, FSPT}
+use Rattle.s57_fields.specs.Tags as tags
 use Rattle.s57_fields.specs.General.{dsid_row, dssi_row, dspm_row}
 use Rattle.s57_fields.specs.Identifiers.{vrid_row, frid_row, foid_row}
 use Rattle.s57_fields.specs.Lists.{attribute_row, vrpc_row, vrpt_row, sgcc_row, sg2d_row, sg3d_row, ffpc_row, ffpt_row, fspc_row, fspt_row}
@@ -18,31 +18,31 @@ Descriptors = List (List ℕ × Layout)
 
 abbrev pub general_rows : Descriptors → GeneralRows
 general_rows descriptors = record {
-  dsid = dsid_row (layout_at descriptors DSID);
-  dssi = dssi_row (layout_at descriptors DSSI);
-  dspm = dspm_row (layout_at descriptors DSPM);
+  dsid = dsid_row (layout_at descriptors tags.DSID);
+  dssi = dssi_row (layout_at descriptors tags.DSSI);
+  dspm = dspm_row (layout_at descriptors tags.DSPM);
 }
 
 abbrev pub vector_rows : Descriptors → VectorRows
 vector_rows descriptors = record {
-  vrid = vrid_row (layout_at descriptors VRID);
-  attv = attribute_row (layout_at descriptors ATTV);
-  vrpc = vrpc_row (layout_at descriptors VRPC);
-  vrpt = vrpt_row (layout_at descriptors VRPT);
-  sgcc = sgcc_row (layout_at descriptors SGCC);
-  sg2d = sg2d_row (layout_at descriptors SG2D);
-  sg3d = sg3d_row (layout_at descriptors SG3D);
+  vrid = vrid_row (layout_at descriptors tags.VRID);
+  attv = attribute_row (layout_at descriptors tags.ATTV);
+  vrpc = vrpc_row (layout_at descriptors tags.VRPC);
+  vrpt = vrpt_row (layout_at descriptors tags.VRPT);
+  sgcc = sgcc_row (layout_at descriptors tags.SGCC);
+  sg2d = sg2d_row (layout_at descriptors tags.SG2D);
+  sg3d = sg3d_row (layout_at descriptors tags.SG3D);
 }
 
 abbrev pub feature_rows : Descriptors → FeatureRows
 feature_rows descriptors = record {
-  frid = frid_row (layout_at descriptors FRID);
-  foid = foid_row (layout_at descriptors FOID);
-  attf = attribute_row (layout_at descriptors ATTF);
-  ffpc = ffpc_row (layout_at descriptors FFPC);
-  ffpt = ffpt_row (layout_at descriptors FFPT);
-  fspc = fspc_row (layout_at descriptors FSPC);
-  fspt = fspt_row (layout_at descriptors FSPT);
+  frid = frid_row (layout_at descriptors tags.FRID);
+  foid = foid_row (layout_at descriptors tags.FOID);
+  attf = attribute_row (layout_at descriptors tags.ATTF);
+  ffpc = ffpc_row (layout_at descriptors tags.FFPC);
+  ffpt = ffpt_row (layout_at descriptors tags.FFPT);
+  fspc = fspc_row (layout_at descriptors tags.FSPC);
+  fspt = fspt_row (layout_at descriptors tags.FSPT);
 }
 
 -- the subfields of a control field's row are those of their labels
