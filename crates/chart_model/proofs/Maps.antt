@@ -46,3 +46,13 @@ remove-absent {R = R} total same m k absent =
       | true ↦ λ e. sym absent ∙ map.get_tied total m q k (tied (R q k) e)
       | false ↦ λ e. refl
     ] refl)
+
+-- to put what is there already changes nothing
+pub insert-same : {K X : Type 0} {R : K → K → Ordering} → IsTotalOrder R → IsAntisymmetric R → (m : FinMap R X) (k : K) (v : X) → map.get m k ≡ Some v → map.insert m k v ≡ m
+insert-same {R = R} total same m k v there =
+    map.same_map total same _ _ (λ q.
+    map.get-insert total m k v q
+    ∙ elim (eq_by_cmp R q k) as (λ b. eq_by_cmp R q k ≡ b → cond b (Some v) (map.get m q) ≡ map.get m q) [
+      | true ↦ λ e. sym there ∙ map.get_tied total m q k (tied (R q k) e)
+      | false ↦ λ e. refl
+    ] refl)

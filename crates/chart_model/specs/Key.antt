@@ -1,5 +1,6 @@
 -- What a cell's key is, and how it stands in 32 bytes.
-use Rattle.std.specs.Prelude.{◌≡◌, ℕ, ◌-◌, ◌≤◌, List, ◌++◌, length, take, drop, replicate, All}
+use Rattle.std.specs.Prelude.{◌≡◌, ℕ, ◌-◌, ◌≤◌, nat_le, Bool, ◌&&◌, List, ◌++◌, length, take, drop, replicate, All}
+use Rattle.std.specs.List.{list_all}
 use Rattle.std.proofs.Common.{sym, ◌∙◌, ap, arith, take-append-drop, length-take-le}
 
 -- a visible ASCII character: no space, no control
@@ -11,6 +12,13 @@ pub record IsKey (bytes : List ℕ) : Type 0 where
   pub nonempty : 1 ≤ length bytes
   pub short : length bytes ≤ 32
   pub visible : All IsVisible bytes
+
+-- the same as tests
+abbrev pub is_visible : ℕ → Bool
+is_visible byte = nat_le 33 byte && nat_le byte 126
+
+abbrev pub is_key : List ℕ → Bool
+is_key bytes = nat_le 1 (length bytes) && (nat_le (length bytes) 32 && list_all is_visible bytes)
 
 -- the key's bytes in front, and zeros behind them
 pub record IsStored (cells : List ℕ) (length_of_key : ℕ) : Type 0 where

@@ -1,3 +1,5 @@
+pub mod Answers
+pub mod Codes
 pub mod Key
 pub mod Keys
 pub mod Names

@@ -1,13 +1,13 @@
 //! The name under which a cell is kept.
 
-ghost use Rattle.std.specs.Prelude.{◌≡◌, ◌≤◌, ◌↔◌, length, IsTrue, All};
+ghost use Rattle.std.specs.Prelude.{◌≡◌, ◌≤◌, ◌↔◌, ℕ, true, List, length, IsTrue, All};
 ghost use Rattle.std.specs.Option.{SomeIff};
 ghost use Rattle.std.specs.Prelude.{nat_eq, refl};
 ghost use Rattle.std.specs.Ordering.{as_partial_cmp};
 ghost use Rattle.std.specs.Cmp.{partial_equiv_from_equiv};
 ghost use Rattle.std.specs.Cmp.Lexicographic.{nat_list_cmp_total, nat_list_eq_equiv, pointwise, texts_po, texts_ties};
 ghost use Rattle.chart_model.specs.Keys.{key_cmp};
-ghost use Rattle.chart_model.specs.Key.{IsKey, IsVisible, stored};
+ghost use Rattle.chart_model.specs.Key.{IsKey, IsVisible, is_key as tests_key, stored};
 
 use std::cmp::Ordering;
 use std::marker::Model;
@@ -53,6 +53,11 @@ fn is_key(bytes: &[u8]) -> bool
 {
     !bytes.is_empty() && bytes.len() <= LIMIT && is_visible(bytes)
 }
+
+/// What the test of definitions says of bytes is whether they are a key.
+pub fn keys_are_tested()
+    ensures { (bytes : List ℕ) → (tests_key bytes ≡ true) ↔ IsKey bytes }
+{}
 
 /// The bytes with zeros behind them.
 fn cells_of(bytes: &[u8]) -> [u8; 32]

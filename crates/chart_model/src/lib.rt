@@ -3,6 +3,7 @@
 
 mod attr_map;
 mod cell;
+pub mod codes;
 mod command;
 mod dataset;
 mod drawing;
@@ -24,10 +25,10 @@ pub use cell::{Cell, Feature, FeatureMap, Vector, VectorMap};
 pub use command::Command;
 pub use dataset::{ChangeList, Dataset, Header};
 pub use drawing::{Block, Geom, Item, ItemList, PanelKey, Target};
-pub use key::Key;
+pub use key::{Key, keys_are_tested};
 pub use key_map::KeyMap;
 pub use name::{Foid, Name};
-pub use name_map::NameMap;
+pub use name_map::{Edit, NameMap};
 pub use octets::Octets;
 pub use record::{Attr, AttrList, Coord, Coords, Pointer, Pointers, Related, RelatedList};
 pub use sequence::Sequence;

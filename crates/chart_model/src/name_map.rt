@@ -1,17 +1,32 @@
 //! Values by the names of records.
 
-ghost use Rattle.std.specs.Prelude.{◌≡◌, if◌then◌else◌, OnOk, OnErr};
-ghost use Rattle.std.specs.Option.{option_copied, unwrap_or};
+ghost use Rattle.std.specs.Prelude.{◌≡◌, OnOk, OnErr, IfSome};
+ghost use Rattle.std.specs.Option.{option_copied};
 ghost use Rattle.std.specs.FinMap as map;
 ghost use Rattle.std.specs.Map.Iter.{ShowsInOrder, ShowsValuesInOrder, deref_pair};
 ghost use Rattle.chart_model.specs.declared.name.Name.{Name};
+ghost use Rattle.chart_model.specs.Names.{edited_in};
 
 use crate::name::Name;
 use std::alloc::{AllocError, Global};
 use std::collections::BTreeMap;
 use std::collections::btree_map::Iter;
 use std::marker::Model;
-use std::mem;
+
+/// A change of one value of a map.
+pub trait Edit<V> {
+    /// What the value has to be for it.
+    ghost fits: { Self → V → Type 0 };
+
+    /// The value after it.
+    ghost edited: { Self → V → V };
+
+    /// Changes the value in its place. Where there is no memory it stays as it was.
+    fn edit(self, value: &mut V) -> Result<(), AllocError>
+        requires { fits self value.old }
+        ensures ok { OnOk result (value.new ≡ edited self value.old) }
+        ensures err { OnErr result (value.new ≡ value.old) };
+}
 
 /// Values by name, in the names' order. Contracts see a finite map.
 #[derive(Debug, Drop)]
@@ -72,24 +87,27 @@ impl<V: Drop> NameMap<V> {
         }
     }
 
-    /// Takes out the value under a name, and answers it. It takes no memory.
-    pub fn remove(&mut self, name: Name) -> Option<V>
-        ensures value { result ≡ map.get self.old name }
-        ensures map { self.new ≡ map.remove self.old name }
+    /// Takes out the value under a name, where there is one. Where there is no memory nothing changes.
+    pub fn remove(&mut self, name: Name) -> Result<(), AllocError>
+        ensures ok { OnOk result (self.new ≡ map.remove self.old name) }
+        ensures err { OnErr result (self.new ≡ self.old) }
     {
-        self.tree.remove(&name)
+        let _ = self.tree.remove(&name);
+        Ok(())
     }
 
-    /// Exchanges the value under a name for another. Where there is none nothing changes. It takes no
-    /// memory.
-    ///
-    /// So a value is edited without a copy: taken out against an empty one, edited, and put back.
-    pub fn swap(&mut self, name: Name, value: &mut V)
-        ensures value { value.new ≡ unwrap_or (map.get self.old name) value.old }
-        ensures map { self.new ≡ (if map.contains_key self.old name then map.insert self.old name value.old else self.old) }
+    /// Edits the value under a name, where there is one. Where there is no memory nothing changes.
+    pub fn edit<E: Edit<V> + Drop>(&mut self, name: Name, by: E) -> Result<(), AllocError>
+    where
+        V: Clone,
+        requires exact { (x y : V) → V.is_clone x y → y ≡ x }
+        requires fits { IfSome (map.get self.old name) (E.fits by) }
+        ensures ok { OnOk result (self.new ≡ edited_in (E.edited by) self.old name) }
+        ensures err { OnErr result (self.new ≡ self.old) }
     {
-        if let Some(held) = self.tree.get_mut(&name) {
-            mem::swap(held, value);
+        match self.tree.get_mut(&name) {
+            Some(value) => by.edit(value),
+            None => Ok(()),
         }
     }
 

@@ -53,24 +53,36 @@ fn names_in_order(rt: HostRuntime) -> Result<(), Fail> {
     Ok(())
 }
 
+/// A value exchanged for another.
+#[derive(Clone, Copy, Drop)]
+struct Exchange(u8);
+
+impl Edit<u8> for Exchange {
+    ghost use Rattle.std.specs.Prelude.{Unit};
+
+    ghost fits = { λ _ _. Unit {0} };
+
+    ghost edited = { λ by _. by.0 };
+
+    fn edit(self, value: &mut u8) -> Result<(), AllocError> {
+        *value = self.0;
+        Ok(())
+    }
+}
+
 #[test]
-fn values_swapped_and_removed(rt: HostRuntime) -> Result<(), Fail> {
+fn values_edited_and_removed(rt: HostRuntime) -> Result<(), Fail> {
     let (here, elsewhere) = (Name { rcnm: 110, rcid: 1 }, Name { rcnm: 120, rcid: 1 });
     let mut names = NameMap::new(rt.alloc());
     names.insert(here, 5u8)?;
-    let mut value = 6;
-    names.swap(here, &mut value);
-    names.swap(elsewhere, &mut value);
-    assert_eq!(rt;
-        (value, names.get(here).copied(), names.contains(elsewhere)),
-        (5, Some(6), false)
-    );
-    let copy = names.clone()?;
-    assert_eq!(rt;
-        (names.remove(elsewhere), names.remove(here), names.len()),
-        (None, Some(6), 0)
-    );
-    assert_eq!(rt; copy.get(here).copied(), Some(6));
+    let before = names.clone()?;
+    names.edit(here, Exchange(6))?;
+    names.edit(elsewhere, Exchange(7))?;
+    assert_eq!(rt; names.get(here).copied(), Some(6));
+    assert!(rt; !names.contains(elsewhere));
+    names.remove(elsewhere)?;
+    names.remove(here)?;
+    assert_eq!(rt; (names.len(), before.get(here).copied()), (0, Some(5)));
     Ok(())
 }
 
