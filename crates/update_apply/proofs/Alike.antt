@@ -12,7 +12,8 @@ use Rattle.update_apply.specs.declared.judge.Kept.{Kept}
 use Rattle.update_apply.specs.declared.fault.ChangeFault.{ChangeFault}
 use Rattle.update_apply.specs.declared.fault.ChangeFault.TheVariants as fault
 use Rattle.update_apply.specs.Edited.{edited, edited_by}
-use Rattle.update_apply.specs.Fault.{have_depths, mixed_fault, when}
+use Rattle.chart_model.specs.Answers.{when}
+use Rattle.update_apply.specs.Fault.{have_depths, mixed_fault}
 
 module _ {A : Type 0} (P : A → Type 0) where
   all-edited-by : (control : Control) (given items : List A) → (control.instruction == 2 ≡ false → All P given) → All P items → All P (edited_by control given items)

@@ -10,10 +10,10 @@ use Rattle.chart_model.specs.declared.cell.Feature.{Feature}
 use Rattle.chart_model.specs.Cell.{CellValue, IsCell, IsVector, IsFeature}
 use Rattle.chart_model.specs.Change.{Change, IsChange}
 use Rattle.chart_model.specs.Record.{IsVectorName, IsFeatureName}
-use Rattle.chart_model.specs.Names.{name_cmp}
+use Rattle.chart_model.specs.Names.{name_cmp, edited_at, edited_in}
 use Rattle.chart_model.proofs.Names.{name_cmp-total, name_cmp-IsAntisymmetric}
 use Rattle.chart_model.proofs.Maps.{Each, each-insert, each-remove}
-use Rattle.update_apply.specs.Changed.{inserted_vector, inserted_feature, modified_vector, modified_feature, modified_in, changed_in, changed}
+use Rattle.update_apply.specs.Changed.{inserted_vector, inserted_feature, modified_vector, modified_feature, changed_in, changed}
 use Rattle.update_apply.specs.Fault.{is_feature, inserts, deletes, modifies, fault_of, kept_vector}
 use Rattle.update_apply.proofs.Texts.{texts-new, texts-set}
 use Rattle.update_apply.proofs.Alike.{all-edited, coords-edited}
@@ -31,12 +31,12 @@ changed-each : {V : Type 0} (inserted : Change → V) (modified : Change → V �
 changed-each {V} inserted modified P records change range each new old =
     let name = change.target in
     elim (inserts change) as (λ b. inserts change ≡ b → Each P (if b then map.insert records name (inserted change)
-    else if deletes change then map.remove records name else modified_in inserted modified records change (map.get records name))) [
+    else if deletes change then map.remove records name else edited_in (modified change) records name)) [
       | true ↦ λ e. each-insert name_cmp-total name_cmp-IsAntisymmetric P records name (inserted change) each (new e)
       | false ↦ λ e. elim (deletes change) as (λ b. deletes change ≡ b → Each P (if b then map.remove records name
-          else modified_in inserted modified records change (map.get records name))) [
+          else edited_in (modified change) records name)) [
             | true ↦ λ d. each-remove name_cmp-total P records name each
-            | false ↦ λ d. elim (map.get records name) as (λ (o : Option V). map.get records name ≡ o → Each P (modified_in inserted modified records change o)) [
+            | false ↦ λ d. elim (map.get records name) as (λ (o : Option V). map.get records name ≡ o → Each P (edited_at (modified change) records name o)) [
               | None ↦ λ absent. each
               | Some kept ↦ λ there. each-insert name_cmp-total name_cmp-IsAntisymmetric P records name (modified change kept) each (old kept (third change.ruin range e d) there)
             ] refl

@@ -10,9 +10,11 @@ use Rattle.chart_model.specs.Change.{IsEdit, IsInstruction}
 use Rattle.update_apply.specs.declared.fault.ChangeFault.{ChangeFault}
 use Rattle.update_apply.specs.declared.fault.ChangeFault.TheVariants as fault
 use Rattle.update_apply.specs.Edited.{edited, edited_by, IsEdited, IsEditedBy, FitsEach}
-use Rattle.update_apply.specs.Fault.{index_fault, count_fault, behind, when}
+use Rattle.chart_model.specs.Answers.{when}
+use Rattle.update_apply.specs.Fault.{index_fault, count_fault, behind}
 
-quiet : (so : Bool) (what : ChangeFault) → when so what ≡ None → so ≡ false
+-- where it is no fault it isn't so
+pub quiet : (so : Bool) (what : ChangeFault) → when so what ≡ None → so ≡ false
 quiet true what e = absurd (true≢false (ap is_some e))
 quiet false what e = refl
 

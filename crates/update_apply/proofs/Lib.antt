@@ -6,4 +6,3 @@ pub mod Edits
 pub mod NoFault
 pub mod CellsKept
 pub mod OneChange
-pub mod Swaps

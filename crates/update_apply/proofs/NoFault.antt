@@ -1,8 +1,9 @@
 -- What it says of the parts that a change has no fault.
-use Rattle.std.proofs.Common.{◌≡◌, Bool, true, false, true≢false, if◌then◌else◌, ◌==◌, length, List, [], ◌∷◌, Option, Some, None, refl, sym, ap, ◌∙◌}
+use Rattle.std.proofs.Common.{◌≡◌, ◌+◌, inl, inr, Bool, true, false, true≢false, not, ◌&&◌, if◌then◌else◌, ◌==◌, length, List, [], ◌∷◌, Option, Some, None, IfSome, refl, sym, ap, ◌∙◌}
 use Rattle.std.specs.Option.{is_some, option_map}
 use Rattle.std.specs.List.{AllByRecursion}
 use Rattle.std.specs.FinMap as map
+use Rattle.std.proofs.lemmas.Bool.{eqb-true, not-false, or_cases, and_parts}
 use Rattle.chart_model.specs.declared.cell.Vector.{Vector}
 use Rattle.chart_model.specs.declared.cell.Feature.{Feature}
 use Rattle.chart_model.specs.Cell.{CellValue}
@@ -11,10 +12,13 @@ use Rattle.chart_model.specs.declared.record.Pointer.{Pointer}
 use Rattle.chart_model.specs.declared.record.Coord.{Coord}
 use Rattle.chart_model.specs.declared.record.Related.{Related}
 use Rattle.update_apply.specs.declared.judge.Kept.{Kept}
+use Rattle.update_apply.specs.Changed.{FitsVector, FitsFeature}
 use Rattle.update_apply.specs.Edited.{FitsEach}
 use Rattle.update_apply.specs.declared.fault.ChangeFault.{ChangeFault}
-use Rattle.update_apply.specs.Fault.{is_feature, kept_under, kept_vector, kept_feature, first_of, edit_faults, kept_faults, fault_by, fault_of, index_fault, modifies}
-use Rattle.update_apply.proofs.Edits.{fits}
+use Rattle.update_apply.specs.declared.fault.ChangeFault.TheVariants as fault
+use Rattle.chart_model.specs.Answers.{first_of}
+use Rattle.update_apply.specs.Fault.{is_feature, kept_under, kept_vector, kept_feature, edit_faults, kept_faults, fault_by, fault_of, fits_version, index_fault, modifies, deletes}
+use Rattle.update_apply.proofs.Edits.{fits, quiet}
 
 abbrev pub AreNone : List (Option ChangeFault) → Type 0
 AreNone faults = AllByRecursion (λ fault. fault ≡ None) faults
@@ -62,3 +66,29 @@ module _ (change : Change) (edit : IsChange change) (kept : Kept) (none : fault_
   fits-related items many =
       fits change.target change.related_edit change.related items edit.related_edit
       (ap (index_fault change.target change.related_edit) (sym many) ∙ none-of-edits.1.1.1.1.1.1.1.1.0) none-of-edits.1.1.1.1.1.0
+
+  pub follows : change.version ≡ kept.version + 1
+  follows =
+      let version = (first-none (kept_faults change kept) none).1.0 in
+      let fits : fits_version change kept.version ≡ true = not-false (fits_version change kept.version) (quiet (not (fits_version change kept.version)) (fault.Version change.target kept.version change.version) version) in
+      elim (or_cases (change.version == kept.version + 1) (deletes change && (change.version == kept.version)) fits) [
+        | inl next ↦ eqb-true change.version (kept.version + 1) next
+        | inr deleted ↦ absurd (true≢false (sym (and_parts (deletes change) (change.version == kept.version) deleted).0 ∙ ap (λ n. n == 2) so))
+      ]
+
+-- a record whose modification has no fault is fit for it
+pub vector-fits : (change : Change) → IsChange change → change.ruin ≡ 3 → (found : Option Vector) → fault_by (option_map kept_vector found) change ≡ None → IfSome found (FitsVector change)
+vector-fits change edit so None none = tt
+vector-fits change edit so (Some vector) none = record {
+  version = follows change edit (kept_vector vector) none so;
+  pointers = fits-pointers change edit (kept_vector vector) none so vector.pointers refl;
+  coords = fits-coords change edit (kept_vector vector) none so vector.coords refl;
+}
+
+pub feature-fits : (change : Change) → IsChange change → change.ruin ≡ 3 → (found : Option Feature) → fault_by (option_map kept_feature found) change ≡ None → IfSome found (FitsFeature change)
+feature-fits change edit so None none = tt
+feature-fits change edit so (Some feature) none = record {
+  version = follows change edit (kept_feature feature) none so;
+  pointers = fits-pointers change edit (kept_feature feature) none so feature.pointers refl;
+  related = fits-related change edit (kept_feature feature) none so feature.related refl;
+}

@@ -1,6 +1,6 @@
 -- Where a change has no fault one cell follows, and no other.
 use Rattle.std.proofs.Common.{◌≡◌, ⊎_elim, Bool, true, false, true≢false, not, if◌then◌else◌, ◌==◌, Option, Some, None, ℕ, arith, refl, sym, ap, ◌∙◌}
-use Rattle.std.specs.Option.{is_some, option_map}
+use Rattle.std.specs.Option.{option_map}
 use Rattle.std.specs.Int.{IsInRange}
 use Rattle.std.specs.FinMap as map
 use Rattle.std.proofs.lemmas.Bool.{eqb-true, eqb-false}
@@ -9,35 +9,30 @@ use Rattle.chart_model.specs.declared.cell.Feature.{Feature}
 use Rattle.chart_model.specs.Cell.{CellValue}
 use Rattle.chart_model.specs.Change.{Change, IsChange}
 use Rattle.chart_model.specs.Record.{IsVectorName, IsFeatureName}
-use Rattle.chart_model.specs.Names.{name_cmp}
+use Rattle.chart_model.specs.Names.{name_cmp, edited_at, edited_in}
 use Rattle.update_apply.specs.declared.judge.Kept.{Kept}
-use Rattle.update_apply.specs.declared.fault.ChangeFault.{ChangeFault}
 use Rattle.update_apply.specs.declared.fault.ChangeFault.TheVariants as fault
-use Rattle.update_apply.specs.Changed.{inserted_vector, inserted_feature, modified_vector, modified_feature, modified_in, changed_in, changed, IsModifiedVector, IsModifiedFeature, ChangesIn, Changes}
-use Rattle.update_apply.specs.Fault.{is_feature, inserts, when, fault_by, fault_of, kept_vector, kept_feature, kept_faults, edit_faults}
-use Rattle.update_apply.proofs.Edits.{is-edited, only-edited}
+use Rattle.update_apply.specs.Changed.{inserted_vector, inserted_feature, modified_vector, modified_feature, changed_in, changed, IsModifiedVector, IsModifiedFeature, ChangesIn, Changes}
+use Rattle.update_apply.specs.Fault.{is_feature, inserts, fault_by, fault_of, kept_vector, kept_feature, kept_faults, edit_faults}
+use Rattle.update_apply.proofs.Edits.{quiet, is-edited, only-edited}
 use Rattle.update_apply.proofs.NoFault.{AreNone, none-vector, none-feature, none-edits}
-
-quiet : (so : Bool) (what : ChangeFault) → when so what ≡ None → so ≡ false
-quiet true what e = absurd (true≢false (ap is_some e))
-quiet false what e = refl
 
 module _ {V : Type 0} (inserted : Change → V) (modified : Change → V → V) (records : map.FinMap name_cmp V) (change : Change) where
   new-in : change.ruin ≡ 1 → changed_in inserted modified records change ≡ map.insert records change.target (inserted change)
   new-in one =
       ap (λ (n : ℕ). if n == 1 then map.insert records change.target (inserted change)
-      else if n == 2 then map.remove records change.target else modified_in inserted modified records change (map.get records change.target)) one
+      else if n == 2 then map.remove records change.target else edited_in (modified change) records change.target) one
 
   gone-in : change.ruin ≡ 2 → changed_in inserted modified records change ≡ map.remove records change.target
   gone-in two =
       ap (λ (n : ℕ). if n == 1 then map.insert records change.target (inserted change)
-      else if n == 2 then map.remove records change.target else modified_in inserted modified records change (map.get records change.target)) two
+      else if n == 2 then map.remove records change.target else edited_in (modified change) records change.target) two
 
   other-in : (kept : V) → change.ruin ≡ 3 → map.get records change.target ≡ Some kept → changed_in inserted modified records change ≡ map.insert records change.target (modified change kept)
   other-in kept three there =
       ap (λ (n : ℕ). if n == 1 then map.insert records change.target (inserted change)
-      else if n == 2 then map.remove records change.target else modified_in inserted modified records change (map.get records change.target)) three
-      ∙ ap (modified_in inserted modified records change) there
+      else if n == 2 then map.remove records change.target else edited_in (modified change) records change.target) three
+      ∙ ap (edited_at (modified change) records change.target) there
 
   module _ (IsModified : Change → V → V → Type 0) where
     changes-in : (kept_of : V → Kept)

@@ -12,7 +12,8 @@ use Rattle.chart_model.specs.Change.{Change}
 use Rattle.update_apply.specs.declared.judge.Kept.{Kept}
 use Rattle.update_apply.specs.declared.fault.ChangeFault.{ChangeFault}
 use Rattle.update_apply.specs.declared.fault.ChangeFault.TheVariants as fault
-use Rattle.update_apply.specs.Fault.{told, when, behind, first_of, foid_fault, control_fault, count_fault, index_fault, mixed_fault, edit_faults, edits_fault, kept_faults, fits_version, inserts, fault_by, fault_of, kept_under, modifies, same_foid}
+use Rattle.chart_model.specs.Answers.{when, first_of}
+use Rattle.update_apply.specs.Fault.{told, behind, foid_fault, control_fault, count_fault, index_fault, mixed_fault, edit_faults, edits_fault, kept_faults, fits_version, inserts, fault_by, fault_of, kept_under, modifies, same_foid}
 
 -- where there is a fault, it is told
 abbrev IsTold : Option ChangeFault → Type 0

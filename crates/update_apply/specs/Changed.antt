@@ -1,5 +1,5 @@
 -- A cell after a change of a record.
-use Rattle.std.specs.Prelude.{◌≡◌, ◌+◌, if◌then◌else◌, Option, Some, None}
+use Rattle.std.specs.Prelude.{◌≡◌, ◌+◌, if◌then◌else◌, Some, None}
 use Rattle.std.specs.Option.{unwrap_or}
 use Rattle.std.specs.FinMap as map
 use Rattle.chart_model.specs.declared.cell.Vector.{Vector}
@@ -8,8 +8,9 @@ use Rattle.chart_model.specs.Attrs.{set_attrs}
 use Rattle.chart_model.specs.Cell.{CellValue}
 use Rattle.chart_model.specs.Change.{Change}
 use Rattle.chart_model.specs.Record.{IsVectorName, IsFeatureName}
-use Rattle.chart_model.specs.Names.{name_cmp}
-use Rattle.update_apply.specs.Edited.{edited, IsEdited}
+use Rattle.chart_model.specs.Names.{name_cmp, edited_in}
+use Rattle.chart_model.specs.Codes.{INSERT, DELETE, MODIFY}
+use Rattle.update_apply.specs.Edited.{edited, FitsEach, IsEdited}
 use Rattle.update_apply.specs.Fault.{inserts, deletes, is_feature}
 
 -- ---- as a function
@@ -57,17 +58,24 @@ modified_feature change kept = record {
   pointers = edited change.pointer_edit change.pointers kept.pointers;
 }
 
-module _ {V : Type 0} (inserted : Change → V) (modified : Change → V → V) where
-  -- a record modified under its name, where there is one
-  abbrev pub modified_in : map.FinMap name_cmp V → Change → Option V → map.FinMap name_cmp V
-  modified_in records change None = records
-  modified_in records change (Some kept) = map.insert records change.target (modified change kept)
+-- what a record has to be for that: the version follows, and each edit fits its list
+pub record FitsVector (change : Change) (kept : Vector) : Type 0 where
+  pub version : change.version ≡ kept.version + 1
+  pub pointers : FitsEach change.pointer_edit change.pointers kept.pointers
+  pub coords : FitsEach change.coord_edit change.coords kept.coords
 
+pub record FitsFeature (change : Change) (kept : Feature) : Type 0 where
+  pub version : change.version ≡ kept.version + 1
+  pub pointers : FitsEach change.pointer_edit change.pointers kept.pointers
+  pub related : FitsEach change.related_edit change.related kept.related
+
+module _ {V : Type 0} (inserted : Change → V) (modified : Change → V → V) where
+  -- a record is put, is taken out, or is modified where there is one
   abbrev pub changed_in : map.FinMap name_cmp V → Change → map.FinMap name_cmp V
   changed_in records change =
       if inserts change then map.insert records change.target (inserted change)
       else if deletes change then map.remove records change.target
-      else modified_in records change (map.get records change.target)
+      else edited_in (modified change) records change.target
 
 -- the cell after the change
 abbrev pub changed : CellValue → Change → CellValue
@@ -98,9 +106,9 @@ pub record IsModifiedFeature (change : Change) (kept made : Feature) : Type 0 wh
 
 -- a record is new, is taken out, or is another under its name; all others stay
 pub record ChangesIn {V : Type 0} (inserted : Change → V) (IsModified : Change → V → V → Type 0) (change : Change) (records after : map.FinMap name_cmp V) : Type 0 where
-  pub insert : change.ruin ≡ 1 → (map.get records change.target ≡ None) × (after ≡ map.insert records change.target (inserted change))
-  pub delete : change.ruin ≡ 2 → after ≡ map.remove records change.target
-  pub modify : change.ruin ≡ 3 → (kept : V) × (made : V) × (map.get records change.target ≡ Some kept) × IsModified change kept made × (after ≡ map.insert records change.target made)
+  pub insert : change.ruin ≡ INSERT → (map.get records change.target ≡ None) × (after ≡ map.insert records change.target (inserted change))
+  pub delete : change.ruin ≡ DELETE → after ≡ map.remove records change.target
+  pub modify : change.ruin ≡ MODIFY → (kept : V) × (made : V) × (map.get records change.target ≡ Some kept) × IsModified change kept made × (after ≡ map.insert records change.target made)
 
 -- the header and the records of the other kind stay
 pub record Changes (cell : CellValue) (change : Change) (after : CellValue) : Type 0 where

@@ -11,6 +11,8 @@ use Rattle.chart_model.specs.declared.cell.Feature.{Feature}
 use Rattle.chart_model.specs.declared.update_record.Control.{Control}
 use Rattle.chart_model.specs.Cell.{CellValue}
 use Rattle.chart_model.specs.Change.{Change}
+use Rattle.chart_model.specs.Answers.{first_of, when}
+use Rattle.chart_model.specs.Codes.{FEATURE, INSERT, DELETE, MODIFY}
 use Rattle.update_apply.specs.declared.judge.Kept.{Kept}
 use Rattle.update_apply.specs.declared.fault.ChangeFault.{ChangeFault}
 use Rattle.update_apply.specs.declared.fault.ChangeFault.TheVariants as fault
@@ -43,7 +45,7 @@ kept_feature feature = record {
 }
 
 abbrev pub is_feature : Name → Bool
-is_feature name = name.rcnm == 100
+is_feature name = name.rcnm == FEATURE
 
 abbrev pub kept_under : CellValue → Name → Option Kept
 kept_under cell name =
@@ -54,17 +56,13 @@ kept_under cell name =
 -- ---- the conditions
 
 abbrev pub inserts : Change → Bool
-inserts change = change.ruin == 1
+inserts change = change.ruin == INSERT
 
 abbrev pub deletes : Change → Bool
-deletes change = change.ruin == 2
+deletes change = change.ruin == DELETE
 
 abbrev pub modifies : Change → Bool
-modifies change = change.ruin == 3
-
--- a fault where it is so
-abbrev pub when : Bool → ChangeFault → Option ChangeFault
-when so what = if so then Some what else None
+modifies change = change.ruin == MODIFY
 
 -- the kept version and 1, and in a deletion the kept version too
 abbrev pub fits_version : Change → ℕ → Bool
@@ -89,11 +87,11 @@ control_fault name (Some control) given = None
 abbrev pub count_fault : {A : Type 0} → Name → Option Control → List A → Option ChangeFault
 count_fault name None given = None
 count_fault name (Some control) given =
-    when (not (control.instruction == 2) && not (control.count == length given)) (fault.Count name control.count (length given))
+    when (not (control.instruction == DELETE) && not (control.count == length given)) (fault.Count name control.count (length given))
 
 -- the place behind the last item that is deleted or replaced, from 1; of an insertion its own place
 abbrev pub behind : Control → ℕ
-behind control = if control.instruction == 1 then control.index else control.index + control.count
+behind control = if control.instruction == INSERT then control.index else control.index + control.count
 
 -- a place 0, or one that is over the list's length
 abbrev pub index_fault : Name → Option Control → ℕ → Option ChangeFault
@@ -105,14 +103,9 @@ abbrev pub mixed_fault : Name → Option Control → Kept → List Coord → Opt
 mixed_fault name None kept given = None
 mixed_fault name (Some control) kept [] = None
 mixed_fault name (Some control) kept (coord ∷ more) =
-    when (not (control.instruction == 2) && not (kept.coords == 0) && not (beq kept.depths (is_some coord.z))) (fault.Mixed name)
+    when (not (control.instruction == DELETE) && not (kept.coords == 0) && not (beq kept.depths (is_some coord.z))) (fault.Mixed name)
 
 -- ---- the first fault
-
-abbrev pub first_of : List (Option ChangeFault) → Option ChangeFault
-first_of [] = None
-first_of (None ∷ more) = first_of more
-first_of (Some what ∷ more) = Some what
 
 -- the faults of the three edits of a modification, in the order in which they count
 abbrev pub edit_faults : Change → Kept → List (Option ChangeFault)

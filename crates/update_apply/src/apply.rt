@@ -1,74 +1,17 @@
 //! A change made to a cell.
 
 ghost use Rattle.std.specs.Prelude.{◌≡◌, None, OnOk, OnErr};
-ghost use Rattle.std.specs.Option.{option_map, IsSome};
+ghost use Rattle.std.specs.Option.{option_map};
 ghost use Rattle.std.specs.FinMap as map;
-ghost use Rattle.update_apply.specs.Changed.{changed, changed_in, modified_in, inserted_vector, inserted_feature, modified_vector, modified_feature};
+ghost use Rattle.update_apply.specs.Changed.{changed, changed_in, inserted_vector, inserted_feature, modified_vector, modified_feature};
 ghost use Rattle.update_apply.specs.Fault as spec;
 
 use crate::fault::ChangeFault;
-use crate::judge::{DELETE, FEATURE, INSERT, fault_of};
-use crate::record::{inserted_feature, inserted_vector, modify_feature, modify_vector};
-use chart_model::{
-    AttrMap, Cell, Feature, FeatureMap, Foid, Sequence, UpdateRecord, Vector, VectorMap,
-};
+use crate::judge::fault_of;
+use crate::record::{Modification, inserted_feature, inserted_vector};
+use chart_model::codes::{DELETE, FEATURE, INSERT};
+use chart_model::{Cell, FeatureMap, UpdateRecord, VectorMap};
 use std::alloc::{AllocError, Global};
-
-/// Modifies a vector record in its place: taken out against an empty one, and put back.
-fn modify_in_vectors(
-    alloc: Global,
-    vectors: &mut VectorMap,
-    change: &UpdateRecord,
-) -> Result<(), AllocError>
-    requires modifies { change.now.ruin ≡ 3 }
-    requires there { IsSome (map.get vectors.old change.now.target) }
-    requires fits { spec.fault_by (option_map spec.kept_vector (map.get vectors.old change.now.target)) change.now ≡ None }
-    ensures ok { OnOk result (vectors.new ≡ modified_in inserted_vector modified_vector vectors.old change.now (map.get vectors.old change.now.target)) }
-    ensures err { OnErr result (vectors.new ≡ vectors.old) }
-{
-    let mut vector = Vector {
-        version: 0,
-        attrs: AttrMap::new(alloc),
-        pointers: Sequence::new(alloc),
-        coords: Sequence::new(alloc),
-    };
-    vectors.swap(change.target, &mut vector);
-    let done = modify_vector(alloc, &mut vector, change);
-    vectors.swap(change.target, &mut vector);
-    done
-}
-
-/// Modifies a feature record in its place: taken out against an empty one, and put back.
-fn modify_in_features(
-    alloc: Global,
-    features: &mut FeatureMap,
-    change: &UpdateRecord,
-) -> Result<(), AllocError>
-    requires modifies { change.now.ruin ≡ 3 }
-    requires there { IsSome (map.get features.old change.now.target) }
-    requires fits { spec.fault_by (option_map spec.kept_feature (map.get features.old change.now.target)) change.now ≡ None }
-    ensures ok { OnOk result (features.new ≡ modified_in inserted_feature modified_feature features.old change.now (map.get features.old change.now.target)) }
-    ensures err { OnErr result (features.new ≡ features.old) }
-{
-    let mut feature = Feature {
-        prim: 255,
-        grup: 0,
-        class: 0,
-        version: 0,
-        foid: Foid {
-            agen: 0,
-            fidn: 0,
-            fids: 0,
-        },
-        attrs: AttrMap::new(alloc),
-        related: Sequence::new(alloc),
-        pointers: Sequence::new(alloc),
-    };
-    features.swap(change.target, &mut feature);
-    let done = modify_feature(alloc, &mut feature, change);
-    features.swap(change.target, &mut feature);
-    done
-}
 
 /// Changes a vector record of a cell. Where there is no memory nothing changes.
 fn change_vectors(
@@ -85,11 +28,8 @@ fn change_vectors(
             let vector = inserted_vector(alloc, change)?;
             vectors.insert(change.target, vector)
         }
-        DELETE => {
-            vectors.remove(change.target);
-            Ok(())
-        }
-        _ => modify_in_vectors(alloc, vectors, change),
+        DELETE => vectors.remove(change.target),
+        _ => vectors.edit(change.target, Modification { alloc, change }),
     }
 }
 
@@ -108,11 +48,8 @@ fn change_features(
             let feature = inserted_feature(alloc, change)?;
             features.insert(change.target, feature)
         }
-        DELETE => {
-            features.remove(change.target);
-            Ok(())
-        }
-        _ => modify_in_features(alloc, features, change),
+        DELETE => features.remove(change.target),
+        _ => features.edit(change.target, Modification { alloc, change }),
     }
 }
 

@@ -4,8 +4,8 @@ ghost use Rattle.std.specs.Prelude.{◌≡◌, ◌+◌, ◌≤◌, ◌++◌, len
 ghost use Rattle.std.specs.Vec.{vec_len, vec_capacity};
 ghost use Rattle.update_apply.specs.Edited as spec;
 
-use crate::judge::{DELETE, INSERT};
 use chart_model::Control;
+use chart_model::codes::{DELETE, INSERT};
 
 /// Puts items in between, at a place from 0. It takes no memory.
 fn put<T: Copy>(list: &mut Vec<T>, front: usize, given: &[T])

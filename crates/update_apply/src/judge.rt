@@ -1,20 +1,12 @@
 //! Whether a change fits the cell.
 
 ghost use Rattle.std.specs.Prelude.{◌≡◌, IsTrue, if◌then◌else◌};
+ghost use Rattle.chart_model.specs.Answers.{first_of, when};
 ghost use Rattle.update_apply.specs.Fault as spec;
 
 use crate::fault::ChangeFault;
+use chart_model::codes::{DELETE, FEATURE, INSERT, MODIFY};
 use chart_model::{Cell, Control, Coord, Feature, Foid, Name, UpdateRecord, Vector};
-
-/// The kind of features (S-57 Part 3, RCNM).
-pub const FEATURE: u8 = 100;
-
-// The update instructions of records (S-57 Part 3, RUIN), which those of lists share.
-pub const INSERT: u8 = 1;
-
-pub const DELETE: u8 = 2;
-
-pub const MODIFY: u8 = 3;
 
 /// What a cell has under a name, as far as changes are judged by it.
 #[derive(Clone, Copy, Debug)]
@@ -82,7 +74,7 @@ fn kept_under(cell: &Cell, name: Name) -> Option<Kept>
 
 /// The first fault of several.
 fn first_of(faults: &[Option<ChangeFault>]) -> Option<ChangeFault>
-    ensures { result ≡ spec.first_of faults.now }
+    ensures { result ≡ first_of faults.now }
 {
     for fault in faults {
         if fault.is_some() {
@@ -94,7 +86,7 @@ fn first_of(faults: &[Option<ChangeFault>]) -> Option<ChangeFault>
 
 /// A fault where it is so.
 fn when(so: bool, fault: ChangeFault) -> Option<ChangeFault>
-    ensures { result ≡ spec.when so fault }
+    ensures { result ≡ when so fault }
 {
     if so { Some(fault) } else { None }
 }

@@ -1,12 +1,12 @@
 //! Records inserted and modified.
 
-ghost use Rattle.std.specs.Prelude.{◌≡◌, ◌+◌, ◌≤◌, IfOk, OnOk, OnErr};
+ghost use Rattle.std.specs.Prelude.{◌≡◌, IfOk, OnOk, OnErr};
 ghost use Rattle.chart_model.specs.Attrs.{set_attrs};
-ghost use Rattle.update_apply.specs.Changed.{inserted_vector, inserted_feature, modified_vector, modified_feature};
+ghost use Rattle.update_apply.specs.Changed.{inserted_vector, inserted_feature};
 ghost use Rattle.update_apply.specs.Edited.{edited, FitsEach};
 
 use crate::edit::{added, edit};
-use chart_model::{AttrMap, Control, Feature, Foid, Pointer, Sequence, UpdateRecord, Vector};
+use chart_model::{AttrMap, Control, Edit, Feature, Foid, Pointer, Sequence, UpdateRecord, Vector};
 use std::alloc::{AllocError, Global};
 use std::mem;
 
@@ -73,62 +73,65 @@ fn edit_parts<T: Copy>(
     Ok(())
 }
 
-/// Modifies a vector record. Where there is no memory nothing changes.
-pub fn modify_vector(
-    alloc: Global,
-    vector: &mut Vector,
-    change: &UpdateRecord,
-) -> Result<(), AllocError>
-    requires version { change.now.version ≡ vector.old.version + 1 }
-    requires pointers { FitsEach change.now.pointer_edit change.now.pointers vector.old.pointers }
-    requires coords { FitsEach change.now.coord_edit change.now.coords vector.old.coords }
-    ensures ok { OnOk result (vector.new ≡ modified_vector change.now vector.old) }
-    ensures err { OnErr result (vector.new ≡ vector.old) }
-{
-    let mut pointers = mem::replace(&mut vector.pointers, Sequence::new(alloc)).into_vec();
-    let mut coords = mem::replace(&mut vector.coords, Sequence::new(alloc)).into_vec();
-    let done = edit_parts(
-        alloc,
-        change,
-        &mut vector.attrs,
-        &mut pointers,
-        &mut coords,
-        change.coord_edit,
-        change.coords.as_slice(),
-    );
-    vector.pointers = Sequence::from_vec(pointers);
-    vector.coords = Sequence::from_vec(coords);
-    done?;
-    vector.version = change.version;
-    Ok(())
+/// What an update record makes of the record that it modifies.
+#[derive(Clone, Copy)]
+pub struct Modification<'a> {
+    pub alloc: Global,
+    pub change: &'a UpdateRecord,
 }
 
-/// Modifies a feature record. Where there is no memory nothing changes.
-pub fn modify_feature(
-    alloc: Global,
-    feature: &mut Feature,
-    change: &UpdateRecord,
-) -> Result<(), AllocError>
-    requires version { change.now.version ≡ feature.old.version + 1 }
-    requires pointers { FitsEach change.now.pointer_edit change.now.pointers feature.old.pointers }
-    requires related { FitsEach change.now.related_edit change.now.related feature.old.related }
-    ensures ok { OnOk result (feature.new ≡ modified_feature change.now feature.old) }
-    ensures err { OnErr result (feature.new ≡ feature.old) }
-{
-    let mut pointers = mem::replace(&mut feature.pointers, Sequence::new(alloc)).into_vec();
-    let mut related = mem::replace(&mut feature.related, Sequence::new(alloc)).into_vec();
-    let done = edit_parts(
-        alloc,
-        change,
-        &mut feature.attrs,
-        &mut pointers,
-        &mut related,
-        change.related_edit,
-        change.related.as_slice(),
-    );
-    feature.pointers = Sequence::from_vec(pointers);
-    feature.related = Sequence::from_vec(related);
-    done?;
-    feature.version = change.version;
-    Ok(())
+impl Edit<Vector> for Modification<'_> {
+    ghost use Rattle.update_apply.specs.Changed.{FitsVector, modified_vector};
+
+    ghost fits = { λ by vector. FitsVector by.change.now vector };
+
+    ghost edited = { λ by vector. modified_vector by.change.now vector };
+
+    fn edit(self, vector: &mut Vector) -> Result<(), AllocError> {
+        let Modification { alloc, change } = self;
+        let mut pointers = mem::replace(&mut vector.pointers, Sequence::new(alloc)).into_vec();
+        let mut coords = mem::replace(&mut vector.coords, Sequence::new(alloc)).into_vec();
+        let done = edit_parts(
+            alloc,
+            change,
+            &mut vector.attrs,
+            &mut pointers,
+            &mut coords,
+            change.coord_edit,
+            change.coords.as_slice(),
+        );
+        vector.pointers = Sequence::from_vec(pointers);
+        vector.coords = Sequence::from_vec(coords);
+        done?;
+        vector.version = change.version;
+        Ok(())
+    }
+}
+
+impl Edit<Feature> for Modification<'_> {
+    ghost use Rattle.update_apply.specs.Changed.{FitsFeature, modified_feature};
+
+    ghost fits = { λ by feature. FitsFeature by.change.now feature };
+
+    ghost edited = { λ by feature. modified_feature by.change.now feature };
+
+    fn edit(self, feature: &mut Feature) -> Result<(), AllocError> {
+        let Modification { alloc, change } = self;
+        let mut pointers = mem::replace(&mut feature.pointers, Sequence::new(alloc)).into_vec();
+        let mut related = mem::replace(&mut feature.related, Sequence::new(alloc)).into_vec();
+        let done = edit_parts(
+            alloc,
+            change,
+            &mut feature.attrs,
+            &mut pointers,
+            &mut related,
+            change.related_edit,
+            change.related.as_slice(),
+        );
+        feature.pointers = Sequence::from_vec(pointers);
+        feature.related = Sequence::from_vec(related);
+        done?;
+        feature.version = change.version;
+        Ok(())
+    }
 }

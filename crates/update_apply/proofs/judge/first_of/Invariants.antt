@@ -1,5 +1,5 @@
 use Rattle.std.proofs.Common.{◌≡◌, drop}
-use Rattle.update_apply.specs.Fault.{first_of}
+use Rattle.chart_model.specs.Answers.{first_of}
 use Rattle.update_apply.proofs.judge.first_of.Given as goal
 
 abbrev pub invariant-loop-fault : goal.invariant-loop-fault
