@@ -46,7 +46,8 @@ def spans(entries, area):
     """A data record whose directory names these spans of its field area, each a tag, a length and a position."""
     lengths = max((len(b"%d" % length) for _, length, _ in entries), default=1)
     positions = max((len(b"%d" % position) for _, _, position in entries), default=1)
-    directory = b"".join(tag + b"%0*d%0*d" % (lengths, length, positions, position) for tag, length, position in entries)
+    entry = b"%%s%%0%dd%%0%dd" % (lengths, positions)
+    directory = b"".join(entry % span for span in entries)
     base = 24 + len(directory) + 1
     assert base + len(area) <= 99_999, base + len(area)
     return b"%05d D     %05d   %d%d04" % (base + len(area), base, lengths, positions) + directory + FIELD + area
@@ -99,7 +100,8 @@ def attributes(codes, value=b""):
 
 def ends(begin, end):
     """An edge's pointers to its nodes."""
-    return (b"VRPT", name(CONNECTED_NODE, begin) + b"\xff\xff\x01\xff" + name(CONNECTED_NODE, end) + b"\xff\xff\x02\xff")
+    nodes = name(CONNECTED_NODE, begin), name(CONNECTED_NODE, end)
+    return (b"VRPT", b"%s\xff\xff\x01\xff%s\xff\xff\x02\xff" % nodes)
 
 
 def shown(edges):
@@ -160,7 +162,7 @@ def many_groups():
 
 
 def greatest_descriptors():
-    """Descriptors that fill their record, by leading zeros in their counts, and the one of the records with 64 labels."""
+    """Descriptors that fill their record, by leading zeros in their counts, and 64 labels in that of the records."""
     def long(formats):
         return b"0" * 5_500 + (b"" if formats[:1].isdigit() else b"1") + formats
 
