@@ -5,4 +5,10 @@ pub mod KeyTests
 pub mod Trees
 pub mod Maps
 pub mod SortedEntries
+pub mod Blocks
 pub mod AttrMaps
+pub mod PageBlocks
+pub mod PageNames
+pub mod SharedTrees
+pub mod Pages
+pub mod Outcomes

@@ -11,7 +11,7 @@ use Rattle.chart_model.specs.Names.{name_cmp}
 pub name_cmp-total : IsTotalOrder name_cmp
 name_cmp-total = search (comparing, rules)
 
-both-tie : (r s : Ordering) → ordering_then r s ≡ Equal → (r ≡ Equal) × (s ≡ Equal)
+pub both-tie : (r s : Ordering) → ordering_then r s ≡ Equal → (r ≡ Equal) × (s ≡ Equal)
 both-tie Less s e = absurd (subst (λ o. T (is_eq o)) (sym e) tt)
 both-tie Equal s e = (refl, e)
 both-tie Greater s e = absurd (subst (λ o. T (is_eq o)) (sym e) tt)

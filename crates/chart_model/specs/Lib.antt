@@ -3,6 +3,8 @@ pub mod Codes
 pub mod Key
 pub mod Keys
 pub mod Names
+pub mod Pages
+pub mod Shared
 pub mod Attrs
 pub mod Record
 pub mod Cell

@@ -15,9 +15,9 @@ abbrev pub name_code : Coded Name
 name_code = code_by (ℕ × ℕ) (coded× coded_ℕ coded_ℕ) (λ name. (name.rcnm, name.rcid)) (λ pair. record { rcnm = pair.0; rcid = pair.1 }) (λ _. refl)
 
 -- the value under a name edited, where there is one
-abbrev pub edited_at : {V : Type 0} → (V → V) → map.FinMap name_cmp V → Name → Option V → map.FinMap name_cmp V
+abbrev pub edited_at : {K V : Type 0} {R : K → K → Ordering} → (V → V) → map.FinMap R V → K → Option V → map.FinMap R V
 edited_at edited names name None = names
 edited_at edited names name (Some value) = map.insert names name (edited value)
 
-abbrev pub edited_in : {V : Type 0} → (V → V) → map.FinMap name_cmp V → Name → map.FinMap name_cmp V
+abbrev pub edited_in : {K V : Type 0} {R : K → K → Ordering} → (V → V) → map.FinMap R V → K → map.FinMap R V
 edited_in edited names name = edited_at edited names name (map.get names name)

@@ -1,16 +1,19 @@
 //! Values by the names of records.
 
-ghost use Rattle.std.specs.Prelude.{◌≡◌, OnOk, OnErr, IfSome};
+ghost use Rattle.std.specs.Prelude.{◌≡◌, ◌+◌, if◌then◌else◌, IfOk, OnOk, OnErr, IfSome, IsSome};
 ghost use Rattle.std.specs.Option.{option_copied};
 ghost use Rattle.std.specs.FinMap as map;
 ghost use Rattle.std.specs.Map.Iter.{ShowsInOrder, ShowsValuesInOrder, deref_pair};
 ghost use Rattle.chart_model.specs.declared.name.Name.{Name};
 ghost use Rattle.chart_model.specs.Names.{edited_in};
+ghost use Rattle.chart_model.specs.Pages.{names_of, is_alone, ArePages};
 
 use crate::name::Name;
+use crate::name_iter::{NameIter, walks_in_order};
+use crate::page::Page;
+use crate::page_edits::{At, Put, TakeOut};
+use crate::page_map::{PageMap, PageName};
 use std::alloc::{AllocError, Global};
-use std::collections::BTreeMap;
-use std::collections::btree_map::Iter;
 use std::marker::Model;
 
 /// A change of one value of a map.
@@ -29,20 +32,75 @@ pub trait Edit<V> {
 }
 
 /// Values by name, in the names' order. Contracts see a finite map.
+///
+/// The values stand in small pages that copies share, so that a copy costs a pointer a page, and a change
+/// copies the page that it touches.
 #[derive(Debug, Drop)]
 pub struct NameMap<V> {
-    tree: BTreeMap<Name, V>,
+    count: usize,
+    pages: PageMap<Page<V>>,
 }
 
 impl<V> Model for NameMap<V> {
     ghost use Rattle.std.specs.FinMap as map;
     ghost use Rattle.chart_model.specs.Names.{name_cmp, name_code};
+    ghost use Rattle.chart_model.specs.Pages.{names_of, IsPaged};
 
     ghost Value = { map.FinMap name_cmp V };
 
     ghost coded = { map.code name_code V.code };
 
-    ghost view = { λ names. map.from_entries names.tree.entries };
+    ghost view = { λ names. names_of names.pages };
+
+    ghost invariant = { λ names. IsPaged names.pages names.count };
+}
+
+/// Puts a value on its page, in place of what was there. Where there is no memory nothing changes.
+fn put<V: Clone + Drop>(
+    pages: &mut PageMap<Page<V>>,
+    name: Name,
+    value: V,
+) -> Result<(), AllocError>
+    requires exact { (x y : V) → V.is_clone x y → y ≡ x }
+    requires paged { ArePages pages.old }
+    ensures ok { OnOk result (names_of pages.new ≡ map.insert (names_of pages.old) name value) }
+    ensures paged { OnOk result (ArePages pages.new) }
+    ensures err { OnErr result (pages.new ≡ pages.old) }
+{
+    let page = PageName::of(name);
+    if pages.get(page).is_some() {
+        return pages.edit(page, Put { name, value });
+    }
+    let records = Page::of(pages.allocator(), name, value)?;
+    pages.insert(page, records)
+}
+
+/// Whether a page has one value alone. It takes no memory.
+fn has_one<V: Drop>(pages: &PageMap<Page<V>>, page: PageName) -> bool
+    ensures { result ≡ is_alone (map.get pages.now page) }
+{
+    match pages.get(page) {
+        Some(records) => records.len() == 1,
+        None => false,
+    }
+}
+
+/// Takes a value from its page, and the page too where no other is left on it. Where there is no memory
+/// nothing changes.
+fn take_out<V: Clone + Drop>(pages: &mut PageMap<Page<V>>, name: Name) -> Result<(), AllocError>
+    requires exact { (x y : V) → V.is_clone x y → y ≡ x }
+    requires paged { ArePages pages.old }
+    requires there { IsSome (map.get (names_of pages.old) name) }
+    ensures ok { OnOk result (names_of pages.new ≡ map.remove (names_of pages.old) name) }
+    ensures paged { OnOk result (ArePages pages.new) }
+    ensures err { OnErr result (pages.new ≡ pages.old) }
+{
+    let page = PageName::of(name);
+    if has_one(pages, page) {
+        pages.remove(page);
+        return Ok(());
+    }
+    pages.edit(page, TakeOut { name })
 }
 
 impl<V: Drop> NameMap<V> {
@@ -51,7 +109,8 @@ impl<V: Drop> NameMap<V> {
         ensures { result ≡ map.empty }
     {
         NameMap {
-            tree: BTreeMap::new(alloc),
+            count: 0,
+            pages: PageMap::new(alloc),
         }
     }
 
@@ -59,40 +118,62 @@ impl<V: Drop> NameMap<V> {
     pub fn len(&self) -> usize
         ensures { result ≡ map.len self.now }
     {
-        self.tree.len()
+        self.count
     }
 
     /// The value under a name. It takes no memory.
     pub fn get(&self, name: Name) -> Option<&V>
         ensures { option_copied result ≡ map.get self.now name }
     {
-        self.tree.get(&name)
+        match self.pages.get(PageName::of(name)) {
+            Some(records) => records.get(name),
+            None => None,
+        }
     }
 
     /// Whether there is a value under a name. It takes no memory.
     pub fn contains(&self, name: Name) -> bool
         ensures { result ≡ map.contains_key self.now name }
     {
-        self.tree.contains_key(&name)
+        self.get(name).is_some()
+    }
+
+    /// The number of entries with a value under that name too.
+    fn count_with(&self, name: Name) -> Result<usize, AllocError>
+        ensures { IfOk result (λ count. count ≡ (if map.contains_key self.now name then map.len self.now else map.len self.now + 1)) }
+    {
+        if self.contains(name) {
+            return Ok(self.count);
+        }
+        self.count.checked_add(1).ok_or(AllocError)
     }
 
     /// Puts a value under a name, in place of what was there. Where there is no memory nothing changes.
     pub fn insert(&mut self, name: Name, value: V) -> Result<(), AllocError>
+    where
+        V: Clone,
+        requires { (x y : V) → V.is_clone x y → y ≡ x }
         ensures ok { OnOk result (self.new ≡ map.insert self.old name value) }
         ensures err { OnErr result (self.new ≡ self.old) }
     {
-        match self.tree.insert(name, value) {
-            Ok(_) => Ok(()),
-            Err(_) => Err(AllocError),
-        }
+        let count = self.count_with(name)?;
+        put(&mut self.pages, name, value)?;
+        self.count = count;
+        Ok(())
     }
 
     /// Takes out the value under a name, where there is one. Where there is no memory nothing changes.
     pub fn remove(&mut self, name: Name) -> Result<(), AllocError>
+    where
+        V: Clone,
+        requires { (x y : V) → V.is_clone x y → y ≡ x }
         ensures ok { OnOk result (self.new ≡ map.remove self.old name) }
         ensures err { OnErr result (self.new ≡ self.old) }
     {
-        let _ = self.tree.remove(&name);
+        if self.contains(name) {
+            take_out(&mut self.pages, name)?;
+            self.count -= 1;
+        }
         Ok(())
     }
 
@@ -105,29 +186,27 @@ impl<V: Drop> NameMap<V> {
         ensures ok { OnOk result (self.new ≡ edited_in (E.edited by) self.old name) }
         ensures err { OnErr result (self.new ≡ self.old) }
     {
-        match self.tree.get_mut(&name) {
-            Some(value) => by.edit(value),
-            None => Ok(()),
-        }
+        self.pages.edit(PageName::of(name), At { name, by })
     }
 
     /// The names and their values in the names' order. It takes no memory.
-    pub fn iter(&self) -> Iter<'_, Name, V>
+    pub fn iter(&self) -> NameIter<'_, V>
         ensures entries { result ≡ map.entries self.now }
         ensures runs { ShowsInOrder (deref_pair {K = Name} {X = V}) }
         ensures values_run { ShowsValuesInOrder (deref_pair {K = Name} {X = V}) }
     {
-        self.tree.iter()
+        walks_in_order::<V>(self.pages.allocator());
+        NameIter::over(self.pages.iter())
     }
 }
 
-impl<V: Clone> Clone for NameMap<V> {
-    /// Where the clones of the values are equal to them, so is the clone of the map.
-    ghost is_clone = { λ m copy. ((x y : V) → V.is_clone x y → y ≡ x) → copy ≡ m };
+impl<V: Drop> Clone for NameMap<V> {
+    ghost is_clone = { λ names copy. copy ≡ names };
 
     fn clone(&self) -> Result<NameMap<V>, AllocError> {
         Ok(NameMap {
-            tree: self.tree.clone()?,
+            count: self.count,
+            pages: self.pages.clone()?,
         })
     }
 }

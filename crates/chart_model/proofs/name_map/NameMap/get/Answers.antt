@@ -1,7 +1,17 @@
-use Rattle.std.proofs.Common.{◌∙◌}
-use Rattle.chart_model.proofs.Names.{name_cmp-total}
-use Rattle.chart_model.proofs.Trees.{get-seen}
+use Rattle.std.proofs.Common.{ap, sym, ◌∙◌}
+use Rattle.std.specs.FinMap as map
+use Rattle.chart_model.proofs.Pages.{get-names, on_page, placed}
 use Rattle.chart_model.proofs.name_map.NameMap.get.Goals as goal
 
-pub returns : goal.returns
-returns g c = c.get.ensures.value ∙ get-seen name_cmp-total _ _ _ c.self.view_is
+pub returns-in-Some : goal.returns-in-Some
+returns-in-Some g c =
+    c.get-in-Some.ensures
+    ∙ ap (on_page c.args.name) (c.in-Some.ensures ∙ ap (map.get c.self.inside.pages) c.of.ensures)
+    ∙ sym (get-names c.self.inside.pages (placed c.self.inside.pages c.self.invariant.each) c.args.name)
+    ∙ ap (λ m. map.get m c.args.name) c.self.view_is
+
+pub returns-in-None : goal.returns-in-None
+returns-in-None g c =
+    ap (on_page c.args.name) (c.in-None.ensures ∙ ap (map.get c.self.inside.pages) c.of.ensures)
+    ∙ sym (get-names c.self.inside.pages (placed c.self.inside.pages c.self.invariant.each) c.args.name)
+    ∙ ap (λ m. map.get m c.args.name) c.self.view_is

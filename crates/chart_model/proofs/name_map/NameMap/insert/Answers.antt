@@ -1,10 +1,14 @@
-use Rattle.std.proofs.Common.{ap, ◌∙◌}
-use Rattle.std.specs.FinMap.{insert}
-use Rattle.chart_model.proofs.Names.{name_cmp-total, name_cmp-IsAntisymmetric}
-use Rattle.chart_model.proofs.Trees.{insert-tree}
+use Rattle.std.proofs.Common.{◌+◌, cond, ap, sym, ◌∙◌}
+use Rattle.std.specs.FinMap as map
+use Rattle.chart_model.proofs.Names.{name_cmp-total}
 use Rattle.chart_model.proofs.name_map.NameMap.insert.Goals as goal
 
-pub returns-in-Ok-clause-ok : goal.returns-in-Ok-clause-ok
-returns-in-Ok-clause-ok g c =
-    insert-tree name_cmp-total name_cmp-IsAntisymmetric _ _ _ _ c.in-Ok.ensures.updates.0
-    ∙ ap (λ m. insert m c.args.name c.args.value) c.self.view_is
+pub invariant_of-self-2 : goal.invariant_of-self-2
+invariant_of-self-2 g c = record {
+  each = c.in_ok-put.ensures.paged;
+  counted =
+      c.in_ok-count.ensures
+      ∙ ap (λ m. cond (map.contains_key m c.args.name) (map.len m) (map.len m + 1)) (sym c.self.view_is)
+      ∙ sym (map.len-insert name_cmp-total _ c.args.name c.args.value)
+      ∙ ap map.len (sym c.in_ok-put.ensures.ok);
+}

@@ -1,0 +1,20 @@
+-- What holds after a call, from what its answer says.
+use Rattle.std.proofs.Common.{◌≡◌, Option, Some, None, Result, Ok, Err, OnOk, OnErr, false, refl}
+use Rattle.std.specs.Option.{is_some, option_copied}
+use Rattle.std.specs.Borrow.{Bor}
+
+pub on-ok : {X E P Q : Type 0} (r : Result X E) → OnOk r P → (P → Q) → OnOk r Q
+on-ok (Ok x) p f = f p
+on-ok (Err e) p f = tt
+
+pub on-either : {X E P Q S : Type 0} (r : Result X E) → OnOk r P → OnErr r Q → (P → S) → (Q → S) → S
+on-either (Ok x) p q f h = f p
+on-either (Err e) p q f h = h q
+
+pub copied-some : {X : Type 0} (o : Option (Bor X)) → is_some (option_copied o) ≡ is_some o
+copied-some None = refl
+copied-some (Some x) = refl
+
+pub none-from : {X : Type 0} (o : Option X) → is_some o ≡ false → o ≡ None
+none-from None e = refl
+none-from (Some x) e = cc

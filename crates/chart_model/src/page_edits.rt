@@ -1,0 +1,61 @@
+//! Edits of one record, as edits of its page.
+
+ghost use Rattle.std.specs.Prelude.{◌≡◌, IfSome};
+ghost use Rattle.std.specs.FinMap as map;
+ghost use Rattle.chart_model.specs.Names.{edited_in};
+
+use crate::name::Name;
+use crate::name_map::Edit;
+use crate::page::Page;
+use std::alloc::AllocError;
+
+/// Puts a record under a name, in place of what was there.
+#[derive(Drop)]
+pub struct Put<V> {
+    pub name: Name,
+    pub value: V,
+}
+
+impl<V: Drop> Edit<Page<V>> for Put<V> {
+    ghost fits = { λ _ _. Unit {0} };
+
+    ghost edited = { λ put records. map.insert records put.name put.value };
+
+    fn edit(self, page: &mut Page<V>) -> Result<(), AllocError> {
+        page.insert(self.name, self.value)
+    }
+}
+
+/// Takes out the record under a name.
+#[derive(Drop)]
+pub struct TakeOut {
+    pub name: Name,
+}
+
+impl<V: Drop> Edit<Page<V>> for TakeOut {
+    ghost fits = { λ _ _. Unit {0} };
+
+    ghost edited = { λ out records. map.remove records out.name };
+
+    fn edit(self, page: &mut Page<V>) -> Result<(), AllocError> {
+        page.remove(self.name);
+        Ok(())
+    }
+}
+
+/// Edits the record under a name, where there is one.
+#[derive(Drop)]
+pub struct At<E> {
+    pub name: Name,
+    pub by: E,
+}
+
+impl<V: Drop, E: Edit<V> + Drop> Edit<Page<V>> for At<E> {
+    ghost fits = { λ at records. IfSome (map.get records at.name) (E.fits at.by) };
+
+    ghost edited = { λ at records. edited_in (E.edited at.by) records at.name };
+
+    fn edit(self, page: &mut Page<V>) -> Result<(), AllocError> {
+        page.edit(self.name, self.by)
+    }
+}
