@@ -11,7 +11,6 @@ mod file;
 mod frame;
 mod laws;
 mod record;
-mod terminator;
 mod value;
 mod values;
 
