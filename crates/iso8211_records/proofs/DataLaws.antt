@@ -15,7 +15,8 @@ use Rattle.iso8211_records.specs.declared.fault.FileFault.TheVariants.{Leader, D
 use Rattle.iso8211_records.specs.Tags.{is_listed}
 use Rattle.iso8211_records.specs.Kinds.{layout_at}
 use Rattle.iso8211_records.specs.Record.{IsRecord, IsInside, IsEnded, field_bytes, describing, IsDescriptiveRecord, HasValues, IsFieldOf, AreFieldsOf, IsDataRecord}
-use Rattle.iso8211_records.specs.Reading.{◌>>=◌, or_fault, first_without, is_described, unless_undescribed, Framed, record_at, descriptors_in, descriptive_record_at, values_by, field_by, fields_of, data_record_at}
+use Rattle.chart_model.specs.Answers.{◌>>=◌, or_fault}
+use Rattle.iso8211_records.specs.Reading.{first_without, is_described, unless_undescribed, Framed, record_at, descriptors_in, descriptive_record_at, values_by, field_by, fields_of, data_record_at}
 use Rattle.iso8211_records.specs.Fault.{IsFirstWithout, BeginsRecord, HasDescriptiveFault, IsDescribed, IsReadable, HasDataFault, HasFrameFault}
 use Rattle.iso8211_records.proofs.Results.{bind_ok}
 use Rattle.iso8211_records.proofs.Firsts.{first_without-some, first_without-none, first_without-each, first_without-is}

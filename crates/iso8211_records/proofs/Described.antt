@@ -14,7 +14,8 @@ use Rattle.iso8211_records.specs.Tags.{is_listed}
 use Rattle.iso8211_records.specs.Kinds.{layout_at}
 use Rattle.iso8211_records.specs.Answers.{Fails}
 use Rattle.iso8211_records.specs.Record.{describing, field_bytes}
-use Rattle.iso8211_records.specs.Reading.{◌>>=◌, or_fault, descriptors_in}
+use Rattle.chart_model.specs.Answers.{◌>>=◌, or_fault}
+use Rattle.iso8211_records.specs.Reading.{descriptors_in}
 use Rattle.iso8211_records.proofs.Directory.{behind, join}
 use Rattle.iso8211_records.proofs.Results.{Fails-bind, Fails-same}
 

@@ -4,7 +4,8 @@ use Rattle.std.proofs.lemmas.List.{length-append}
 use Rattle.iso8211_formats.specs.declared.format.Format.{Format}
 use Rattle.iso8211_records.specs.declared.value.Value.{Value}
 use Rattle.iso8211_records.specs.Spelling.{AreSpelled, FieldFormats, groups, IsFieldText}
-use Rattle.iso8211_records.specs.Values.{◌>>=◌, value_at, values_at, groups_at, values_of}
+use Rattle.iso8211_formats.specs.Reading.{◌>>=◌}
+use Rattle.iso8211_records.specs.Values.{value_at, values_at, groups_at, values_of}
 use Rattle.iso8211_records.proofs.Options.{bind_some}
 use Rattle.iso8211_records.proofs.ValueLaws.{value_at-sound, value_at-again, Spells-some}
 

@@ -9,7 +9,8 @@ use Rattle.iso8211_records.specs.declared.record.RawField.{RawField}
 use Rattle.iso8211_records.specs.declared.fault.FileFault.{FileFault}
 use Rattle.iso8211_records.specs.Answers.{Fails}
 use Rattle.iso8211_records.specs.Record.{field_bytes}
-use Rattle.iso8211_records.specs.Reading.{◌>>=◌, field_by, fields_of}
+use Rattle.chart_model.specs.Answers.{◌>>=◌}
+use Rattle.iso8211_records.specs.Reading.{field_by, fields_of}
 use Rattle.iso8211_records.proofs.Directory.{behind, join}
 use Rattle.iso8211_records.proofs.Results.{Fails-bind, Fails-same}
 use Rattle.iso8211_records.proofs.Described.{no_entry}

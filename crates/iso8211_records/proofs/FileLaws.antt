@@ -9,7 +9,8 @@ use Rattle.iso8211_records.specs.declared.record.RawField.{RawField}
 use Rattle.iso8211_records.specs.declared.fault.FileFault.{FileFault}
 use Rattle.iso8211_records.specs.FileValue.{FileValue}
 use Rattle.iso8211_records.specs.Record.{IsRecord, IsDataRecord, AreDataRecords, IsDescriptiveRecord}
-use Rattle.iso8211_records.specs.Reading.{◌>>=◌, or_zero, descriptive_record_at, data_record_at, data_records_at, come_to}
+use Rattle.chart_model.specs.Answers.{◌>>=◌}
+use Rattle.iso8211_records.specs.Reading.{or_zero, descriptive_record_at, data_record_at, data_records_at, come_to}
 use Rattle.iso8211_records.specs.RecordFile.{IsRecordFile, record_file_of, data_records_in}
 use Rattle.iso8211_records.specs.Fault.{HasDataFault, HasLaterFault, HasFault}
 use Rattle.iso8211_records.proofs.Results.{bind_ok}

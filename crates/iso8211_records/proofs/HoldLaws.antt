@@ -17,7 +17,8 @@ use Rattle.iso8211_records.specs.Spelling.{formats_in, IsFieldText, IsField}
 use Rattle.iso8211_records.specs.Kinds.{layout_at}
 use Rattle.iso8211_records.specs.Record.{field_bytes, AreDescriptors}
 use Rattle.iso8211_records.specs.Values.{values_of}
-use Rattle.iso8211_records.specs.Reading.{◌>>=◌, or_fault, is_described, descriptors_in, values_by}
+use Rattle.chart_model.specs.Answers.{◌>>=◌, or_fault}
+use Rattle.iso8211_records.specs.Reading.{is_described, descriptors_in, values_by}
 use Rattle.iso8211_records.specs.Fault.{IsFirstWithout, Describes, IsDescribed}
 use Rattle.iso8211_records.proofs.Results.{bind_ok}
 use Rattle.iso8211_records.proofs.FieldLaws.{values_of-sound, values_of-again}

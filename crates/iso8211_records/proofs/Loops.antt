@@ -6,7 +6,8 @@ use Rattle.iso8211_formats.specs.declared.format.Format.{Format}
 use Rattle.iso8211_records.specs.declared.value.Value.{Value}
 use Rattle.iso8211_records.specs.declared.fault.FieldFault.{FieldFault}
 use Rattle.iso8211_records.specs.declared.fault.FieldFault.TheVariants.{Unspelled, NoMemory}
-use Rattle.iso8211_records.specs.Values.{◌>>=◌, Lacks, before, before_all, value_at, values_at, groups_at}
+use Rattle.iso8211_formats.specs.Reading.{◌>>=◌}
+use Rattle.iso8211_records.specs.Values.{Lacks, before, before_all, value_at, values_at, groups_at}
 use Rattle.iso8211_records.proofs.Options.{bind_some}
 use Rattle.iso8211_records.proofs.FieldLaws.{values_at-sound, AreSpelled-shorter, groups_at-nil}
 

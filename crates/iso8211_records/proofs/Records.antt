@@ -8,7 +8,8 @@ use Rattle.iso8211_records.specs.declared.fault.FileFault.{FileFault}
 use Rattle.iso8211_records.specs.declared.fault.FileFault.TheVariants.{Leader, NoMemory}
 use Rattle.iso8211_records.specs.Answers.{Fails}
 use Rattle.iso8211_records.specs.Frames.{is_leader}
-use Rattle.iso8211_records.specs.Reading.{◌>>=◌, or_zero, first_without, is_described, unless_undescribed, leader_at, directory_at, spans_at, ends_at, record_at, Framed, fields_of, data_record_at, data_records_at, come_to}
+use Rattle.chart_model.specs.Answers.{◌>>=◌}
+use Rattle.iso8211_records.specs.Reading.{or_zero, first_without, is_described, unless_undescribed, leader_at, directory_at, spans_at, ends_at, record_at, Framed, fields_of, data_record_at, data_records_at, come_to}
 use Rattle.iso8211_records.proofs.FrameTests.{is_leader-is}
 use Rattle.iso8211_records.proofs.Directory.{behind, join}
 use Rattle.iso8211_records.proofs.Framing.{spans_at-whole}

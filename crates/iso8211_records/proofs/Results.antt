@@ -3,7 +3,7 @@ use Rattle.std.proofs.Common.{◌≡◌, Bool, true, false, cond, Result, Ok, Er
 use Rattle.iso8211_records.specs.declared.fault.FileFault.{FileFault}
 use Rattle.iso8211_records.specs.declared.fault.FileFault.TheVariants.{Leader, Directory, Span, Terminator, Descriptor, Subfield, NoMemory}
 use Rattle.iso8211_records.specs.Answers.{Fails}
-use Rattle.iso8211_records.specs.Reading.{◌>>=◌}
+use Rattle.chart_model.specs.Answers.{◌>>=◌}
 
 -- the fault of a step is that of the steps
 pub Fails-bind : {A B : Type 0} (fault : FileFault) (r : Result A FileFault) (f : A → Result B FileFault) → Fails fault r → Fails fault (r >>= f)
@@ -28,6 +28,16 @@ Fails-err (Terminator at) r h other = h
 Fails-err (Descriptor tag) r h other = h
 Fails-err (Subfield number tag) r h other = h
 Fails-err NoMemory r h other = absurd (other refl)
+
+-- and that fault is what fails so
+pub Fails-from : {A : Type 0} (fault : FileFault) (r : Result A FileFault) → r ≡ Err fault → Fails fault r
+Fails-from (Leader at) r h = h
+Fails-from (Directory at) r h = h
+Fails-from (Span at) r h = h
+Fails-from (Terminator at) r h = h
+Fails-from (Descriptor tag) r h = h
+Fails-from (Subfield number tag) r h = h
+Fails-from NoMemory r h = tt
 
 -- the value of a step without a fault
 pub bind_ok : {A B : Type 0} (r : Result A FileFault) (f : A → Result B FileFault) (y : B) → (r >>= f) ≡ Ok y → (x : A) × (r ≡ Ok x) × (f x ≡ Ok y)

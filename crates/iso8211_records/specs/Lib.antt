@@ -1,4 +1,5 @@
 pub mod Tags
+pub mod Budget
 pub mod Spelling
 pub mod Kinds
 pub mod FileValue

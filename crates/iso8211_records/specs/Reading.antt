@@ -1,5 +1,6 @@
 -- Reading records from left to right, to the first fault.
 use Rattle.std.specs.Prelude.{ℕ, zero, suc, ◌+◌, ◌-◌, Bool, true, false, not, ◌&&◌, ◌||◌, ◌==◌, nat_lt, nat_le, List, [], ◌∷◌, length, take, drop, slice_index, Option, Some, None, is_some, Result, Ok, Err, if◌then◌else◌}
+use Rattle.chart_model.specs.Answers.{◌>>=◌, or_fault}
 use Rattle.iso8211_leader.specs.Leader.{Frame, frame_of}
 use Rattle.iso8211_leader.specs.Entry.{entry_size, entry_of, entry_text}
 use Rattle.iso8211_leader.specs.declared.entry.Entry.{Entry}
@@ -9,23 +10,13 @@ use Rattle.iso8211_records.specs.declared.record.RawField.{RawField}
 use Rattle.iso8211_records.specs.declared.value.Value.{Value}
 use Rattle.iso8211_records.specs.declared.fault.FileFault.{FileFault}
 use Rattle.iso8211_records.specs.declared.fault.FileFault.TheVariants.{Leader, Directory, Span, Terminator, Descriptor, Subfield}
-use Rattle.iso8211_records.specs.declared.terminator.TheConstants.{FIELD_TERMINATOR}
+use Rattle.chart_model.specs.Codes.{FIELD_TERMINATOR}
 use Rattle.iso8211_records.specs.Tags.{is_listed}
 use Rattle.iso8211_records.specs.Spelling.{formats_in}
 use Rattle.iso8211_records.specs.Kinds.{layout_at}
 use Rattle.iso8211_records.specs.Record.{field_end, field_bytes, describing}
 use Rattle.iso8211_records.specs.Frames.{is_leader, is_entry}
 use Rattle.iso8211_records.specs.Values.{values_of}
-
-infixl 10 ◌>>=◌
-abbrev pub ◌>>=◌ : {A B : Type 0} → Result A FileFault → (A → Result B FileFault) → Result B FileFault
-(Ok x) >>= f = f x
-(Err fault) >>= f = Err fault
-
--- a value where there is one, and else the fault
-abbrev pub or_fault : {A : Type 0} → FileFault → Option A → Result A FileFault
-or_fault fault None = Err fault
-or_fault fault (Some x) = Ok x
 
 -- the fault of a place, where there is one
 abbrev pub unless_at : (ℕ → FileFault) → Option ℕ → Result (Unit {0}) FileFault

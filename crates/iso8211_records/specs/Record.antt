@@ -8,7 +8,7 @@ use Rattle.iso8211_leader.specs.declared.entry.Entry.{Entry}
 use Rattle.iso8211_formats.specs.Layout.{Layout}
 use Rattle.iso8211_formats.specs.Grammar.{Spells}
 use Rattle.iso8211_records.specs.declared.record.RawField.{RawField}
-use Rattle.iso8211_records.specs.declared.terminator.TheConstants.{FIELD_TERMINATOR}
+use Rattle.chart_model.specs.Codes.{FIELD_TERMINATOR}
 use Rattle.iso8211_records.specs.Tags.{is_listed}
 use Rattle.iso8211_records.specs.Spelling.{formats_in, IsField}
 use Rattle.iso8211_records.specs.Kinds.{layout_at}

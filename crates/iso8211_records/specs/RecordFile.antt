@@ -3,7 +3,8 @@ use Rattle.std.specs.Prelude.{◌≡◌, ℕ, ◌-◌, List, ◌++◌, length, R
 use Rattle.iso8211_records.specs.declared.fault.FileFault.{FileFault}
 use Rattle.iso8211_records.specs.FileValue.{FileValue}
 use Rattle.iso8211_records.specs.Record.{IsDescriptiveRecord, AreDataRecords}
-use Rattle.iso8211_records.specs.Reading.{◌>>=◌, descriptive_record_at, data_records_at, come_to, or_zero}
+use Rattle.chart_model.specs.Answers.{◌>>=◌}
+use Rattle.iso8211_records.specs.Reading.{descriptive_record_at, data_records_at, come_to, or_zero}
 
 -- the bytes are a data descriptive record and then data records, and this is what they hold
 pub record IsRecordFile (tags : List (List ℕ)) (bytes : List ℕ) (file : FileValue) : Type 0 where

@@ -6,7 +6,7 @@ use Rattle.iso8211_formats.specs.declared.format.Format.{Format}
 use Rattle.iso8211_formats.specs.declared.format.Format.TheVariants.{TextOpen, Text as TextOf, Unsigned, Signed, Bits as BitsOf}
 use Rattle.iso8211_records.specs.declared.value.Value.{Value}
 use Rattle.iso8211_records.specs.declared.value.Value.TheVariants.{Number, Text, Bits}
-use Rattle.iso8211_records.specs.declared.terminator.TheConstants.{FIELD_TERMINATOR, UNIT_TERMINATOR}
+use Rattle.chart_model.specs.Codes.{FIELD_TERMINATOR, UNIT_TERMINATOR}
 
 -- the number that bytes are, the least significant first
 unfoldable pub unsigned : List ℕ → ℕ

@@ -1,18 +1,14 @@
 -- Reading the values of a field from left to right.
 use Rattle.std.specs.Prelude.{◌≡◌, ℕ, zero, suc, ◌+◌, ◌/◌, Bool, ◌&&◌, ◌||◌, ◌==◌, nat_lt, nat_le, List, [], ◌∷◌, ◌++◌, length, take, drop, slice_index, position, Option, Some, None, if◌then◌else◌, pos, Result, Ok, Err}
+use Rattle.iso8211_formats.specs.Reading.{◌>>=◌}
 use Rattle.iso8211_formats.specs.declared.format.Format.{Format}
 use Rattle.iso8211_formats.specs.declared.format.Format.TheVariants.{TextOpen, Text as TextOf, Unsigned, Signed, Bits as BitsOf}
 use Rattle.iso8211_records.specs.declared.value.Value.{Value}
 use Rattle.iso8211_records.specs.declared.value.Value.TheVariants.{Number, Text, Bits}
 use Rattle.iso8211_records.specs.declared.fault.FieldFault.{FieldFault}
 use Rattle.iso8211_records.specs.declared.fault.FieldFault.TheVariants.{Unspelled, NoMemory}
-use Rattle.iso8211_records.specs.declared.terminator.TheConstants.{FIELD_TERMINATOR, UNIT_TERMINATOR}
+use Rattle.chart_model.specs.Codes.{FIELD_TERMINATOR, UNIT_TERMINATOR}
 use Rattle.iso8211_records.specs.Spelling.{unsigned, signed, FieldFormats}
-
-infixl 10 ◌>>=◌
-abbrev pub ◌>>=◌ : {A B : Type 0} → Option A → (A → Option B) → Option B
-None >>= f = None
-(Some x) >>= f = f x
 
 -- A reader of a field failed so: there is nothing to be read, unless memory ran out.
 abbrev pub Lacks : {Y : Type 0} → FieldFault → Option Y → Type 0

@@ -11,6 +11,7 @@ ghost use Rattle.iso8211_records.specs.Record.{IsInside, field_bytes};
 ghost use Rattle.iso8211_records.specs.Values.{Finds};
 ghost use Rattle.iso8211_records.specs.Reading.{data_record_at, fields_of, field_by, values_by, first_without, is_described, unless_undescribed};
 
+use crate::budget::Budget;
 use crate::descriptors::DescriptorMap;
 use crate::fault::{FieldFault, FileFault};
 use crate::frame::{field_in, is_in_list, read_frame};
@@ -31,6 +32,7 @@ pub(crate) fn read_data_record(
     number: usize,
     tags: &[[u8; 4]],
     descriptors: &DescriptorMap,
+    budget: &mut Budget,
 ) -> Result<(RawRecord, usize), FileFault>
     requires { at ≤ 2 ^ 63 }
     ensures read { Gives result (data_record_at tags.now descriptors.now number at bytes.now) }
@@ -39,6 +41,7 @@ pub(crate) fn read_data_record(
 {
     let (leader, entries) = read_frame(alloc, bytes, at, tags, false)?;
     check_described(tags, descriptors, entries.as_slice())?;
+    budget.take_fields(tags, entries.as_slice())?;
     let fields = read_fields(
         alloc,
         bytes,

@@ -8,12 +8,13 @@ ghost use Rattle.iso8211_records.specs.Answers.{Gives, GivesBy};
 ghost use Rattle.iso8211_records.specs.Tags.{is_listed};
 ghost use Rattle.iso8211_records.specs.Kinds.{layout_at};
 ghost use Rattle.iso8211_records.specs.Record.{IsInside, describing};
-ghost use Rattle.iso8211_records.specs.Reading.{descriptors_in, descriptive_record_at, or_fault};
+ghost use Rattle.chart_model.specs.Answers.{or_fault};
+ghost use Rattle.iso8211_records.specs.Reading.{descriptors_in, descriptive_record_at};
 
 use crate::descriptors::DescriptorMap;
 use crate::fault::FileFault;
 use crate::frame::{field_in, is_in_list, read_frame};
-use iso8211_formats::{Descriptor, DescriptorFault, read_descriptor};
+use iso8211_formats::{Descriptor, read_descriptor};
 use iso8211_leader::{Entry, Leader};
 use std::alloc::Global;
 
@@ -51,7 +52,7 @@ fn read_descriptors(
             continue;
         }
         let field = field_in(bytes, leader, entry);
-        let descriptor = describe(alloc, field, entry.tag)?;
+        let descriptor = describe(field, entry.tag)?;
         descriptors.push(entry.tag, descriptor)?;
     }
     Ok(descriptors)
@@ -65,12 +66,11 @@ fn is_new(tags: &[[u8; 4]], descriptors: &DescriptorMap, tag: &[u8; 4]) -> bool
 }
 
 /// The descriptor that a field with this tag spells.
-fn describe(alloc: Global, field: &[u8], tag: [u8; 4]) -> Result<Descriptor, FileFault>
-    ensures { Gives result (or_fault (FileFault.Descriptor tag) (descriptor_of field.now)) }
+fn describe(field: &[u8], tag: [u8; 4]) -> Result<Descriptor, FileFault>
+    ensures { result ≡ or_fault (FileFault.Descriptor tag) (descriptor_of field.now) }
 {
-    match read_descriptor(alloc, field) {
+    match read_descriptor(field) {
         Ok(descriptor) => Ok(descriptor),
-        Err(DescriptorFault::Bad) => Err(FileFault::Descriptor(tag)),
-        Err(DescriptorFault::NoMemory) => Err(FileFault::NoMemory),
+        Err(_) => Err(FileFault::Descriptor(tag)),
     }
 }

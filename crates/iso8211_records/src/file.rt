@@ -8,6 +8,7 @@ ghost use Rattle.iso8211_records.specs.Reading.{data_records_at, come_to};
 ghost use Rattle.iso8211_records.specs.RecordFile.{IsRecordFile, record_file_of, data_records_in};
 ghost use Rattle.iso8211_records.specs.Fault.{HasFault};
 
+use crate::budget::Budget;
 use crate::data::read_data_record;
 use crate::descriptive::read_descriptive_record;
 use crate::descriptors::DescriptorMap;
@@ -24,7 +25,8 @@ use std::sync::ledger::Ledger;
 ///
 /// # Errors
 ///
-/// The first fault by record, and in a record in the order of `FileFault`; `NoMemory`.
+/// The first fault by record, and in a record in the order of `FileFault`; `NoMemory`, also where fields
+/// overlap and have in all more bytes than the file and than 8,388,608.
 pub fn read_file<C: Ledger>(
     alloc: Global,
     bytes: &[u8],
@@ -63,7 +65,8 @@ fn read_all<C: Ledger>(
 {
     let (descriptors, rest) = read_descriptive_record(alloc, bytes, tags)?;
     let at = bytes.len() - rest.len();
-    let records = read_data_records(alloc, rest, at, tags, &descriptors, steps)?;
+    let mut budget = Budget::of_file(bytes.len());
+    let records = read_data_records(alloc, rest, at, tags, &descriptors, &mut budget, steps)?;
     Ok(RecordFile {
         descriptors,
         records,
@@ -78,6 +81,7 @@ fn read_data_records<C: Ledger>(
     at: usize,
     tags: &[[u8; 4]],
     descriptors: &DescriptorMap,
+    budget: &mut Budget,
     steps: &mut Steps<C>,
 ) -> Result<RawList, FileFault>
     requires { at + length bytes.now ≤ 2 ^ 63 }
@@ -91,7 +95,15 @@ fn read_data_records<C: Ledger>(
     while !rest.is_empty() {
         steps.tick();
         let number = records.as_slice().len() + 1;
-        let (record, length) = read_data_record(alloc, rest, place, number, tags, descriptors)?;
+        let (record, length) = read_data_record(
+            alloc,
+            rest,
+            place,
+            number,
+            tags,
+            descriptors,
+            budget,
+        )?;
         records.push(record)?;
         place += length;
         rest = rest.split_at(length).1;

@@ -11,7 +11,7 @@ ghost use Rattle.iso8211_records.specs.Record.{IsInside, field_bytes};
 ghost use Rattle.iso8211_records.specs.Reading.{record_at, directory_at, spans_at, ends_at, is_inside, is_ended, has_closing, has_end};
 
 use crate::fault::FileFault;
-use crate::terminator::FIELD_TERMINATOR;
+use chart_model::codes::FIELD_TERMINATOR;
 use iso8211_leader::{Entry, Leader, read_entry, read_leader};
 use std::alloc::Global;
 

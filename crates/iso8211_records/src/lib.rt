@@ -3,6 +3,7 @@
 //! A file is a data descriptive record, which says how fields are spelled, and then data records.
 #![tactic(auto)]
 
+mod budget;
 mod data;
 mod descriptive;
 mod descriptors;
@@ -11,7 +12,6 @@ mod file;
 mod frame;
 mod laws;
 mod record;
-mod terminator;
 mod value;
 mod values;
 
@@ -22,6 +22,8 @@ pub use laws::{faults_each, never_both, one_fault, one_reading, reads_each};
 pub use record::{RawField, RawList, RawRecord, RecordFile};
 pub use value::{Value, ValueList};
 
+#[cfg(test)]
+mod overlaps;
 #[cfg(test)]
 mod small;
 #[cfg(test)]

@@ -7,7 +7,11 @@ use std::alloc::{AllocError, Global};
 use std::test::Fail;
 
 /// Puts the last digits of a number behind the bytes, at most nine.
-fn push_number(out: &mut Vec<u8>, number: usize, width: usize) -> Result<(), AllocError> {
+pub(crate) fn push_number(
+    out: &mut Vec<u8>,
+    number: usize,
+    width: usize,
+) -> Result<(), AllocError> {
     let mut digits = [b'0'; 9];
     let mut rest = number;
     for digit in digits.iter_mut().rev() {
@@ -55,7 +59,7 @@ fn push_record(
 }
 
 /// A file of a data descriptive record and of data records whose entries have numbers of these widths.
-fn file_of(
+pub(crate) fn file_of(
     alloc: Global,
     widths: (usize, usize),
     first: &[Field],
@@ -86,9 +90,9 @@ type One = (&'static [u8], &'static [u8], Wanted);
 /// TEST and MORE is to give.
 type Small = (&'static [Field<'static>], &'static [Field<'static>], Wanted);
 
-const TEST: [u8; 4] = *b"TEST";
+pub(crate) const TEST: [u8; 4] = *b"TEST";
 
-const MORE: [u8; 4] = *b"MORE";
+pub(crate) const MORE: [u8; 4] = *b"MORE";
 
 const NATF: [u8; 4] = *b"NATF";
 
@@ -384,6 +388,25 @@ fn reads_entries_of_every_width(rt: HostRuntime) -> Result<(), Fail> {
             reads_widths(rt.alloc(), (10 - width, width))?,
             "and {width}"
         );
+    }
+    Ok(())
+}
+
+/// Reading takes nothing from what was read before: a second reading gives all the records again.
+#[test]
+fn reads_all_records_again(rt: HostRuntime) -> Result<(), Fail> {
+    let first: &[Field] = &[(TEST, ONE), (MORE, TWO)];
+    let records: [&[Field]; 3] = [
+        &[(TEST, b"\x01\x1e")],
+        &[(MORE, b"\x02\x00\x1e"), (TEST, b"\x03\x1e")],
+        &[(NATF, b"?"), (MORE, b"\x04\x00\x1e")],
+    ];
+    let bytes = file_of(rt.alloc(), (2, 2), first, &records)?;
+    let wanted = [Number(1), Number(2), Number(3), Number(4)];
+    for _ in 0..2 {
+        let file = read(rt.alloc(), bytes.as_slice(), &[TEST, MORE])?;
+        assert_eq!(rt; file.records.as_slice().len(), 3);
+        assert!(rt; has_values(&file, &wanted));
     }
     Ok(())
 }

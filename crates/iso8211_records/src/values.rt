@@ -6,9 +6,9 @@ ghost use Rattle.iso8211_records.specs.Spelling.{unsigned, signed, IsNumberSize,
 ghost use Rattle.iso8211_records.specs.Values.{Finds, front_at, open_text_at, value_at, values_at, groups_at, values_of, number_size, is_terminator, before, before_all};
 
 use crate::fault::FieldFault;
-use crate::terminator::{FIELD_TERMINATOR, UNIT_TERMINATOR};
 use crate::value::{Value, ValueList};
 use chart_model::Octets;
+use chart_model::codes::{FIELD_TERMINATOR, UNIT_TERMINATOR};
 use iso8211_formats::Format;
 use std::alloc::{AllocError, Global};
 

@@ -1,0 +1,80 @@
+//! How many bytes of fields are read of a file.
+//!
+//! Fields may overlap, so that a small file can name more bytes than there is memory for. The fields of
+//! a file without overlaps are never over the budget: in all they are shorter than the file.
+
+ghost use Rattle.std.specs.Prelude.{◌≡◌, ◌+◌, ◌<◌, ◌≤◌, OnOk, OnErr};
+ghost use Rattle.iso8211_records.specs.Budget.{listed_bytes};
+
+use crate::frame::is_in_list;
+use iso8211_leader::Entry;
+use std::alloc::AllocError;
+use std::marker::Model;
+
+/// The bytes that are read of any file.
+const LEAST: usize = 8_388_608;
+
+/// How many more bytes of fields are read of a file. Contracts see the number.
+#[derive(Debug, Drop)]
+pub(crate) struct Budget {
+    left: usize,
+}
+
+impl Model for Budget {
+    ghost use Rattle.std.specs.Prelude.{ℕ};
+
+    ghost Value = { ℕ };
+
+    ghost view = { λ budget. budget.left };
+}
+
+impl Budget {
+    /// The budget of a file of so many bytes.
+    pub(crate) fn of_file(length: usize) -> Budget
+        ensures whole { length ≤ result }
+        ensures least { 8388608 ≤ result }
+    {
+        Budget {
+            left: length.max(LEAST),
+        }
+    }
+
+    /// Takes so many bytes.
+    ///
+    /// # Errors
+    ///
+    /// `AllocError` exactly where fewer are left.
+    fn take(&mut self, count: usize) -> Result<(), AllocError>
+        ensures ok { OnOk result (self.new + count ≡ self.old) }
+        ensures err { OnErr result (self.old < count) }
+    {
+        match self.left.checked_sub(count) {
+            Some(left) => {
+                self.left = left;
+                Ok(())
+            }
+            None => Err(AllocError),
+        }
+    }
+
+    /// Takes the bytes of the fields with a tag of the list.
+    ///
+    /// # Errors
+    ///
+    /// `AllocError` exactly where fewer are left.
+    pub(crate) fn take_fields(
+        &mut self,
+        tags: &[[u8; 4]],
+        entries: &[Entry],
+    ) -> Result<(), AllocError>
+        ensures ok { OnOk result (self.new + listed_bytes tags.now entries.now ≡ self.old) }
+        ensures err { OnErr result (self.old < listed_bytes tags.now entries.now) }
+    {
+        for entry in entries {
+            if is_in_list(tags, &entry.tag) {
+                self.take(entry.length as usize)?;
+            }
+        }
+        Ok(())
+    }
+}
