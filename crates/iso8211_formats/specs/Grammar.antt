@@ -59,7 +59,8 @@ pub record Item : Type 0 where
 
 -- no count, which counts once, or a decimal number of at least 1, which may have leading zeros
 abbrev pub SpellsCount : ℕ → List ℕ → Type 0
-SpellsCount count text = ((text ≡ []) × (count ≡ 1)) ⊎ (IsNumeral 10 text × (digits_value 10 text ≡ count) × (1 ≤ count))
+SpellsCount count text =
+    ((text ≡ []) × (count ≡ 1)) ⊎ (IsNumeral 10 text × (digits_value 10 text ≡ count) × (1 ≤ count))
 
 pub record IsItem (item : Item) : Type 0 where
   pub counted : SpellsCount item.count item.count_text

@@ -27,18 +27,22 @@ guarded test x = if test then Some x else None
 -- what stands before the first such byte, and what stands after it
 unfoldable pub cut_at : ℕ → List ℕ → Option (List ℕ × List ℕ)
 cut_at byte [] = None
-cut_at byte (x ∷ xs) = if x == byte then Some ([], xs) else option_map (λ parts. (x ∷ parts.0, parts.1)) (cut_at byte xs)
+cut_at byte (x ∷ xs) =
+    if x == byte then Some ([], xs) else option_map (λ parts. (x ∷ parts.0, parts.1)) (cut_at byte xs)
 
 -- ---- numbers
 
 -- the number from 1 to 99,999 that the digits write
 unfoldable pub number_of : List ℕ → Option ℕ
-number_of digits = guarded (all_ascii_digits digits && (nat_lt 0 (digits_value 10 digits) && nat_lt (digits_value 10 digits) 100000)) (digits_value 10 digits)
+number_of digits =
+    guarded (all_ascii_digits digits && (nat_lt 0 (digits_value 10 digits) && nat_lt (digits_value 10 digits) 100000))
+    (digits_value 10 digits)
 
 -- the digits at the front, and what follows them
 unfoldable pub digits_and_rest : List ℕ → List ℕ × List ℕ
 digits_and_rest [] = ([], [])
-digits_and_rest (x ∷ xs) = if is_ascii_digit x then (x ∷ (digits_and_rest xs).0, (digits_and_rest xs).1) else ([], x ∷ xs)
+digits_and_rest (x ∷ xs) =
+    if is_ascii_digit x then (x ∷ (digits_and_rest xs).0, (digits_and_rest xs).1) else ([], x ∷ xs)
 
 -- how often an item counts: once where there are no digits
 unfoldable pub count_of : List ℕ → Option ℕ
@@ -133,7 +137,8 @@ grouped_labels place (a ∷ b ∷ c ∷ []) = None
 grouped_labels place (a ∷ b ∷ c ∷ d ∷ []) = None
 grouped_labels place (a ∷ b ∷ c ∷ d ∷ e ∷ rest) =
     option_or (if a == 42 then option_map (λ labels. (labels, place)) (plain_labels (b ∷ c ∷ d ∷ e ∷ rest)) else None)
-    (if e == 33 then option_map (λ found. ((a ∷ b ∷ c ∷ d ∷ []) ∷ found.0, found.1)) (grouped_labels (suc place) rest) else None)
+    (if e == 33 then option_map (λ found. ((a ∷ b ∷ c ∷ d ∷ []) ∷ found.0, found.1)) (grouped_labels (suc place) rest)
+    else None)
 
 -- the labels of an array descriptor, and the place where the group begins
 unfoldable pub labels_of : List ℕ → Option (List (List ℕ) × Option ℕ)

@@ -33,10 +33,18 @@ impl Model for Descriptor {
     ghost Value = { Layout };
 
     ghost view = { λ descriptor.
-        record { labels = descriptor.labels.items; formats = descriptor.formats.items; repeats_from = descriptor.repeats_from } };
+        record {
+          labels = descriptor.labels.items;
+          formats = descriptor.formats.items;
+          repeats_from = descriptor.repeats_from;
+        } };
 
     ghost invariant = { λ descriptor. IsLayout
-        (record { labels = descriptor.labels.items; formats = descriptor.formats.items; repeats_from = descriptor.repeats_from }) };
+        (record {
+          labels = descriptor.labels.items;
+          formats = descriptor.formats.items;
+          repeats_from = descriptor.repeats_from;
+        }) };
 }
 
 impl Descriptor {

@@ -135,7 +135,8 @@ fn push_repeated(formats: &mut FormatList, format: Format, count: u32)
 
 /// Adds the formats of an item, and says whether it is one and there was room for them.
 fn push_item(formats: &mut FormatList, text: &[u8]) -> bool
-    ensures { (if result then Some formats.new.items else None) ≡ at_most 64 (behind formats.old.items (item_of text.now)) }
+    ensures { (if result then Some formats.new.items else None)
+        ≡ at_most 64 (behind formats.old.items (item_of text.now)) }
 {
     let Some((count, format)) = read_item(text) else {
         return false;
@@ -149,7 +150,8 @@ fn push_item(formats: &mut FormatList, text: &[u8]) -> bool
 
 /// The formats of items with commas between them, at most 64.
 fn read_items(text: &[u8]) -> Option<FormatList>
-    ensures { option_map (λ formats. formats.items) result ≡ at_most 64 (items_of (slice_split (λ byte. byte == 44) text.now)) }
+    ensures { option_map (λ formats. formats.items) result
+        ≡ at_most 64 (items_of (slice_split (λ byte. byte == 44) text.now)) }
 {
     let mut formats = FormatList::new();
     let mut rest = text;

@@ -59,7 +59,8 @@ fn text_at(bytes: &[u8], at: usize, size: usize) -> Option<&[u8]>
 /// The leader that 24 bytes are.
 fn leader_in(text: &[u8], first: bool) -> Option<Leader>
     requires { length text.now ≡ 24 }
-    ensures { MatchOption result (¬ HasLeader first text.now) (λ leader. HasLeader first text.now × (frame leader ≡ frame_of text.now)) }
+    ensures { MatchOption result (¬ HasLeader first text.now)
+        (λ leader. HasLeader first text.now × (frame leader ≡ frame_of text.now)) }
 {
     if !is_kind(text, first) {
         return None;
@@ -82,7 +83,8 @@ fn leader_in(text: &[u8], first: bool) -> Option<Leader>
 /// Whether the bytes that are the same in each leader of the kind are these.
 fn is_kind(text: &[u8], first: bool) -> bool
     requires { length text.now ≡ 24 }
-    ensures { IsTrue result ↔ ((slice_index text.now 6 ≡ identifier first) × (first ≡ true → slice_range text.now 10 12 ≡ codes "09") × (slice_index text.now 23 ≡ 52)) }
+    ensures { IsTrue result ↔ ((slice_index text.now 6 ≡ identifier first)
+        × (first ≡ true → slice_range text.now 10 12 ≡ codes "09") × (slice_index text.now 23 ≡ 52)) }
 {
     if text[23] != b'4' {
         return false;
@@ -108,7 +110,8 @@ pub fn read_entry(
     place: usize,
 ) -> Result<Entry, FrameFault>
     ensures entry { IfOk result (λ entry. HasEntry (frame leader.now) bytes.now at place) }
-    ensures numbers { IfOk result (λ entry. entry ≡ entry_of (frame leader.now) (entry_text (frame leader.now) bytes.now place)) }
+    ensures numbers { IfOk result (λ entry.
+        entry ≡ entry_of (frame leader.now) (entry_text (frame leader.now) bytes.now place)) }
     ensures refused { IfErr result (λ fault. ¬ HasEntry (frame leader.now) bytes.now at place) }
     ensures fault { IfErr result (λ fault. fault ≡ FrameFault.Directory place) }
 {

@@ -44,7 +44,8 @@ pub record BreaksDirectory (first : Bool) (bytes : List ℕ) (place : ℕ) : Typ
   pub says : frame ≡ frame_of (take 24 bytes)
   pub directory : IsDirectory frame entries (slice_range bytes 24 place)
   pub place_is : place ≡ entry_place frame (length entries)
-  pub breaks : ((place < frame.base - 1) × ¬ HasEntry frame bytes 0 place) ⊎ ((place ≡ frame.base - 1) × (slice_get bytes place ≢ Some FIELD_TERMINATOR))
+  pub breaks : ((place < frame.base - 1) × ¬ HasEntry frame bytes 0 place)
+      ⊎ ((place ≡ frame.base - 1) × (slice_get bytes place ≢ Some FIELD_TERMINATOR))
 
 -- the record passes the end of the bytes, which gives its own place, or else a field the end of the record
 pub record BreaksSpan (first : Bool) (bytes : List ℕ) (place : ℕ) : Type 0 where
@@ -52,7 +53,8 @@ pub record BreaksSpan (first : Bool) (bytes : List ℕ) (place : ℕ) : Type 0 w
   pub entries : List Entry
   pub has_directory : HasDirectory first bytes frame entries
   pub breaks : ((length bytes < frame.length) × (place ≡ 0))
-      ⊎ ((frame.length ≤ length bytes) × (count : ℕ) × (entry : Entry) × IsFirstWithout (IsInside frame) entries count entry × (place ≡ entry_place frame count))
+      ⊎ ((frame.length ≤ length bytes) × (count : ℕ) × (entry : Entry)
+      × IsFirstWithout (IsInside frame) entries count entry × (place ≡ entry_place frame count))
 
 -- a field with a listed tag isn't ended
 pub record BreaksEnd (tags : List (List ℕ)) (first : Bool) (bytes : List ℕ) (place : ℕ) : Type 0 where
@@ -69,13 +71,16 @@ pub record BreaksEnd (tags : List (List ℕ)) (first : Bool) (bytes : List ℕ) 
 -- the first fault of a record's frame, where the bytes stand at this place of the file
 abbrev pub HasFrameFault : List (List ℕ) → Bool → ℕ → List ℕ → FileFault → Type 0
 HasFrameFault tags first at bytes (Leader offset) = (offset ≡ at) × ¬ HasLeader first (take 24 bytes)
-HasFrameFault tags first at bytes (Directory offset) = (place : ℕ) × (offset ≡ at + place) × BreaksDirectory first bytes place
+HasFrameFault tags first at bytes (Directory offset) =
+    (place : ℕ) × (offset ≡ at + place) × BreaksDirectory first bytes place
 HasFrameFault tags first at bytes (Span offset) = (place : ℕ) × (offset ≡ at + place) × BreaksSpan first bytes place
-HasFrameFault tags first at bytes (Terminator offset) = (place : ℕ) × (offset ≡ at + place) × BreaksEnd tags first bytes place
+HasFrameFault tags first at bytes (Terminator offset) =
+    (place : ℕ) × (offset ≡ at + place) × BreaksEnd tags first bytes place
 HasFrameFault tags first at bytes fault = ⊥
 
 -- a sound frame begins the bytes
-pub record BeginsRecord (tags : List (List ℕ)) (first : Bool) (bytes piece : List ℕ) (frame : Frame) (entries : List Entry) : Type 0 where
+pub record BeginsRecord (tags : List (List ℕ)) (first : Bool) (bytes piece : List ℕ) (frame : Frame)
+    (entries : List Entry) : Type 0 where
   pub rest : List ℕ
   pub parts : bytes ≡ piece ++ rest
   pub is_record : IsRecord tags first piece frame entries
@@ -88,7 +93,8 @@ Describes frame bytes entry = (layout : Layout) × Spells layout (field_bytes fr
 abbrev pub HasDescriptiveFault : List (List ℕ) → List ℕ → FileFault → Type 0
 HasDescriptiveFault tags bytes (Descriptor tag) =
     (piece : List ℕ) × (frame : Frame) × (entries : List Entry) × (count : ℕ) × (entry : Entry)
-    × BeginsRecord tags true bytes piece frame entries × IsFirstWithout (Describes frame piece) (describing tags [] entries) count entry × (tag ≡ entry.tag)
+    × BeginsRecord tags true bytes piece frame entries
+    × IsFirstWithout (Describes frame piece) (describing tags [] entries) count entry × (tag ≡ entry.tag)
 HasDescriptiveFault tags bytes fault = HasFrameFault tags true 0 bytes fault
 
 -- the field has a descriptor, where its tag is listed
@@ -98,20 +104,24 @@ IsDescribed tags descriptors entry = IsTrue (is_listed tags entry.tag) → IsSom
 -- the field has a reading by its descriptor, where its tag is listed
 abbrev pub IsReadable : List (List ℕ) → List (List ℕ × Layout) → Frame → List ℕ → Entry → Type 0
 IsReadable tags descriptors frame bytes entry =
-    IsTrue (is_listed tags entry.tag) → (layout : Layout) × (layout_at descriptors entry.tag ≡ Some layout) × (values : List Value) × IsField (formats_in layout) values (field_bytes frame bytes entry)
+    IsTrue (is_listed tags entry.tag) → (layout : Layout) × (layout_at descriptors entry.tag ≡ Some layout)
+    × (values : List Value) × IsField (formats_in layout) values (field_bytes frame bytes entry)
 
 -- the fault of the data record of this number, where the bytes stand at this place of the file
 abbrev pub HasDataFault : List (List ℕ) → List (List ℕ × Layout) → ℕ → ℕ → List ℕ → FileFault → Type 0
 HasDataFault tags descriptors number at bytes (Descriptor tag) =
     (piece : List ℕ) × (frame : Frame) × (entries : List Entry) × (count : ℕ) × (entry : Entry)
-    × BeginsRecord tags false bytes piece frame entries × IsFirstWithout (IsDescribed tags descriptors) entries count entry × (tag ≡ entry.tag)
+    × BeginsRecord tags false bytes piece frame entries
+    × IsFirstWithout (IsDescribed tags descriptors) entries count entry × (tag ≡ entry.tag)
 HasDataFault tags descriptors number at bytes (Subfield record_number tag) =
     (piece : List ℕ) × (frame : Frame) × (entries : List Entry) × (count : ℕ) × (entry : Entry)
     × BeginsRecord tags false bytes piece frame entries × AllByRecursion (IsDescribed tags descriptors) entries
-    × IsFirstWithout (IsReadable tags descriptors frame piece) entries count entry × (record_number ≡ number) × (tag ≡ entry.tag)
+    × IsFirstWithout (IsReadable tags descriptors frame piece) entries count entry × (record_number ≡ number)
+    × (tag ≡ entry.tag)
 HasDataFault tags descriptors number at bytes fault = HasFrameFault tags false at bytes fault
 
--- a sound data descriptive record and sound data records stand before the first fault, which is that of the data record of this number
+-- a sound data descriptive record and sound data records stand before the first fault, which is that of the data
+-- record of this number
 pub record HasLaterFault (tags : List (List ℕ)) (bytes : List ℕ) (number : ℕ) (fault : FileFault) : Type 0 where
   pub first : List ℕ
   pub sound : List ℕ
@@ -127,4 +137,5 @@ pub record HasLaterFault (tags : List (List ℕ)) (bytes : List ℕ) (number : �
 
 -- this is the first fault, and so many data records were come to, the faulty one among them
 abbrev pub HasFault : List (List ℕ) → List ℕ → ℕ → FileFault → Type 0
-HasFault tags bytes number fault = ((number ≡ 0) × HasDescriptiveFault tags bytes fault) ⊎ HasLaterFault tags bytes number fault
+HasFault tags bytes number fault =
+    ((number ≡ 0) × HasDescriptiveFault tags bytes fault) ⊎ HasLaterFault tags bytes number fault

@@ -35,4 +35,5 @@ FitsLayout layout values = (count : ℕ) × AreKinds (with_groups count (formats
 
 -- the field's values fit the layout under its tag, and there are none where there is no such layout
 abbrev pub FitsTag : List (List ℕ × Layout) → RawField → Type 0
-FitsTag descriptors field = MatchOption (layout_at descriptors field.tag) (field.values ≡ []) (λ layout. FitsLayout layout field.values)
+FitsTag descriptors field =
+    MatchOption (layout_at descriptors field.tag) (field.values ≡ []) (λ layout. FitsLayout layout field.values)

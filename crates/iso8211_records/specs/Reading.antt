@@ -31,7 +31,8 @@ first_without passes (x ∷ xs) = if passes x then first_without passes xs else 
 -- the place of the first entry that fails the test, where each has so many bytes and the first stands at this place
 abbrev pub place_without : (Entry → Bool) → ℕ → ℕ → List Entry → Option ℕ
 place_without passes size place [] = None
-place_without passes size place (entry ∷ entries) = if passes entry then place_without passes size (place + size) entries else Some place
+place_without passes size place (entry ∷ entries) =
+    if passes entry then place_without passes size (place + size) entries else Some place
 
 -- ---- the frame of a record
 
@@ -65,7 +66,9 @@ is_inside frame entry = nat_le (field_end frame entry) frame.length
 -- the record and its fields end inside the file and the record
 unfoldable pub spans_at : ℕ → Frame → List ℕ → List Entry → Result (Unit {0}) FileFault
 spans_at at frame bytes entries =
-    if nat_le frame.length (length bytes) then unless_at (λ place. Span (at + place)) (place_without (is_inside frame) (entry_size frame) 24 entries) else Err (Span at)
+    if nat_le frame.length (length bytes)
+    then unless_at (λ place. Span (at + place)) (place_without (is_inside frame) (entry_size frame) 24 entries)
+    else Err (Span at)
 
 -- whether the bytes end with a field terminator
 abbrev pub has_end : List ℕ → Bool
@@ -77,7 +80,9 @@ is_ended tags frame bytes entry = not (is_listed tags entry.tag) || has_end (fie
 
 -- the fields with listed tags are ended
 unfoldable pub ends_at : List (List ℕ) → ℕ → Frame → List ℕ → List Entry → Result (Unit {0}) FileFault
-ends_at tags at frame bytes entries = unless_at (λ place. Terminator (at + place)) (place_without (is_ended tags frame bytes) (entry_size frame) 24 entries)
+ends_at tags at frame bytes entries =
+    unless_at (λ place. Terminator (at + place))
+    (place_without (is_ended tags frame bytes) (entry_size frame) 24 entries)
 
 -- a record that is read: its frame and its directory
 pub record Framed : Type 0 where
@@ -132,7 +137,8 @@ field_by tags descriptors number tag bytes =
     else Ok (record { tag = tag; values = [] })
 
 -- the fields that entries name
-unfoldable pub fields_of : List (List ℕ) → List (List ℕ × Layout) → ℕ → Frame → List ℕ → List Entry → Result (List RawField) FileFault
+unfoldable pub fields_of : List (List ℕ) → List (List ℕ × Layout) → ℕ → Frame → List ℕ → List Entry
+    → Result (List RawField) FileFault
 fields_of tags descriptors number frame bytes [] = Ok []
 fields_of tags descriptors number frame bytes (entry ∷ entries) = do
   field ← field_by tags descriptors number entry.tag (field_bytes frame bytes entry)
@@ -140,7 +146,8 @@ fields_of tags descriptors number frame bytes (entry ∷ entries) = do
   Ok (field ∷ fields)
 
 -- the data record of this number at this place of the file: its fields, and how many bytes it has
-unfoldable pub data_record_at : List (List ℕ) → List (List ℕ × Layout) → ℕ → ℕ → List ℕ → Result (List RawField × ℕ) FileFault
+unfoldable pub data_record_at : List (List ℕ) → List (List ℕ × Layout) → ℕ → ℕ → List ℕ
+    → Result (List RawField × ℕ) FileFault
 data_record_at tags descriptors number at bytes = do
   framed ← record_at tags false at bytes
   _ ← unless_undescribed (first_without (is_described tags descriptors) framed.entries)
@@ -148,7 +155,8 @@ data_record_at tags descriptors number at bytes = do
   Ok (fields, framed.frame.length)
 
 -- data records up to the end of the bytes, at most so many, from this number and place on
-unfoldable pub data_records_at : ℕ → List (List ℕ) → List (List ℕ × Layout) → ℕ → ℕ → List ℕ → Result (List (List RawField)) FileFault
+unfoldable pub data_records_at : ℕ → List (List ℕ) → List (List ℕ × Layout) → ℕ → ℕ → List ℕ
+    → Result (List (List RawField)) FileFault
 data_records_at bound tags descriptors number at [] = Ok []
 data_records_at zero tags descriptors number at (byte ∷ bytes) = Err (Leader at)
 data_records_at (suc bound) tags descriptors number at (byte ∷ bytes) = do
@@ -165,4 +173,5 @@ unfoldable pub come_to : ℕ → List (List ℕ) → List (List ℕ × Layout) �
 come_to bound tags descriptors number at [] = 0
 come_to zero tags descriptors number at (byte ∷ bytes) = 0
 come_to (suc bound) tags descriptors number at (byte ∷ bytes) =
-    1 + or_zero (λ first. come_to bound tags descriptors (number + 1) (at + first.1) (drop first.1 (byte ∷ bytes))) (data_record_at tags descriptors number at (byte ∷ bytes))
+    1 + or_zero (λ first. come_to bound tags descriptors (number + 1) (at + first.1) (drop first.1 (byte ∷ bytes)))
+    (data_record_at tags descriptors number at (byte ∷ bytes))

@@ -17,7 +17,8 @@ use Rattle.iso8211_records.specs.Kinds.{layout_at}
 abbrev pub IsDirectory : Frame → List Entry → List ℕ → Type 0
 IsDirectory frame [] text = text ≡ []
 IsDirectory frame (entry ∷ entries) text =
-    (front rest : List ℕ) × (text ≡ front ++ rest) × IsEntry frame front × (entry ≡ entry_of frame front) × IsDirectory frame entries rest
+    (front rest : List ℕ) × (text ≡ front ++ rest) × IsEntry frame front × (entry ≡ entry_of frame front)
+    × IsDirectory frame entries rest
 
 -- a field's place in the record, after its last byte
 abbrev pub field_end : Frame → Entry → ℕ
@@ -34,10 +35,12 @@ IsInside frame entry = field_end frame entry ≤ frame.length
 -- a field with a listed tag isn't empty and ends with a field terminator
 abbrev pub IsEnded : List (List ℕ) → Frame → List ℕ → Entry → Type 0
 IsEnded tags frame bytes entry =
-    IsTrue (is_listed tags entry.tag) → (text : List ℕ) × (field_bytes frame bytes entry ≡ text ++ FIELD_TERMINATOR ∷ [])
+    IsTrue (is_listed tags entry.tag) → (text : List ℕ)
+    × (field_bytes frame bytes entry ≡ text ++ FIELD_TERMINATOR ∷ [])
 
 -- the bytes are a whole record, a data descriptive one or else a data record, with this directory
-pub record IsRecord (tags : List (List ℕ)) (first : Bool) (bytes : List ℕ) (frame : Frame) (entries : List Entry) : Type 0 where
+pub record IsRecord (tags : List (List ℕ)) (first : Bool) (bytes : List ℕ) (frame : Frame)
+    (entries : List Entry) : Type 0 where
   pub leader : HasLeader first (take 24 bytes)
   pub says : frame ≡ frame_of (take 24 bytes)
   pub directory : IsDirectory frame entries (slice_range bytes 24 (frame.base - 1))
@@ -64,7 +67,8 @@ AreDescriptors frame bytes (entry ∷ entries) (pair ∷ pairs) =
 AreDescriptors frame bytes _ _ = ⊥
 
 -- the bytes are a data descriptive record with these descriptors
-pub record IsDescriptiveRecord (tags : List (List ℕ)) (bytes : List ℕ) (descriptors : List (List ℕ × Layout)) : Type 0 where
+pub record IsDescriptiveRecord (tags : List (List ℕ)) (bytes : List ℕ)
+    (descriptors : List (List ℕ × Layout)) : Type 0 where
   pub frame : Frame
   pub entries : List Entry
   pub is_record : IsRecord tags true bytes frame entries
@@ -78,7 +82,8 @@ HasValues descriptors bytes field =
     (layout : Layout) × (layout_at descriptors field.tag ≡ Some layout) × IsField (formats_in layout) field.values bytes
 
 -- the field is what the entry names; of one whose tag isn't listed the bytes aren't looked at
-pub record IsFieldOf (tags : List (List ℕ)) (descriptors : List (List ℕ × Layout)) (bytes : List ℕ) (field : RawField) (tag : List ℕ) : Type 0 where
+pub record IsFieldOf (tags : List (List ℕ)) (descriptors : List (List ℕ × Layout)) (bytes : List ℕ) (field : RawField)
+    (tag : List ℕ) : Type 0 where
   pub tag_is : field.tag ≡ tag
   pub values_are : MatchBool (is_listed tags tag) (HasValues descriptors bytes field) (field.values ≡ [])
 
@@ -86,11 +91,13 @@ pub record IsFieldOf (tags : List (List ℕ)) (descriptors : List (List ℕ × L
 abbrev pub AreFieldsOf : List (List ℕ) → List (List ℕ × Layout) → Frame → List ℕ → List Entry → List RawField → Type 0
 AreFieldsOf tags descriptors frame bytes [] [] = Unit {0}
 AreFieldsOf tags descriptors frame bytes (entry ∷ entries) (field ∷ fields) =
-    IsFieldOf tags descriptors (field_bytes frame bytes entry) field entry.tag × AreFieldsOf tags descriptors frame bytes entries fields
+    IsFieldOf tags descriptors (field_bytes frame bytes entry) field entry.tag
+    × AreFieldsOf tags descriptors frame bytes entries fields
 AreFieldsOf tags descriptors frame bytes _ _ = ⊥
 
 -- the bytes are a data record with these fields
-pub record IsDataRecord (tags : List (List ℕ)) (descriptors : List (List ℕ × Layout)) (bytes : List ℕ) (fields : List RawField) : Type 0 where
+pub record IsDataRecord (tags : List (List ℕ)) (descriptors : List (List ℕ × Layout)) (bytes : List ℕ)
+    (fields : List RawField) : Type 0 where
   pub frame : Frame
   pub entries : List Entry
   pub is_record : IsRecord tags false bytes frame entries
@@ -100,4 +107,5 @@ pub record IsDataRecord (tags : List (List ℕ)) (descriptors : List (List ℕ �
 abbrev pub AreDataRecords : List (List ℕ) → List (List ℕ × Layout) → List ℕ → List (List RawField) → Type 0
 AreDataRecords tags descriptors bytes [] = bytes ≡ []
 AreDataRecords tags descriptors bytes (fields ∷ records) =
-    (piece rest : List ℕ) × (bytes ≡ piece ++ rest) × IsDataRecord tags descriptors piece fields × AreDataRecords tags descriptors rest records
+    (piece rest : List ℕ) × (bytes ≡ piece ++ rest) × IsDataRecord tags descriptors piece fields
+    × AreDataRecords tags descriptors rest records

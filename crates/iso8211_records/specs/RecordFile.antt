@@ -24,4 +24,5 @@ record_file_of tags bytes = do
 -- how many data records are come to in reading the bytes
 unfoldable pub data_records_in : List (List ℕ) → List ℕ → ℕ
 data_records_in tags bytes =
-    or_zero (λ first. come_to (length first.1) tags first.0 1 (length bytes - length first.1) first.1) (descriptive_record_at tags bytes)
+    or_zero (λ first. come_to (length first.1) tags first.0 1 (length bytes - length first.1) first.1)
+    (descriptive_record_at tags bytes)

@@ -31,7 +31,8 @@ IsTextByte byte = (byte ≢ FIELD_TERMINATOR) × (byte ≢ UNIT_TERMINATOR)
 abbrev pub Spells : Format → Value → List ℕ → Type 0
 Spells TextOpen (Text text) bytes = AllByRecursion IsTextByte text × (bytes ≡ text ++ UNIT_TERMINATOR ∷ [])
 Spells (TextOf width) (Text text) bytes = (0 < width) × (length text ≡ width) × (bytes ≡ text)
-Spells (Unsigned size) (Number number) bytes = IsNumberSize size × (length bytes ≡ size) × (number ≡ pos (unsigned bytes))
+Spells (Unsigned size) (Number number) bytes =
+    IsNumberSize size × (length bytes ≡ size) × (number ≡ pos (unsigned bytes))
 Spells (Signed size) (Number number) bytes = IsNumberSize size × (length bytes ≡ size) × (number ≡ signed bytes)
 Spells (BitsOf count) (Bits bits) bytes = (0 < count / 8) × (length bits ≡ count / 8) × (bytes ≡ bits)
 Spells _ _ bytes = ⊥
@@ -72,4 +73,5 @@ IsFieldText formats values text = (count : ℕ) × AreSpelled (with_groups count
 
 -- the bytes are a field: its text and a field terminator
 abbrev pub IsField : FieldFormats → List Value → List ℕ → Type 0
-IsField formats values bytes = (text : List ℕ) × (bytes ≡ text ++ FIELD_TERMINATOR ∷ []) × IsFieldText formats values text
+IsField formats values bytes =
+    (text : List ℕ) × (bytes ≡ text ++ FIELD_TERMINATOR ∷ []) × IsFieldText formats values text

@@ -29,7 +29,8 @@ before values read = read >>= λ more. Some (values ++ more.0, more.1)
 
 -- so many bytes from the front, at least one, and the bytes after them
 unfoldable pub front_at : ℕ → List ℕ → Option (List ℕ × List ℕ)
-front_at size bytes = if nat_lt 0 size && nat_le size (length bytes) then Some (take size bytes, drop size bytes) else None
+front_at size bytes =
+    if nat_lt 0 size && nat_le size (length bytes) then Some (take size bytes, drop size bytes) else None
 
 -- the bytes of a binary number of this size, and none of another
 abbrev pub number_size : ℕ → ℕ

@@ -89,7 +89,8 @@ fn read_fields(
 ) -> Result<Vec<RawField>, FileFault>
     requires whole { leader.now.length ≤ length bytes.now }
     requires inside { AllByRecursion (IsInside (frame leader.now)) entries.now }
-    ensures { GivesBy (λ fields. fields.items) result (fields_of tags.now descriptors.now number (frame leader.now) bytes.now entries.now) }
+    ensures { GivesBy (λ fields. fields.items) result
+        (fields_of tags.now descriptors.now number (frame leader.now) bytes.now entries.now) }
 {
     let mut fields = Vec::with_capacity(alloc, entries.len())?;
     for entry in entries {

@@ -36,11 +36,14 @@ pub fn read_file<C: Ledger>(
     // What is read is what the bytes are.
     ensures reading { IfOk result (λ file. IsRecordFile tags.now bytes.now file) }
     // What the bytes are is read, unless memory runs out.
-    ensures read { (file : FileValue) → IsRecordFile tags.now bytes.now file → (result ≡ Ok file) ⊎ (result ≡ Err FileFault.NoMemory) }
+    ensures read { (file : FileValue) → IsRecordFile tags.now bytes.now file
+        → (result ≡ Ok file) ⊎ (result ≡ Err FileFault.NoMemory) }
     // What is refused has this first fault, and as many data records were come to.
-    ensures fault { IfErr result (λ fault. fault ≢ FileFault.NoMemory → HasFault tags.now bytes.now (data_records_in tags.now bytes.now) fault) }
+    ensures fault { IfErr result (λ fault. fault ≢ FileFault.NoMemory
+        → HasFault tags.now bytes.now (data_records_in tags.now bytes.now) fault) }
     // What has a first fault is refused with it, unless memory runs out.
-    ensures refused { (number : ℕ) (fault : FaultOfFile) → HasFault tags.now bytes.now number fault → (result ≡ Err fault) ⊎ (result ≡ Err FileFault.NoMemory) }
+    ensures refused { (number : ℕ) (fault : FaultOfFile) → HasFault tags.now bytes.now number fault
+        → (result ≡ Err fault) ⊎ (result ≡ Err FileFault.NoMemory) }
     ensures exact { Gives result (record_file_of tags.now bytes.now) }
     ensures counted { IfOk result (λ file. steps.new ≡ steps.old + length file.records) }
     ensures come_to { result ≢ Err FileFault.NoMemory → steps.new ≡ steps.old + data_records_in tags.now bytes.now }
@@ -86,7 +89,8 @@ fn read_data_records<C: Ledger>(
 ) -> Result<RawList, FileFault>
     requires { at + length bytes.now ≤ 2 ^ 63 }
     ensures read { Gives result (data_records_at (length bytes.now) tags.now descriptors.now 1 at bytes.now) }
-    ensures come_to { result ≢ Err FileFault.NoMemory → steps.new ≡ steps.old + come_to (length bytes.now) tags.now descriptors.now 1 at bytes.now }
+    ensures come_to { result ≢ Err FileFault.NoMemory
+        → steps.new ≡ steps.old + come_to (length bytes.now) tags.now descriptors.now 1 at bytes.now }
     ensures at_most { steps.new ≤ steps.old + come_to (length bytes.now) tags.now descriptors.now 1 at bytes.now }
 {
     let mut records = RawList::new(alloc);

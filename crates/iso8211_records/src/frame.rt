@@ -33,7 +33,8 @@ pub(crate) fn read_frame(
     first: bool,
 ) -> Result<(Leader, Vec<Entry>), FileFault>
     requires { at ≤ 2 ^ 63 }
-    ensures read { GivesBy (λ read. record { frame = frame read.0; entries = read.1.items }) result (record_at tags.now first at bytes.now) }
+    ensures read { GivesBy (λ read. record { frame = frame read.0; entries = read.1.items }) result
+        (record_at tags.now first at bytes.now) }
     ensures whole { IfOk result (λ read. read.0.length ≤ length bytes.now) }
     ensures inside { IfOk result (λ read. AllByRecursion (IsInside (frame read.0)) read.1.items) }
 {

@@ -7,6 +7,7 @@ ghost use Rattle.iso8211_records.specs.Values.{Finds, front_at, open_text_at, va
 
 use crate::fault::FieldFault;
 use crate::value::{Value, ValueList};
+use byteorder::{ByteOrder, LittleEndian};
 use chart_model::Octets;
 use chart_model::codes::{FIELD_TERMINATOR, UNIT_TERMINATOR};
 use iso8211_formats::Format;
@@ -65,7 +66,8 @@ fn read_groups(
     group: &[Format],
     mut values: Vec<Value>,
 ) -> Result<Vec<Value>, FieldFault>
-    ensures { Finds (λ all. all.items) result (before_all values.items (groups_at (length bytes.now) group.now bytes.now)) }
+    ensures { Finds (λ all. all.items) result
+        (before_all values.items (groups_at (length bytes.now) group.now bytes.now)) }
 {
     if group.is_empty() {
         return if bytes.is_empty() {
@@ -88,7 +90,8 @@ fn read_each<'a>(
     formats: &[Format],
     mut values: Vec<Value>,
 ) -> Result<(Vec<Value>, &'a [u8]), FieldFault>
-    ensures { Finds (λ read. (read.0.items, read.1.now)) result (before values.items (values_at formats.now bytes.now)) }
+    ensures { Finds (λ read. (read.0.items, read.1.now)) result
+        (before values.items (values_at formats.now bytes.now)) }
 {
     let mut rest = bytes;
     for format in formats {
@@ -183,10 +186,9 @@ fn unsigned_of(bytes: &[u8]) -> u32
     ensures { result ≡ unsigned bytes.now }
 {
     match bytes {
-        [a] => *a as u32,
-        [a, b] => u16::from_le_bytes([*a, *b]) as u32,
-        [a, b, c, d] => u32::from_le_bytes([*a, *b, *c, *d]),
-        _ => unreachable!(),
+        [byte] => u32::from(*byte),
+        [_, _] => u32::from(LittleEndian::read_u16(bytes)),
+        _ => LittleEndian::read_u32(bytes),
     }
 }
 
