@@ -1,11 +1,12 @@
 -- Values read one behind the other, with others between them.
-use Rattle.std.proofs.Common.{◌≡◌, ◌∙◌, ℕ, zero, suc, ◌+◌, ◌<◌, ◌≤◌, List, [], ◌∷◌, ◌++◌, length, get_or, drop, drop-cons, append_assoc, append-nil, Option, Some, None, Result, Ok, Err, refl, sym, ap, arith}
+use Rattle.std.proofs.Common.{◌≡◌, ◌∙◌, ℕ, zero, suc, ◌+◌, ◌<◌, ◌≤◌, List, [], ◌∷◌, ◌++◌, length, get_or, drop, drop-cons, append_assoc, append-nil, Option, Result, Ok, Err, refl, sym, ap, arith}
 use Rattle.std.proofs.Math.ListN.{drop_of_length-le}
 use Rattle.std.proofs.lemmas.List.{drop-drop}
 use Rattle.iso8211_records.specs.declared.value.Value.{Value}
 use Rattle.s57_fields.specs.declared.fault.FieldFault.{FieldFault}
 use Rattle.s57_fields.specs.declared.fault.FieldFault.TheVariants.{MissingField, Value as BadValue, NoMemory}
-use Rattle.s57_fields.specs.Answers.{◌>>=◌, or_fault, Fails}
+use Rattle.chart_model.specs.Answers.{◌>>=◌, or_fault}
+use Rattle.s57_fields.specs.Answers.{Fails}
 use Rattle.s57_fields.specs.Columns.{before, every, read_each}
 
 -- the values from a place on are those of the rest

@@ -1,5 +1,5 @@
 -- The values under a label, field by field.
-use Rattle.std.proofs.Common.{◌≡◌, ◌∙◌, ℕ, suc, ◌+◌, ◌<◌, ◌≤◌, Bool, true, false, List, [], ◌∷◌, ◌++◌, length, get_or, drop, drop-cons, add-one, append_assoc, append-nil, map, filter, Option, Some, None, Result, Ok, Err, refl, sym, ap, arith}
+use Rattle.std.proofs.Common.{◌≡◌, ◌∙◌, ℕ, suc, ◌+◌, ◌<◌, ◌≤◌, true, false, List, [], ◌∷◌, ◌++◌, length, get_or, drop, drop-cons, add-one, map, filter, Option, Result, Ok, Err, refl, sym, ap}
 use Rattle.std.proofs.Math.ListN.{drop_of_length-le}
 use Rattle.std.specs.Str.{bytes_eq}
 use Rattle.iso8211_records.specs.declared.value.Value.{Value}
@@ -9,7 +9,7 @@ use Rattle.s57_fields.specs.declared.fault.FieldFault.TheVariants.{Value as BadV
 use Rattle.s57_fields.specs.declared.subfield.Subfield.{Subfield}
 use Rattle.s57_fields.specs.declared.subfield.Place.TheVariants.{Repeated}
 use Rattle.s57_fields.specs.RowValues.{RowValues, fields_in}
-use Rattle.s57_fields.specs.Answers.{◌>>=◌, or_fault}
+use Rattle.chart_model.specs.Answers.{◌>>=◌, or_fault}
 use Rattle.s57_fields.specs.Columns.{before, column, column_in, every, read_each}
 use Rattle.s57_fields.proofs.Every.{before-none, before-nothing, before-before}
 

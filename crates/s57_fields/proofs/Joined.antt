@@ -1,11 +1,13 @@
 -- What holds of lists that are joined of columns.
-use Rattle.std.proofs.Common.{◌≡◌, ℕ, suc, ◌<◌, List, [], ◌∷◌, length, map, None, Some, refl, inl, inr, arith}
+use Rattle.std.proofs.Common.{◌≡◌, ℕ, suc, List, [], ◌∷◌, None, Some, refl, inl, inr, arith}
 use Rattle.std.specs.Prelude.{ℤ, All, IsSome, IsNone}
 use Rattle.std.specs.List.{zip}
 use Rattle.std.proofs.lemmas.List.Elements.{All-cons, All-map}
+use Rattle.chart_model.specs.Codes.{NULL}
 use Rattle.chart_model.specs.Record.{IsWithin, IsDepth, IsCoord, AreCoords}
 use Rattle.chart_model.specs.declared.name.Name.{Name}
-use Rattle.s57_fields.specs.Lists.{coordinates, soundings, feature_pointers, LATITUDE, LONGITUDE}
+use Rattle.s57_fields.specs.Lists.{coordinates, soundings, feature_pointers}
+use Rattle.s57_fields.specs.Signed.{LATITUDE, LONGITUDE}
 
 first_holds : {A : Type 0} (P : A → Type 0) (x : A) (xs : List A) → All P (x ∷ xs) → P x
 first_holds P x xs all = all 0 x (omega arith)
@@ -40,6 +42,6 @@ soundings-are ys xs depths lat lon deep =
       alike = inl (All-map (λ coord. IsSome coord.z) (λ it. record { x = it.0.1; y = it.0.0; z = Some it.1 }) (zip (zip ys xs) depths) (λ k d lt. refl));
     }
 
-pub feature_pointers-topi : (names : List Name) (ornts usags masks : List ℕ) → All (λ pointer. pointer.topi ≡ 255) (feature_pointers names ornts usags masks)
+pub feature_pointers-topi : (names : List Name) (ornts usags masks : List ℕ) → All (λ pointer. pointer.topi ≡ NULL) (feature_pointers names ornts usags masks)
 feature_pointers-topi names ornts usags masks =
-    All-map (λ pointer. pointer.topi ≡ 255) (λ it. record { target = it.0.0.0; ornt = it.0.0.1; usag = it.0.1; topi = 255; mask = it.1 }) (zip (zip (zip names ornts) usags) masks) (λ k d lt. refl)
+    All-map (λ pointer. pointer.topi ≡ NULL) (λ it. record { target = it.0.0.0; ornt = it.0.0.1; usag = it.0.1; topi = NULL; mask = it.1 }) (zip (zip (zip names ornts) usags) masks) (λ k d lt. refl)

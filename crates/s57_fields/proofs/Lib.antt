@@ -3,6 +3,10 @@ pub mod Dots
 pub mod Every
 pub mod Fields
 pub mod Fieldwise
+pub mod Groups
+pub mod Items
 pub mod Joined
 pub mod Listed
 pub mod Numbers
+pub mod Rows
+pub mod Whole

@@ -1,5 +1,5 @@
 -- A list row of a record without a field of the tag, and with one.
-use Rattle.std.proofs.Common.{◌≡◌, ℕ, true, false, List, [], ◌∷◌, Option, Result, Ok, refl}
+use Rattle.std.proofs.Common.{◌≡◌, true, false, List, [], ◌∷◌, Result, Ok, refl}
 use Rattle.std.specs.Prelude.{is_none}
 use Rattle.iso8211_records.specs.declared.value.Value.{Value}
 use Rattle.s57_fields.specs.declared.fault.FieldFault.{FieldFault}

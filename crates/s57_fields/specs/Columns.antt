@@ -1,6 +1,6 @@
 -- What stands under a label in the fields of a record.
 use Rattle.std.specs.Prelude.{ℕ, zero, suc, List, [], ◌∷◌, ◌++◌, slice_get}
-use Rattle.std.specs.Prelude.{Option, Some, None, option_and_then, Result, Ok, Err}
+use Rattle.std.specs.Prelude.{Option, Some, None, option_and_then, Result, Ok}
 use Rattle.std.specs.List.{flat_map}
 use Rattle.iso8211_records.specs.declared.value.Value.{Value}
 use Rattle.s57_fields.specs.declared.fault.FieldFault.{FieldFault}
@@ -8,7 +8,8 @@ use Rattle.s57_fields.specs.declared.subfield.Place.{Place}
 use Rattle.s57_fields.specs.declared.subfield.Place.TheVariants.{Missing, Once, Repeated}
 use Rattle.s57_fields.specs.declared.subfield.Subfield.{Subfield}
 use Rattle.s57_fields.specs.RowValues.{RowValues, first_of}
-use Rattle.s57_fields.specs.Answers.{◌>>=◌, or_fault, missing, bad}
+use Rattle.chart_model.specs.Answers.{◌>>=◌, or_fault}
+use Rattle.s57_fields.specs.Answers.{missing, bad}
 
 -- ---- a subfield that stands once
 

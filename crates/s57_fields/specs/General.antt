@@ -1,10 +1,10 @@
 -- The rows of the table of fields: the general information of a data set.
-use Rattle.std.specs.Prelude.{ℕ, Bool, true, false, List, Option, Result, Ok, Err}
+use Rattle.std.specs.Prelude.{Option, Result, Ok}
 use Rattle.iso8211_formats.specs.Layout.{Layout}
 use Rattle.s57_fields.specs.declared.fault.FieldFault.{FieldFault}
-use Rattle.s57_fields.specs.Answers.{◌>>=◌}
+use Rattle.chart_model.specs.Answers.{◌>>=◌}
 use Rattle.s57_fields.specs.Columns.{once_in}
-use Rattle.s57_fields.specs.Number.{number_up_to}
+use Rattle.s57_fields.specs.Number.{number_up_to, ONE_BYTE, TWO_BYTES, FOUR_BYTES}
 use Rattle.s57_fields.specs.Places.{subfield_of}
 use Rattle.s57_fields.specs.RowValues.{RowValues}
 use Rattle.s57_fields.specs.Texts.{nine_digits, eight_bytes, data_set_name}
@@ -34,8 +34,8 @@ dsid_in row values = do
   edtn ← once_in nine_digits values row.edtn
   updn ← once_in nine_digits values row.updn
   isdt ← once_in eight_bytes values row.isdt
-  prof ← once_in (number_up_to 255) values row.prof
-  agen ← once_in (number_up_to 65535) values row.agen
+  prof ← once_in (number_up_to ONE_BYTE) values row.prof
+  agen ← once_in (number_up_to TWO_BYTES) values row.agen
   Ok (record { dsnm = dsnm; edtn = edtn; updn = updn; isdt = isdt; prof = prof; agen = agen })
 
 -- ---- DSSI
@@ -45,7 +45,7 @@ dssi_row layout = record { aall = subfield_of layout labels.AALL }
 
 unfoldable pub dssi_in : DssiRow → RowValues → Result Dssi FieldFault
 dssi_in row values = do
-  aall ← once_in (number_up_to 255) values row.aall
+  aall ← once_in (number_up_to ONE_BYTE) values row.aall
   Ok (record { aall = aall })
 
 -- ---- DSPM
@@ -61,9 +61,9 @@ dspm_row layout = record {
 
 unfoldable pub dspm_in : DspmRow → RowValues → Result Dspm FieldFault
 dspm_in row values = do
-  cscl ← once_in (number_up_to 4294967295) values row.cscl
-  duni ← once_in (number_up_to 255) values row.duni
-  coun ← once_in (number_up_to 255) values row.coun
-  comf ← once_in (number_up_to 4294967295) values row.comf
-  somf ← once_in (number_up_to 4294967295) values row.somf
+  cscl ← once_in (number_up_to FOUR_BYTES) values row.cscl
+  duni ← once_in (number_up_to ONE_BYTE) values row.duni
+  coun ← once_in (number_up_to ONE_BYTE) values row.coun
+  comf ← once_in (number_up_to FOUR_BYTES) values row.comf
+  somf ← once_in (number_up_to FOUR_BYTES) values row.somf
   Ok (record { cscl = cscl; duni = duni; coun = coun; comf = comf; somf = somf })

@@ -1,10 +1,10 @@
 -- The rows of the table of fields: the identifiers of records.
-use Rattle.std.specs.Prelude.{ℕ, Bool, true, false, List, Option, Result, Ok, Err, if◌then◌else◌}
+use Rattle.std.specs.Prelude.{ℕ, Bool, Option, Result, Ok, if◌then◌else◌}
 use Rattle.iso8211_formats.specs.Layout.{Layout}
 use Rattle.s57_fields.specs.declared.fault.FieldFault.{FieldFault}
-use Rattle.s57_fields.specs.Answers.{◌>>=◌}
+use Rattle.chart_model.specs.Answers.{◌>>=◌}
 use Rattle.s57_fields.specs.Columns.{once_in}
-use Rattle.s57_fields.specs.Number.{number_up_to}
+use Rattle.s57_fields.specs.Number.{number_up_to, ONE_BYTE, TWO_BYTES, FOUR_BYTES}
 use Rattle.s57_fields.specs.Places.{subfield_of}
 use Rattle.s57_fields.specs.RowValues.{RowValues}
 use Rattle.chart_model.specs.declared.name.Foid.{Foid}
@@ -31,10 +31,10 @@ vrid_row layout = record {
 
 unfoldable pub vrid_in : Bool → VridRow → RowValues → Result Vrid FieldFault
 vrid_in update row values = do
-  rcnm ← once_in (number_up_to 255) values row.rcnm
-  rcid ← once_in (number_up_to 4294967295) values row.rcid
-  rver ← once_in (number_up_to 65535) values row.rver
-  ruin ← ruin_in update (once_in (number_up_to 255) values row.ruin)
+  rcnm ← once_in (number_up_to ONE_BYTE) values row.rcnm
+  rcid ← once_in (number_up_to FOUR_BYTES) values row.rcid
+  rver ← once_in (number_up_to TWO_BYTES) values row.rver
+  ruin ← ruin_in update (once_in (number_up_to ONE_BYTE) values row.ruin)
   Ok (record { rcnm = rcnm; rcid = rcid; rver = rver; ruin = ruin })
 
 -- ---- FRID
@@ -52,13 +52,13 @@ frid_row layout = record {
 
 unfoldable pub frid_in : Bool → FridRow → RowValues → Result Frid FieldFault
 frid_in update row values = do
-  rcnm ← once_in (number_up_to 255) values row.rcnm
-  rcid ← once_in (number_up_to 4294967295) values row.rcid
-  prim ← once_in (number_up_to 255) values row.prim
-  grup ← once_in (number_up_to 255) values row.grup
-  objl ← once_in (number_up_to 65535) values row.objl
-  rver ← once_in (number_up_to 65535) values row.rver
-  ruin ← ruin_in update (once_in (number_up_to 255) values row.ruin)
+  rcnm ← once_in (number_up_to ONE_BYTE) values row.rcnm
+  rcid ← once_in (number_up_to FOUR_BYTES) values row.rcid
+  prim ← once_in (number_up_to ONE_BYTE) values row.prim
+  grup ← once_in (number_up_to ONE_BYTE) values row.grup
+  objl ← once_in (number_up_to TWO_BYTES) values row.objl
+  rver ← once_in (number_up_to TWO_BYTES) values row.rver
+  ruin ← ruin_in update (once_in (number_up_to ONE_BYTE) values row.ruin)
   Ok (record { rcnm = rcnm; rcid = rcid; prim = prim; grup = grup; objl = objl; rver = rver; ruin = ruin })
 
 -- ---- FOID
@@ -72,7 +72,7 @@ foid_row layout = record {
 
 unfoldable pub foid_of : FoidRow → RowValues → Result Foid FieldFault
 foid_of row values = do
-  agen ← once_in (number_up_to 65535) values row.agen
-  fidn ← once_in (number_up_to 4294967295) values row.fidn
-  fids ← once_in (number_up_to 65535) values row.fids
+  agen ← once_in (number_up_to TWO_BYTES) values row.agen
+  fidn ← once_in (number_up_to FOUR_BYTES) values row.fidn
+  fids ← once_in (number_up_to TWO_BYTES) values row.fids
   Ok (record { agen = agen; fidn = fidn; fids = fids })

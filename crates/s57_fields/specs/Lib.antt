@@ -2,7 +2,9 @@ pub mod Answers
 pub mod Columns
 pub mod Files
 pub mod General
+pub mod Groups
 pub mod Identifiers
+pub mod Items
 pub mod Labels
 pub mod Lists
 pub mod Names

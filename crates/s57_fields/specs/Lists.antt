@@ -1,14 +1,15 @@
 -- The rows of the table of fields: the lists of a record, and the control fields that edit them.
-use Rattle.std.specs.Prelude.{ℕ, Bool, true, false, List, Option, Result, Ok, Err, Some, None, map, ℤ}
+use Rattle.std.specs.Prelude.{ℕ, List, Option, Result, Ok, Some, None, map, ℤ}
+use Rattle.chart_model.specs.Codes.{NULL}
 use Rattle.iso8211_formats.specs.Layout.{Layout}
 use Rattle.s57_fields.specs.declared.fault.FieldFault.{FieldFault}
-use Rattle.s57_fields.specs.Answers.{◌>>=◌}
+use Rattle.chart_model.specs.Answers.{◌>>=◌}
 use Rattle.s57_fields.specs.Columns.{once_in, column_in, listed}
 use Rattle.std.specs.List.{zip}
-use Rattle.s57_fields.specs.Number.{number_up_to}
+use Rattle.s57_fields.specs.Number.{number_up_to, ONE_BYTE, TWO_BYTES}
 use Rattle.s57_fields.specs.Places.{subfield_of}
 use Rattle.s57_fields.specs.RowValues.{RowValues}
-use Rattle.s57_fields.specs.Signed.{number_within, depth_in}
+use Rattle.s57_fields.specs.Signed.{number_within, depth_in, LATITUDE, LONGITUDE}
 use Rattle.s57_fields.specs.Texts.{plain_text}
 use Rattle.s57_fields.specs.Names.{record_name, object_name}
 use Rattle.chart_model.specs.declared.record.Attr.{Attr}
@@ -20,10 +21,10 @@ use Rattle.chart_model.specs.declared.name.Name.{Name}
 use Rattle.chart_model.specs.declared.name.Foid.{Foid}
 use Rattle.s57_fields.specs.declared.lists.AttributeRow.{AttributeRow}
 use Rattle.s57_fields.specs.declared.lists.ControlRow.{ControlRow}
-use Rattle.s57_fields.specs.declared.lists.VectorPointerRow.{VectorPointerRow}
-use Rattle.s57_fields.specs.declared.lists.FeaturePointerRow.{FeaturePointerRow}
-use Rattle.s57_fields.specs.declared.lists.CoordinateRow.{CoordinateRow}
-use Rattle.s57_fields.specs.declared.lists.SoundingRow.{SoundingRow}
+use Rattle.s57_fields.specs.declared.pointers.VectorPointerRow.{VectorPointerRow}
+use Rattle.s57_fields.specs.declared.pointers.FeaturePointerRow.{FeaturePointerRow}
+use Rattle.s57_fields.specs.declared.positions.CoordinateRow.{CoordinateRow}
+use Rattle.s57_fields.specs.declared.positions.SoundingRow.{SoundingRow}
 use Rattle.s57_fields.specs.declared.lists.RelatedRow.{RelatedRow}
 use Rattle.s57_fields.specs.Labels as labels
 
@@ -39,7 +40,7 @@ attributes codes texts = map (λ pair. record { code = pair.0; value = pair.1 })
 -- all codes first, and then all texts: so a bad code comes before a bad text
 unfoldable pub attribute_columns : AttributeRow → RowValues → Result (List Attr) FieldFault
 attribute_columns row values = do
-  codes ← column_in (number_up_to 65535) values row.attl
+  codes ← column_in (number_up_to TWO_BYTES) values row.attl
   texts ← column_in plain_text values row.atvl
   Ok (attributes codes texts)
 
@@ -78,9 +79,9 @@ fspc_row layout = record {
 
 unfoldable pub control_in : ControlRow → RowValues → Result Control FieldFault
 control_in row values = do
-  instruction ← once_in (number_up_to 255) values row.instruction
-  index ← once_in (number_up_to 65535) values row.index
-  count ← once_in (number_up_to 65535) values row.count
+  instruction ← once_in (number_up_to ONE_BYTE) values row.instruction
+  index ← once_in (number_up_to TWO_BYTES) values row.index
+  count ← once_in (number_up_to TWO_BYTES) values row.count
   Ok (record { instruction = instruction; index = index; count = count })
 
 -- ---- VRPT and FSPT
@@ -110,27 +111,27 @@ vector_pointers names ornts usags topis masks =
 unfoldable pub vector_pointer_columns : VectorPointerRow → RowValues → Result (List Pointer) FieldFault
 vector_pointer_columns row values = do
   names ← column_in record_name values row.name
-  ornts ← column_in (number_up_to 255) values row.ornt
-  usags ← column_in (number_up_to 255) values row.usag
-  topis ← column_in (number_up_to 255) values row.topi
-  masks ← column_in (number_up_to 255) values row.mask
+  ornts ← column_in (number_up_to ONE_BYTE) values row.ornt
+  usags ← column_in (number_up_to ONE_BYTE) values row.usag
+  topis ← column_in (number_up_to ONE_BYTE) values row.topi
+  masks ← column_in (number_up_to ONE_BYTE) values row.mask
   Ok (vector_pointers names ornts usags topis masks)
 
 abbrev pub vector_pointers_in : VectorPointerRow → RowValues → Result (List Pointer) FieldFault
 vector_pointers_in row values = listed values.fields (vector_pointer_columns row values)
 
--- a feature's pointers have no topology: 255
+-- a feature's pointers have no topology
 abbrev pub feature_pointers : List Name → List ℕ → List ℕ → List ℕ → List Pointer
 feature_pointers names ornts usags masks =
-    map (λ it. record { target = it.0.0.0; ornt = it.0.0.1; usag = it.0.1; topi = 255; mask = it.1 })
+    map (λ it. record { target = it.0.0.0; ornt = it.0.0.1; usag = it.0.1; topi = NULL; mask = it.1 })
     (zip (zip (zip names ornts) usags) masks)
 
 unfoldable pub feature_pointer_columns : FeaturePointerRow → RowValues → Result (List Pointer) FieldFault
 feature_pointer_columns row values = do
   names ← column_in record_name values row.name
-  ornts ← column_in (number_up_to 255) values row.ornt
-  usags ← column_in (number_up_to 255) values row.usag
-  masks ← column_in (number_up_to 255) values row.mask
+  ornts ← column_in (number_up_to ONE_BYTE) values row.ornt
+  usags ← column_in (number_up_to ONE_BYTE) values row.usag
+  masks ← column_in (number_up_to ONE_BYTE) values row.mask
   Ok (feature_pointers names ornts usags masks)
 
 abbrev pub feature_pointers_in : FeaturePointerRow → RowValues → Result (List Pointer) FieldFault
@@ -147,13 +148,6 @@ sg3d_row layout = record {
   xcoo = subfield_of layout labels.XCOO;
   ve3d = subfield_of layout labels.VE3D;
 }
-
--- degrees times 10,000,000
-abbrev pub LATITUDE : ℕ
-LATITUDE = 900000000
-
-abbrev pub LONGITUDE : ℕ
-LONGITUDE = 1800000000
 
 abbrev pub coordinates : List ℤ → List ℤ → List Coord
 coordinates ys xs = map (λ it. record { x = it.1; y = it.0; z = None }) (zip ys xs)
@@ -191,7 +185,7 @@ related foids rinds = map (λ pair. record { foid = pair.0; rind = pair.1 }) (zi
 unfoldable pub related_columns : RelatedRow → RowValues → Result (List Related) FieldFault
 related_columns row values = do
   foids ← column_in object_name values row.lnam
-  rinds ← column_in (number_up_to 255) values row.rind
+  rinds ← column_in (number_up_to ONE_BYTE) values row.rind
   Ok (related foids rinds)
 
 abbrev pub related_in : RelatedRow → RowValues → Result (List Related) FieldFault

@@ -6,6 +6,16 @@ use Rattle.std.specs.Str.Parse.{digits_value}
 use Rattle.iso8211_records.specs.declared.value.Value.{Value}
 use Rattle.iso8211_records.specs.declared.value.Value.TheVariants.{Number, Text, Bits}
 
+-- the greatest numbers of one byte, of two and of four
+abbrev pub ONE_BYTE : ℕ
+ONE_BYTE = 255
+
+abbrev pub TWO_BYTES : ℕ
+TWO_BYTES = 65535
+
+abbrev pub FOUR_BYTES : ℕ
+FOUR_BYTES = 4294967295
+
 -- a number that isn't negative, where it is at most so much
 unfoldable pub natural_up_to : ℕ → ℤ → Option ℕ
 natural_up_to most (pos n) = if nat_le n most then Some n else None

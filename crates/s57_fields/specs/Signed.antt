@@ -15,6 +15,13 @@ number_within n (Number number) = whole_within n number
 number_within n (Text text) = option_map pos (digits_up_to n text)
 number_within n (Bits bits) = None
 
+-- the greatest latitude and the greatest longitude, in degrees times 10,000,000
+abbrev pub LATITUDE : ℕ
+LATITUDE = 900000000
+
+abbrev pub LONGITUDE : ℕ
+LONGITUDE = 1800000000
+
 -- a sounding's depth in centimetres: 10 times a number from -999,999 to 999,999
 unfoldable pub depth_in : Value → Option ℤ
 depth_in value = option_map (λ decimetres. decimetres *ℤ pos 10) (number_within 999999 value)

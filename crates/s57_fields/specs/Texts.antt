@@ -3,6 +3,8 @@ use Rattle.std.specs.Prelude.{ℕ, Bool, ◌&&◌, ◌==◌, not, nat_le, if◌t
 use Rattle.std.specs.Prelude.{Option, Some, None, option_map, unwrap_or}
 use Rattle.std.specs.List.{list_all}
 use Rattle.std.specs.Option.{option_or}
+use Rattle.chart_model.specs.Codes.{UNIT_TERMINATOR, FIELD_TERMINATOR}
+use Rattle.chart_model.specs.Key.{is_key}
 use Rattle.iso8211_records.specs.declared.value.Value.{Value}
 use Rattle.iso8211_records.specs.declared.value.Value.TheVariants.{Number, Text, Bits}
 use Rattle.s57_fields.specs.Number.{digits_up_to}
@@ -25,19 +27,11 @@ eight_bytes value = text_if (λ text. length text == 8) value
 
 -- without a field or unit terminator
 abbrev pub is_plain : List ℕ → Bool
-is_plain text = list_all (λ byte. not (byte == 30) && not (byte == 31)) text
+is_plain text = list_all (λ byte. not (byte == FIELD_TERMINATOR) && not (byte == UNIT_TERMINATOR)) text
 
 -- such a text (ATVL)
 unfoldable pub plain_text : Value → Option (List ℕ)
 plain_text value = text_if is_plain value
-
--- visible ASCII characters
-abbrev pub is_visible : List ℕ → Bool
-is_visible bytes = list_all (λ byte. nat_le 33 byte && nat_le byte 126) bytes
-
--- 1 to 32 visible ASCII bytes
-abbrev pub is_key : List ℕ → Bool
-is_key bytes = nat_le 1 (length bytes) && (nat_le (length bytes) 32 && is_visible bytes)
 
 -- what stands before the last dot, where there is a dot
 unfoldable pub before_last_dot : List ℕ → Option (List ℕ)

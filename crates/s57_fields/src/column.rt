@@ -3,7 +3,8 @@
 ghost use Rattle.std.specs.Prelude.{◌≡◌, All, IfOk, map, filter};
 ghost use Rattle.std.specs.Str.{bytes_eq};
 ghost use Rattle.s57_fields.specs.declared.fault.FieldFault.TheVariants.{Value as BadValue};
-ghost use Rattle.s57_fields.specs.Answers.{Gives, GivesBy, or_fault};
+ghost use Rattle.chart_model.specs.Answers.{or_fault};
+ghost use Rattle.s57_fields.specs.Answers.{Gives, GivesBy};
 ghost use Rattle.s57_fields.specs.Columns.{before, column, every, read_each};
 
 use crate::fault::FieldFault;
@@ -54,7 +55,8 @@ impl Column {
     ) -> Result<Vec<K::Output>, FieldFault>
         requires { All (K.holds kind.now) read.items }
         ensures found { GivesBy (λ all. all.items) result (before read.items
-            (read_each (K.reads kind.now) (BadValue self.now.number self.now.label) (every self.now.between self.now.at values.now))) }
+            (read_each (K.reads kind.now) (BadValue self.now.number self.now.label)
+            (every self.now.between self.now.at values.now))) }
         ensures holds { IfOk result (λ all. All (K.holds kind.now) all.items) }
     {
         let mut at = self.at as usize;
@@ -75,8 +77,10 @@ impl Column {
         fields: &[RawField],
         kind: &K,
     ) -> Result<Vec<K::Output>, FieldFault>
-        ensures found { GivesBy (λ all. all.items) result (read_each (K.reads kind.now) (BadValue self.now.number self.now.label)
-            (column self.now.at self.now.between (map (λ field. field.values) (filter (λ field. bytes_eq field.tag self.now.tag) fields.now)))) }
+        ensures found { GivesBy (λ all. all.items) result
+            (read_each (K.reads kind.now) (BadValue self.now.number self.now.label)
+            (column self.now.at self.now.between
+            (map (λ field. field.values) (filter (λ field. bytes_eq field.tag self.now.tag) fields.now)))) }
         ensures holds { IfOk result (λ all. All (K.holds kind.now) all.items) }
     {
         let mut read = Vec::new(alloc);

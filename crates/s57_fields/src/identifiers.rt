@@ -5,7 +5,7 @@ ghost use Rattle.std.specs.Option.{option_copied};
 ghost use Rattle.s57_fields.specs.Answers.{Gives};
 ghost use Rattle.s57_fields.specs.Columns.{once_in};
 ghost use Rattle.s57_fields.specs.Identifiers.{ruin_in};
-ghost use Rattle.s57_fields.specs.Number.{number_up_to};
+ghost use Rattle.s57_fields.specs.Number.{number_up_to, ONE_BYTE};
 
 use crate::fault::FieldFault;
 use crate::labels::{AGEN, FIDN, FIDS, GRUP, OBJL, PRIM, RCID, RCNM, RUIN, RVER};
@@ -84,7 +84,7 @@ fn read_ruin(
     values: &RowFields<'_>,
     update: bool,
 ) -> Result<u8, FieldFault>
-    ensures { Gives result (ruin_in update (once_in (number_up_to 255) values.now ruin.now)) }
+    ensures { Gives result (ruin_in update (once_in (number_up_to ONE_BYTE) values.now ruin.now)) }
 {
     if update {
         ruin.once(alloc, values, &OneByte)

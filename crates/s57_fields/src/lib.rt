@@ -11,9 +11,12 @@ mod general;
 mod identifiers;
 mod kind;
 pub mod labels;
+mod laws;
 mod lists;
 mod name;
 mod number;
+mod pointers;
+mod positions;
 mod readers;
 mod row_fields;
 mod signed;
@@ -25,12 +28,12 @@ pub use fault::FieldFault;
 pub use general::{Dsid, DsidRow, Dspm, DspmRow, Dssi, DssiRow};
 pub use identifiers::{FoidRow, Frid, FridRow, Vrid, VridRow};
 pub use kind::Kind;
-pub use lists::{
-    AttributeRow, ControlRow, CoordinateRow, FeaturePointerRow, RelatedRow, SoundingRow,
-    VectorPointerRow,
-};
+pub use laws::{faults_are_the_first, groups_are_whole, items_are_groups};
+pub use lists::{AttributeRow, ControlRow, RelatedRow};
 pub use name::{ObjectName, RecordName};
 pub use number::{FourBytes, OneByte, TwoBytes};
+pub use pointers::{FeaturePointerRow, VectorPointerRow};
+pub use positions::{CoordinateRow, SoundingRow};
 pub use readers::{
     read_attf, read_attv, read_dsid, read_dspm, read_dssi, read_ffpc, read_ffpt, read_foid,
     read_frid, read_fspc, read_fspt, read_sg2d, read_sg3d, read_sgcc, read_vrid, read_vrpc,

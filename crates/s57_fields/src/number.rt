@@ -1,7 +1,7 @@
 //! Unsigned numbers: binary, or digits in a text.
 
 ghost use Rattle.std.specs.Prelude.{◌≡◌, ◌≤◌, IfSome};
-ghost use Rattle.s57_fields.specs.Number.{number_up_to, natural_up_to, digits_up_to};
+ghost use Rattle.s57_fields.specs.Number.{number_up_to, natural_up_to, digits_up_to, ONE_BYTE, TWO_BYTES, FOUR_BYTES};
 
 use crate::kind::Kind;
 use iso8211_records::Value;
@@ -71,12 +71,12 @@ fn natural_up_to(most: u32, number: i64) -> Option<u32>
 impl Kind for OneByte {
     type Output = u8;
 
-    ghost reads = { λ _. number_up_to 255 };
+    ghost reads = { λ _. number_up_to ONE_BYTE };
 
-    ghost holds = { λ _ n. n ≤ 255 };
+    ghost holds = { λ _ n. n ≤ ONE_BYTE };
 
     fn read(&self, _alloc: Global, value: &Value) -> Result<Option<u8>, AllocError> {
-        match number_up_to(255, value) {
+        match number_up_to(u32::from(u8::MAX), value) {
             Some(number) => Ok(Some(number as u8)),
             None => Ok(None),
         }
@@ -86,12 +86,12 @@ impl Kind for OneByte {
 impl Kind for TwoBytes {
     type Output = u16;
 
-    ghost reads = { λ _. number_up_to 65535 };
+    ghost reads = { λ _. number_up_to TWO_BYTES };
 
-    ghost holds = { λ _ n. n ≤ 65535 };
+    ghost holds = { λ _ n. n ≤ TWO_BYTES };
 
     fn read(&self, _alloc: Global, value: &Value) -> Result<Option<u16>, AllocError> {
-        match number_up_to(65535, value) {
+        match number_up_to(u32::from(u16::MAX), value) {
             Some(number) => Ok(Some(number as u16)),
             None => Ok(None),
         }
@@ -101,9 +101,9 @@ impl Kind for TwoBytes {
 impl Kind for FourBytes {
     type Output = u32;
 
-    ghost reads = { λ _. number_up_to 4294967295 };
+    ghost reads = { λ _. number_up_to FOUR_BYTES };
 
-    ghost holds = { λ _ n. n ≤ 4294967295 };
+    ghost holds = { λ _ n. n ≤ FOUR_BYTES };
 
     fn read(&self, _alloc: Global, value: &Value) -> Result<Option<u32>, AllocError> {
         Ok(number_up_to(u32::MAX, value))

@@ -5,17 +5,19 @@ ghost use Rattle.chart_model.specs.Key.{IsKey};
 ghost use Rattle.chart_model.specs.Record.{AreCoords, IsPlainText};
 ghost use Rattle.s57_fields.specs.Answers.{Gives};
 ghost use Rattle.s57_fields.specs.Texts.{key_in};
-ghost use Rattle.s57_fields.specs.Files.{record_at, dsid_at, dssi_at, dspm_at, vrid_at, attv_at, vrpc_at, vrpt_at, sgcc_at, sg2d_at, sg3d_at, frid_at, foid_at, attf_at, ffpc_at, ffpt_at, fspc_at, fspt_at};
+ghost use Rattle.s57_fields.specs.Files.{record_at, dsid_at, dssi_at, dspm_at, vrid_at, attv_at, vrpc_at, vrpt_at};
+ghost use Rattle.s57_fields.specs.Files.{sgcc_at, sg2d_at, sg3d_at, frid_at, foid_at, attf_at, ffpc_at, ffpt_at};
+ghost use Rattle.s57_fields.specs.Files.{fspc_at, fspt_at};
 
 use crate::fault::FieldFault;
 use crate::general::{Dsid, DsidRow, Dspm, DspmRow, Dssi, DssiRow};
 use crate::identifiers::{FoidRow, Frid, FridRow, Vrid, VridRow};
-use crate::lists::{
-    AttributeRow, ControlRow, CoordinateRow, FeaturePointerRow, RelatedRow, SoundingRow,
-    VectorPointerRow,
-};
+use crate::lists::{AttributeRow, ControlRow, RelatedRow};
+use crate::pointers::{FeaturePointerRow, VectorPointerRow};
+use crate::positions::{CoordinateRow, SoundingRow};
 use crate::row_fields::RowFields;
 use crate::tags;
+use chart_model::codes::NULL;
 use chart_model::{AttrList, Control, Coords, Foid, Pointers, RelatedList};
 use iso8211_records::{RawField, RecordFile};
 use std::alloc::Global;
@@ -75,7 +77,8 @@ pub fn read_dspm(alloc: Global, file: &RecordFile, number: usize) -> Result<Dspm
     row.read(alloc, &values)
 }
 
-/// Reads the identifier of a vector record; its update instruction is looked at where `update` is yes, and is 0 elsewhere: the row VRID of this data record, counted from 1.
+/// Reads the identifier of a vector record: the row VRID of this data record, counted from 1. Its update
+/// instruction is looked at where `update` is yes, and is 0 elsewhere.
 ///
 /// # Errors
 ///
@@ -163,7 +166,8 @@ pub fn read_sg2d(alloc: Global, file: &RecordFile, number: usize) -> Result<Coor
     row.read(alloc, &values)
 }
 
-/// Reads the coordinates with depths of a vector record, the depths in centimetres: the row SG3D of this data record, counted from 1.
+/// Reads the coordinates with depths of a vector record: the row SG3D of this data record, counted from 1.
+/// The depths are in centimetres.
 /// The empty list where the record has no such field.
 ///
 /// # Errors
@@ -178,7 +182,8 @@ pub fn read_sg3d(alloc: Global, file: &RecordFile, number: usize) -> Result<Coor
     row.read(alloc, &values)
 }
 
-/// Reads the identifier of a feature record; its update instruction is looked at where `update` is yes, and is 0 elsewhere: the row FRID of this data record, counted from 1.
+/// Reads the identifier of a feature record: the row FRID of this data record, counted from 1. Its update
+/// instruction is looked at where `update` is yes, and is 0 elsewhere.
 ///
 /// # Errors
 ///
@@ -264,7 +269,7 @@ pub fn read_fspc(alloc: Global, file: &RecordFile, number: usize) -> Result<Cont
     row.read(alloc, &values)
 }
 
-/// Reads the pointers of a feature; they have the topology 255: the row FSPT of this data record, counted from 1.
+/// Reads the pointers of a feature: the row FSPT of this data record, counted from 1. They have no topology.
 /// The empty list where the record has no such field.
 ///
 /// # Errors
@@ -272,7 +277,7 @@ pub fn read_fspc(alloc: Global, file: &RecordFile, number: usize) -> Result<Cont
 /// The first `MissingField` or `Value` in the order of the row; `NoMemory`.
 pub fn read_fspt(alloc: Global, file: &RecordFile, number: usize) -> Result<Pointers, FieldFault>
     ensures found { Gives result (fspt_at file.now number) }
-    ensures topi { IfOk result (λ pointers. All (λ pointer. pointer.topi ≡ 255) pointers) }
+    ensures topi { IfOk result (λ pointers. All (λ pointer. pointer.topi ≡ NULL) pointers) }
 {
     let row = FeaturePointerRow::find(file.descriptors.get(&tags::FSPT));
     let values = RowFields::new(number, tags::FSPT, record_at(file, number));

@@ -1,14 +1,15 @@
 //! Texts.
 
-ghost use Rattle.std.specs.Prelude.{◌≡◌, ◌≤◌, ◌&&◌, ◌==◌, not, length, IfOk, IfSome, IsTrue, ◌↔◌, true};
+ghost use Rattle.std.specs.Prelude.{◌≡◌, ◌≤◌, ◌&&◌, ◌==◌, not, length, IfOk, IfSome};
 ghost use Rattle.std.specs.List.{list_all};
-ghost use Rattle.chart_model.specs.Key.{IsKey};
+ghost use Rattle.chart_model.specs.Key.{IsKey, is_key};
 ghost use Rattle.chart_model.specs.Record.{IsPlainText};
-ghost use Rattle.s57_fields.specs.Texts.{nine_digits, eight_bytes, plain_text, data_set_name, is_plain, is_visible, is_key, key_in};
+ghost use Rattle.s57_fields.specs.Texts.{nine_digits, eight_bytes, plain_text, data_set_name, is_plain, key_in};
 
 use crate::kind::Kind;
 use crate::number::digits_up_to;
-use chart_model::Octets;
+use chart_model::codes::{FIELD_TERMINATOR, UNIT_TERMINATOR};
+use chart_model::{Key, Octets, keys_are_tested};
 use iso8211_records::Value;
 use std::alloc::{AllocError, Global};
 
@@ -71,21 +72,15 @@ impl Kind for EightBytes {
 fn is_plain(text: &[u8]) -> bool
     ensures { result ≡ is_plain text.now }
 {
-    text.iter().all(|byte| *byte != 0x1e && *byte != 0x1f)
-}
-
-/// Whether each byte is a visible ASCII character.
-fn is_visible(bytes: &[u8]) -> bool
-    ensures { result ≡ is_visible bytes.now }
-{
-    bytes.iter().all(|byte| *byte >= 0x21 && *byte <= 0x7E)
+    text.iter().all(|byte| *byte != FIELD_TERMINATOR && *byte != UNIT_TERMINATOR)
 }
 
 /// Whether the bytes are the key of a cell.
 fn is_key(bytes: &[u8]) -> bool
     ensures { result ≡ is_key bytes.now }
 {
-    !bytes.is_empty() && bytes.len() <= 32 && is_visible(bytes)
+    keys_are_tested();
+    Key::from_bytes(bytes).is_some()
 }
 
 /// The key in the name of a data set's file: the part before the last dot, or all of it without a dot.

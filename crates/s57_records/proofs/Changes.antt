@@ -11,13 +11,16 @@ use Rattle.chart_model.specs.declared.record.Related.{Related}
 use Rattle.chart_model.specs.declared.update_record.Control.{Control}
 use Rattle.chart_model.specs.Change.{Change, IsChange, IsEdit, IsInstruction}
 use Rattle.chart_model.specs.Dataset.{IsPlainInsert}
+use Rattle.chart_model.specs.Key.{IsKey}
 use Rattle.chart_model.specs.Record.{IsVectorName, AreCoords, IsCoord, IsPlainText, IsPrim}
 use Rattle.s57_records.specs.declared.fault.DatasetFault.{DatasetFault}
 use Rattle.s57_records.specs.declared.fault.DatasetFault.TheVariants.{MissingField, Value, Profile}
 use Rattle.s57_records.specs.Subfields.{Subfields}
 use Rattle.s57_records.specs.declared.change.VectorHead.{VectorHead}
 use Rattle.s57_records.specs.declared.change.FeatureHead.{FeatureHead}
-use Rattle.s57_records.specs.Rows.{◌>>=◌, ensure, one_byte, two_bytes, four_bytes, reads_as, is_instruction, ruin_of, unless_deleted, edit_of, is_vector_kind, vector_head, coords_of, vector_of, is_prim, inserts, checked_prim, foid_of, feature_head, feature_of}
+use Rattle.chart_model.specs.Answers.{◌>>=◌}
+use Rattle.s57_fields.specs.Number.{ONE_BYTE, TWO_BYTES, FOUR_BYTES}
+use Rattle.s57_records.specs.Rows.{ensure, reads_as, is_instruction, ruin_of, unless_deleted, edit_of, is_vector_kind, vector_head, coords_of, vector_of, is_prim, inserts, checked_prim, foid_of, feature_head, feature_of}
 use Rattle.s57_records.proofs.Steps.{bind_ok, bind_then, ensure_ok, chosen, ok_is}
 
 -- what the lists of a record keep
@@ -29,6 +32,10 @@ pub record AreSound (s : Subfields) : Type 0 where
   pub digits : (tag label : List ℕ) (number : ℕ) → s.digits tag label ≡ Ok number → number ≤ 999999999
   pub topi : (pointers : List Pointer) → s.pointers (codes "FSPT") ≡ Ok pointers → All (λ pointer. pointer.topi ≡ 255) pointers
 
+-- the keys that a record's subfields read as
+abbrev pub HasKeys : Subfields → Type 0
+HasKeys s = (tag label key : List ℕ) → s.key tag label ≡ Ok key → IsKey key
+
 is_instruction_range : (n : ℕ) → is_instruction n ≡ true → IsInstruction n
 is_instruction_range n h =
     let p = and_parts _ _ h in
@@ -37,10 +44,10 @@ is_instruction_range n h =
 ruin_is : (base : Bool) (n : ℕ) (s : Subfields) (tag : List ℕ) (ruin : ℕ) → ruin_of base n s tag ≡ Ok ruin → IsInstruction ruin
 unfolding ruin_of
 ruin_is base n s tag ruin e =
-    elim (chosen base (Ok 1) (s.number tag (codes "RUIN") one_byte >>= λ r. ensure (is_instruction r) (Value n (codes "RUIN")) >>= λ _. Ok r) (Ok ruin) e) [
+    elim (chosen base (Ok 1) (s.number tag (codes "RUIN") ONE_BYTE >>= λ r. ensure (is_instruction r) (Value n (codes "RUIN")) >>= λ _. Ok r) (Ok ruin) e) [
       | inl h ↦ let one : 1 ≡ ruin = ok_is 1 ruin h.1 in (omega arith, omega arith)
       | inr h ↦
-          let r = bind_ok (s.number tag (codes "RUIN") one_byte) _ ruin h.1 in
+          let r = bind_ok (s.number tag (codes "RUIN") ONE_BYTE) _ ruin h.1 in
           let t = bind_ok (ensure (is_instruction r.0) (Value n (codes "RUIN"))) _ ruin r.2 in
           subst IsInstruction (ok_is r.0 ruin t.2) (is_instruction_range r.0 (ensure_ok _ _ _ t.1))
     ]
@@ -50,10 +57,10 @@ unfolding edit_of
 edit_is base ruin n s tag a b c edit e =
     elim (chosen (not base && (eqb ruin 3 && s.has tag)) _ (Ok None) (Ok edit) e) [
       | inl h ↦
-          let i = bind_ok (s.number tag a one_byte) _ edit h.1 in
+          let i = bind_ok (s.number tag a ONE_BYTE) _ edit h.1 in
           let t = bind_ok (ensure (is_instruction i.0) (Value n a)) _ edit i.2 in
-          let x = bind_ok (s.number tag b two_bytes) _ edit t.2 in
-          let k = bind_ok (s.number tag c two_bytes) _ edit x.2 in
+          let x = bind_ok (s.number tag b TWO_BYTES) _ edit t.2 in
+          let k = bind_ok (s.number tag c TWO_BYTES) _ edit x.2 in
           subst IsEdit (ok_is (Some (record { instruction = i.0; index = x.0; count = k.0 })) edit k.2) (is_instruction_range i.0 (ensure_ok _ _ _ t.1))
       | inr h ↦ subst IsEdit (ok_is None edit h.1) tt
     ]
@@ -117,10 +124,10 @@ pub record IsVectorHead (base : Bool) (n : ℕ) (s : Subfields) (head : VectorHe
 pub vector_head_is : (base : Bool) (n : ℕ) (s : Subfields) (head : VectorHead) → vector_head base n s ≡ Ok head → IsVectorHead base n s head
 unfolding vector_head
 vector_head_is base n s head e =
-    bind_then (s.number (codes "VRID") (codes "RCNM") one_byte) _ head e (λ rcnm rcnm_e after_rcnm.
+    bind_then (s.number (codes "VRID") (codes "RCNM") ONE_BYTE) _ head e (λ rcnm rcnm_e after_rcnm.
     bind_then (ensure (is_vector_kind rcnm) (Profile (codes "RCNM"))) _ head after_rcnm (λ _ kind_e after_kind.
-    bind_then (s.number (codes "VRID") (codes "RCID") four_bytes) _ head after_kind (λ rcid rcid_e after_rcid.
-    bind_then (s.number (codes "VRID") (codes "RVER") two_bytes) _ head after_rcid (λ version version_e after_version.
+    bind_then (s.number (codes "VRID") (codes "RCID") FOUR_BYTES) _ head after_kind (λ rcid rcid_e after_rcid.
+    bind_then (s.number (codes "VRID") (codes "RVER") TWO_BYTES) _ head after_rcid (λ version version_e after_version.
     bind_then (ruin_of base n s (codes "VRID")) _ head after_version (λ ruin ruin_e made.
     subst (IsVectorHead base n s) (ok_is _ head made) (record { kind = ensure_ok _ _ _ kind_e; ruin = ruin_e }))))))
 
@@ -175,7 +182,7 @@ inserts_where : (base : Bool) (n : ℕ) (s : Subfields) (ruin : ℕ) → ruin_of
 unfolding ruin_of
 inserts_where true n s ruin e one = refl
 inserts_where false n s ruin e one =
-    bind_then (s.number (codes "FRID") (codes "RUIN") one_byte) _ ruin e (λ r r_e after_r.
+    bind_then (s.number (codes "FRID") (codes "RUIN") ONE_BYTE) _ ruin e (λ r r_e after_r.
     bind_then (ensure (is_instruction r) (Value n (codes "RUIN"))) _ ruin after_r (λ _ test_e made.
     ap (λ (x : Result ℕ DatasetFault). reads_as x 1) r_e ∙ eq-eqb r 1 (ok_is r ruin made ∙ one)))
 
@@ -214,14 +221,14 @@ pub record IsFeatureHead (base : Bool) (n : ℕ) (s : Subfields) (head : Feature
 pub feature_head_is : (base : Bool) (n : ℕ) (s : Subfields) (head : FeatureHead) → feature_head base n s ≡ Ok head → IsFeatureHead base n s head
 unfolding feature_head
 feature_head_is base n s head e =
-    bind_then (s.number (codes "FRID") (codes "RCNM") one_byte) _ head e (λ rcnm rcnm_e after_rcnm.
+    bind_then (s.number (codes "FRID") (codes "RCNM") ONE_BYTE) _ head e (λ rcnm rcnm_e after_rcnm.
     bind_then (ensure (eqb rcnm 100) (Profile (codes "RCNM"))) _ head after_rcnm (λ _ kind_e after_kind.
-    bind_then (s.number (codes "FRID") (codes "RCID") four_bytes) _ head after_kind (λ rcid rcid_e after_rcid.
-    bind_then (s.number (codes "FRID") (codes "PRIM") one_byte) _ head after_rcid (λ prim prim_e after_prim.
+    bind_then (s.number (codes "FRID") (codes "RCID") FOUR_BYTES) _ head after_kind (λ rcid rcid_e after_rcid.
+    bind_then (s.number (codes "FRID") (codes "PRIM") ONE_BYTE) _ head after_rcid (λ prim prim_e after_prim.
     bind_then (checked_prim base n s prim) _ head after_prim (λ _ listed_e after_listed.
-    bind_then (s.number (codes "FRID") (codes "GRUP") one_byte) _ head after_listed (λ grup grup_e after_grup.
-    bind_then (s.number (codes "FRID") (codes "OBJL") two_bytes) _ head after_grup (λ class class_e after_class.
-    bind_then (s.number (codes "FRID") (codes "RVER") two_bytes) _ head after_class (λ version version_e after_version.
+    bind_then (s.number (codes "FRID") (codes "GRUP") ONE_BYTE) _ head after_listed (λ grup grup_e after_grup.
+    bind_then (s.number (codes "FRID") (codes "OBJL") TWO_BYTES) _ head after_grup (λ class class_e after_class.
+    bind_then (s.number (codes "FRID") (codes "RVER") TWO_BYTES) _ head after_class (λ version version_e after_version.
     bind_then (ruin_of base n s (codes "FRID")) _ head after_version (λ ruin ruin_e made.
     subst (IsFeatureHead base n s) (ok_is _ head made) (record { kind = eqb-true rcnm 100 (ensure_ok _ _ _ kind_e); prim = ensure_ok _ _ _ listed_e; ruin = ruin_e }))))))))))
 

@@ -5,44 +5,64 @@ use Rattle.std.specs.List.{AllByRecursion}
 use Rattle.std.proofs.lemmas.List.Elements.{All-from_recursion}
 use Rattle.std.proofs.lemmas.Bool.{and_parts, and_from, eqb-true, eq-eqb, true≢false, cases_Bool}
 use Rattle.chart_model.specs.Dataset.{DatasetValue, IsDataset, IsPlainInsert}
+use Rattle.chart_model.specs.Key.{IsKey}
 use Rattle.s57_records.specs.declared.general.General.{General}
 use Rattle.s57_records.specs.declared.fault.DatasetFault.{DatasetFault}
 use Rattle.s57_records.specs.declared.fault.DatasetFault.TheVariants.{NoGeneral, Profile}
 use Rattle.s57_records.specs.Subfields.{Subfields}
-use Rattle.s57_records.specs.Rows.{◌>>=◌, ensure, one_byte, two_bytes, reads_as, checked_edition, general_of, checked_structure, scale_of, vector_of, feature_of}
+use Rattle.chart_model.specs.Answers.{◌>>=◌}
+use Rattle.s57_fields.specs.Number.{ONE_BYTE, TWO_BYTES}
+use Rattle.s57_records.specs.Rows.{ensure, reads_as, checked_edition, general_of, checked_structure, scale_of, vector_of, feature_of}
 use Rattle.s57_records.specs.Dataset.{Kind, general, parameters, vector, feature, other, kind_of, Said, change_is, scale_is, nothing, said_by, looked_at, all_of, change_in, scale_among, header_with, cancels, dataset_after, dataset_of}
 use Rattle.s57_records.proofs.Steps.{bind_then, ensure_ok, chosen, ok_is}
-use Rattle.s57_records.proofs.Changes.{AreSound, vector_is_plain, feature_is_plain}
+use Rattle.s57_records.proofs.Changes.{AreSound, HasKeys, vector_is_plain, feature_is_plain}
 
 -- ---- general information
 
 pub record IsGeneral (g : General) : Type 0 where
+  pub key : IsKey g.key
   pub edition : g.edition ≤ 999999999
   pub update : g.update ≤ 999999999
   pub base : g.base ≡ true → g.edition ≡ 0 → ⊥
 
-base_edition : (s : Subfields) (edition prof : ℕ) → not (eqb edition 0 && reads_as (s.number (codes "DSID") (codes "PROF") one_byte) 1) ≡ true → s.number (codes "DSID") (codes "PROF") one_byte ≡ Ok prof → eqb prof 1 ≡ true → edition ≡ 0 → ⊥
+base_edition : (s : Subfields) (edition prof : ℕ) → not (eqb edition 0 && reads_as (s.number (codes "DSID") (codes "PROF") ONE_BYTE) 1) ≡ true → s.number (codes "DSID") (codes "PROF") ONE_BYTE ≡ Ok prof → eqb prof 1 ≡ true → edition ≡ 0 → ⊥
 base_edition s edition prof test prof_e base none =
-    let reads : reads_as (s.number (codes "DSID") (codes "PROF") one_byte) 1 ≡ true = ap (λ (x : Result ℕ DatasetFault). reads_as x 1) prof_e ∙ base in
-    let both : (eqb edition 0 && reads_as (s.number (codes "DSID") (codes "PROF") one_byte) 1) ≡ true = and_from _ _ (eq-eqb edition 0 none) reads in
+    let reads : reads_as (s.number (codes "DSID") (codes "PROF") ONE_BYTE) 1 ≡ true = ap (λ (x : Result ℕ DatasetFault). reads_as x 1) prof_e ∙ base in
+    let both : (eqb edition 0 && reads_as (s.number (codes "DSID") (codes "PROF") ONE_BYTE) 1) ≡ true = and_from _ _ (eq-eqb edition 0 none) reads in
     true≢false (sym test ∙ ap not both)
 
-pub general_is : (s : Subfields) (g : General) → AreSound s → general_of s ≡ Ok g → IsGeneral g
+pub general_is :
+    (s : Subfields) (g : General) → AreSound s → IsKey g.key → general_of s ≡ Ok g → IsGeneral g
 unfolding general_of
-general_is s g sound e =
+general_is s g sound keyed e =
     bind_then (s.key (codes "DSID") (codes "DSNM")) _ g e (λ key key_e after_key.
     bind_then (s.digits (codes "DSID") (codes "EDTN")) _ g after_key (λ edition edition_e after_edition.
     bind_then (checked_edition s edition) _ g after_edition (λ _ test_e after_test.
     bind_then (s.digits (codes "DSID") (codes "UPDN")) _ g after_test (λ update update_e after_update.
     bind_then (s.date (codes "DSID") (codes "ISDT")) _ g after_update (λ issued issued_e after_issued.
-    bind_then (s.number (codes "DSID") (codes "PROF") one_byte) _ g after_issued (λ prof prof_e after_prof.
+    bind_then (s.number (codes "DSID") (codes "PROF") ONE_BYTE) _ g after_issued (λ prof prof_e after_prof.
     bind_then (ensure (eqb prof 1 || eqb prof 2) (Profile (codes "PROF"))) _ g after_prof (λ _ listed_e after_listed.
-    bind_then (s.number (codes "DSID") (codes "AGEN") two_bytes) _ g after_listed (λ agency agency_e made.
+    bind_then (s.number (codes "DSID") (codes "AGEN") TWO_BYTES) _ g after_listed (λ agency agency_e made.
     subst IsGeneral (ok_is _ g made) (record {
+      key = subst (λ (h : General). IsKey h.key) (sym (ok_is _ g made)) keyed;
       edition = sound.digits _ _ edition edition_e;
       update = sound.digits _ _ update update_e;
       base = base_edition s edition prof (ensure_ok _ _ _ test_e) prof_e;
     })))))))))
+
+-- its key is that of the name of the data set
+general_key : (s : Subfields) (g : General) → general_of s ≡ Ok g → s.key (codes "DSID") (codes "DSNM") ≡ Ok g.key
+unfolding general_of
+general_key s g e =
+    bind_then (s.key (codes "DSID") (codes "DSNM")) _ g e (λ key key_e after_key.
+    bind_then (s.digits (codes "DSID") (codes "EDTN")) _ g after_key (λ edition edition_e after_edition.
+    bind_then (checked_edition s edition) _ g after_edition (λ _ test_e after_test.
+    bind_then (s.digits (codes "DSID") (codes "UPDN")) _ g after_test (λ update update_e after_update.
+    bind_then (s.date (codes "DSID") (codes "ISDT")) _ g after_update (λ issued issued_e after_issued.
+    bind_then (s.number (codes "DSID") (codes "PROF") ONE_BYTE) _ g after_issued (λ prof prof_e after_prof.
+    bind_then (ensure (eqb prof 1 || eqb prof 2) (Profile (codes "PROF"))) _ g after_prof (λ _ listed_e after_listed.
+    bind_then (s.number (codes "DSID") (codes "AGEN") TWO_BYTES) _ g after_listed (λ agency agency_e made.
+    key_e ∙ ap (λ (h : General). Ok h.key) (ok_is _ g made)))))))))
 
 -- ---- what the records after the first say
 
@@ -84,6 +104,7 @@ all_plain rest said e =
 
 pub dataset_made : (g : General) (scale : ℕ) (said : List Said) → IsGeneral g → cancels g ≡ false → scale_among g.base said ≡ Ok scale → (g.base ≡ true → All IsPlainInsert (filter_map change_in said)) → IsDataset (record { header = header_with g scale; base = g.base; cancels = false; changes = filter_map change_in said })
 dataset_made g scale said is stands scaled plain = record {
+  key = is.key;
   edition = is.edition;
   update = is.update;
   cancels = (λ h. absurd (true≢false (sym h)), λ none. absurd (not_cancelled g none is stands));
@@ -102,6 +123,7 @@ dataset_made g scale said is stands scaled plain = record {
 
 pub cancelled : (g : General) → IsGeneral g → cancels g ≡ true → IsDataset (record { header = header_with g 0; base = false; cancels = true; changes = [] })
 cancelled g is h = record {
+  key = is.key;
   edition = is.edition;
   update = is.update;
   cancels = (λ _. eqb-true g.edition 0 (and_parts (not g.base) (eqb g.edition 0) h).1, λ _. refl);
@@ -127,11 +149,13 @@ after_is_dataset g first rest value is e =
           subst IsDataset (ok_is _ value made) (dataset_made g scale said is h.0 scale_e (base_plain g.base (looked_at false 2 rest) said said_e)))))
     ]
 
-pub dataset_is : (records : List Subfields) (value : DatasetValue) → AllByRecursion AreSound records → dataset_of records ≡ Ok value → IsDataset value
+pub dataset_is :
+    (records : List Subfields) (value : DatasetValue) → AllByRecursion AreSound records → AllByRecursion HasKeys records →
+    dataset_of records ≡ Ok value → IsDataset value
 unfolding dataset_of
-dataset_is [] value sound e = absurd cc
-dataset_is (first ∷ rest) value sound e =
+dataset_is [] value sound keyed e = absurd cc
+dataset_is (first ∷ rest) value sound keyed e =
     elim (chosen (first.has (codes "DSID")) (general_of first >>= λ g. dataset_after g first rest) (Err NoGeneral) (Ok value) e) [
-      | inl h ↦ bind_then (general_of first) _ value h.1 (λ g g_e after_g. after_is_dataset g first rest value (general_is first g sound.0 g_e) after_g)
+      | inl h ↦ bind_then (general_of first) _ value h.1 (λ g g_e after_g. after_is_dataset g first rest value (general_is first g sound.0 (keyed.0 _ _ g.key (general_key first g g_e)) g_e) after_g)
       | inr h ↦ absurd (let none = h.1 in cc)
     ]

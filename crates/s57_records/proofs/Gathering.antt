@@ -2,7 +2,7 @@
 use Rattle.std.proofs.Common.{◌≡◌, ℕ, suc, Bool, true, false, cond, List, [], ◌∷◌, ◌++◌, map, Option, Some, None, Result, Ok, Err, refl, sym, ap, subst, ◌∙◌, append-nil}
 use Rattle.std.proofs.lemmas.Bool.{true≢false}
 use Rattle.std.proofs.lemmas.List.{append_assoc}
-use Rattle.std.specs.Prelude.{codes, filter_map, is_some}
+use Rattle.std.specs.Prelude.{codes, filter_map, is_some, slice_get}
 use Rattle.chart_model.specs.Change.{Change}
 use Rattle.chart_model.specs.Dataset.{DatasetValue}
 use Rattle.s57_records.specs.declared.general.General.{General}
@@ -10,8 +10,10 @@ use Rattle.s57_records.specs.declared.dataset.Gathered.{Gathered}
 use Rattle.s57_records.specs.declared.fault.DatasetFault.{DatasetFault}
 use Rattle.s57_records.specs.declared.fault.DatasetFault.TheVariants.{Profile}
 use Rattle.s57_records.specs.Subfields.{Subfields}
-use Rattle.s57_records.specs.Rows.{◌>>=◌, checked_structure, scale_of, vector_of, feature_of}
-use Rattle.s57_records.specs.Dataset.{Kind, general, parameters, vector, feature, other, kind_of, Said, change_is, scale_is, nothing, said_by, looked_at, all_of, change_in, scale_in, first_or, scale_among, header_with, cancels, dataset_after, dataset_of, is_parameters}
+use Rattle.chart_model.specs.Answers.{◌>>=◌, or_fault}
+use Rattle.chart_model.specs.Key.{IsKey}
+use Rattle.s57_records.specs.Rows.{checked_structure, scale_of, vector_of, feature_of}
+use Rattle.s57_records.specs.Dataset.{Kind, general, parameters, vector, feature, other, kind_of, Said, change_is, scale_is, nothing, said_by, looked_at, all_of, change_in, scale_in, scale_among, header_with, cancels, dataset_after, dataset_of, is_parameters}
 use Rattle.s57_records.specs.Answers.{Gives}
 use Rattle.s57_records.specs.Gathering.{with_change, with_scale, gathered_with, gather, nothing_gathered, needed_scale, dataset_gathered}
 use Rattle.chart_model.specs.Dataset.{IsDataset}
@@ -138,7 +140,7 @@ all_gathered base n (s ∷ rest) seen g tells =
 
 -- ---- the whole
 
-first_scale : (scales : List ℕ) → needed_scale true (first_of None scales) ≡ first_or scales (Profile (codes "DSPM"))
+first_scale : (scales : List ℕ) → needed_scale true (first_of None scales) ≡ or_fault (Profile (codes "DSPM")) (slice_get scales 0)
 unfolding first_of
 first_scale [] = refl
 first_scale (scale ∷ scales) = refl
@@ -167,21 +169,22 @@ gathered_same g first rest =
 
 -- ---- the data set made of what was read
 
-reading_general : (r : DataRecord) (g : General) → general_of (reading r) ≡ Ok g → IsGeneral g
-reading_general r g e = general_is (reading r) g (subfields_sound (layout_at r.rows.now) r.number r.fields.now) e
+reading_general : (r : DataRecord) (g : General) → IsKey g.key → general_of (reading r) ≡ Ok g → IsGeneral g
+reading_general r g keyed e =
+    general_is (reading r) g (subfields_sound (layout_at r.rows.now) r.number r.fields.now) keyed e
 
-pub cancelled_from : (r : DataRecord) (g : General) → general_of (reading r) ≡ Ok g → cancels g ≡ true → IsDataset (record { header = header_with g 0; base = false; cancels = true; changes = [] })
-cancelled_from r g e cancel = cancelled g (reading_general r g e) cancel
+pub cancelled_from : (r : DataRecord) (g : General) → IsKey g.key → general_of (reading r) ≡ Ok g → cancels g ≡ true → IsDataset (record { header = header_with g 0; base = false; cancels = true; changes = [] })
+cancelled_from r g keyed e cancel = cancelled g (reading_general r g keyed e) cancel
 
 both_ok : (g : General) (r : Result Gathered DatasetFault) (gathered : Gathered) (scale : ℕ) → r ≡ Ok gathered → needed_scale g.base gathered.scale ≡ Ok scale → (r >>= λ gathered. needed_scale g.base gathered.scale >>= λ scale. ends g scale gathered.changes) ≡ ends g scale gathered.changes
 both_ok g r gathered scale e scale_e = rw e (rw scale_e refl)
 
-pub made_from : (r : DataRecord) (g : General) (rest : List Subfields) (gathered : Gathered) (scale : ℕ) → general_of (reading r) ≡ Ok g → cancels g ≡ false → gather g.base 2 rest nothing_gathered ≡ Ok gathered → needed_scale g.base gathered.scale ≡ Ok scale → IsDataset (record { header = header_with g scale; base = g.base; cancels = false; changes = gathered.changes })
+pub made_from : (r : DataRecord) (g : General) (rest : List Subfields) (gathered : Gathered) (scale : ℕ) → IsKey g.key → general_of (reading r) ≡ Ok g → cancels g ≡ false → gather g.base 2 rest nothing_gathered ≡ Ok gathered → needed_scale g.base gathered.scale ≡ Ok scale → IsDataset (record { header = header_with g scale; base = g.base; cancels = false; changes = gathered.changes })
 unfolding ends
-made_from r g rest gathered scale general_e stands gather_e scale_e =
+made_from r g rest gathered scale keyed general_e stands gather_e scale_e =
     bind_then (all_of (map (λ r. said_by g.base r.0 r.1 (kind_of r.1)) (looked_at false 2 rest))) _ (record { header = header_with g scale; base = g.base; cancels = false; changes = gathered.changes }) (sym (records_same g rest) ∙ both_ok g _ gathered scale gather_e scale_e) (λ said said_e after_said.
     bind_then (scale_among g.base said) _ _ after_said (λ scale scale_e made.
-    subst IsDataset (ok_is _ _ made) (dataset_made g scale said (reading_general r g general_e) stands scale_e (base_plain g.base (looked_at false 2 rest) said said_e))))
+    subst IsDataset (ok_is _ _ made) (dataset_made g scale said (reading_general r g keyed general_e) stands scale_e (base_plain g.base (looked_at false 2 rest) said said_e))))
 
 pub dataset_from : (first : Subfields) (rest : List Subfields) (g : General) (read : Result DatasetValue DatasetFault) → first.has (codes "DSID") ≡ true → general_of first ≡ Ok g → Gives read (dataset_gathered g first rest) → Gives read (dataset_of (first ∷ rest))
 unfolding dataset_of

@@ -1,16 +1,17 @@
 -- The changes of a data set keep what every change keeps.
-use Rattle.std.proofs.Common.{◌≡◌, ℕ, suc, Bool, true, false, cond, List, [], ◌∷◌, map, Result, Ok, Err, sym, subst, ap, inl, inr, All}
+use Rattle.std.proofs.Common.{◌≡◌, ℕ, suc, Bool, true, false, cond, List, [], ◌∷◌, map, Result, Ok, Err, subst, inl, inr, All}
 use Rattle.std.specs.Prelude.{codes, filter_map}
 use Rattle.std.specs.List.{AllByRecursion}
 use Rattle.std.proofs.lemmas.List.Elements.{All-from_recursion}
-use Rattle.chart_model.specs.Change.{Change, IsChange}
+use Rattle.chart_model.specs.Change.{IsChange}
 use Rattle.chart_model.specs.Dataset.{DatasetValue}
 use Rattle.s57_records.specs.declared.general.General.{General}
 use Rattle.s57_records.specs.declared.fault.DatasetFault.{DatasetFault}
 use Rattle.s57_records.specs.declared.fault.DatasetFault.TheVariants.{NoGeneral}
 use Rattle.s57_records.specs.Subfields.{Subfields}
-use Rattle.s57_records.specs.Rows.{◌>>=◌, general_of, checked_structure, scale_of, vector_of, feature_of}
-use Rattle.s57_records.specs.Dataset.{Kind, general, parameters, vector, feature, other, kind_of, is_parameters, Said, change_is, scale_is, nothing, said_by, looked_at, all_of, change_in, scale_among, header_with, cancels, dataset_after, dataset_of}
+use Rattle.chart_model.specs.Answers.{◌>>=◌}
+use Rattle.s57_records.specs.Rows.{general_of, checked_structure, scale_of, vector_of, feature_of}
+use Rattle.s57_records.specs.Dataset.{Kind, general, parameters, vector, feature, other, kind_of, is_parameters, Said, change_is, scale_is, nothing, said_by, looked_at, all_of, change_in, scale_among, cancels, dataset_after, dataset_of}
 use Rattle.s57_records.proofs.Steps.{bind_then, chosen, ok_is}
 use Rattle.s57_records.proofs.Changes.{AreSound, All-nil, vector_is_change, feature_is_change}
 

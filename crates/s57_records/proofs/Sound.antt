@@ -1,6 +1,6 @@
 -- What the fields of a record read as keeps what every record's subfields keep.
 use Rattle.std.proofs.Common.{◌≡◌, ◌≢◌, ℕ, suc, ◌≤◌, true, false, not, ◌&&◌, eqb, leb, ltb, List, [], ◌∷◌, length, Option, Some, None, Result, Ok, Err, refl, sym, ap, subst, ◌∙◌, inl, inr, arith, All}
-use Rattle.std.specs.Prelude.{codes, IsSome, IsNone, ℤ, pos, ◌*ℤ◌, unsigned_abs, option_map, option_and_then, flat_map, slice_get}
+use Rattle.std.specs.Prelude.{◌↔◌, codes, IsSome, IsNone, ℤ, pos, ◌*ℤ◌, unsigned_abs, option_map, option_and_then, flat_map, slice_get}
 use Rattle.std.specs.List.{AllByRecursion, list_all}
 use Rattle.std.specs.Str.{bytes_eq, all_ascii_digits}
 use Rattle.std.specs.Str.Parse.{digits_value}
@@ -10,29 +10,31 @@ use Rattle.chart_model.specs.declared.name.Name.{Name}
 use Rattle.chart_model.specs.declared.record.Attr.{Attr}
 use Rattle.chart_model.specs.declared.record.Pointer.{Pointer}
 use Rattle.chart_model.specs.declared.record.Coord.{Coord}
+use Rattle.chart_model.specs.Key.{IsKey, is_key}
 use Rattle.chart_model.specs.Record.{IsCoord, IsDepth, IsWithin, IsPlainText}
 use Rattle.iso8211_records.specs.declared.record.RawField.{RawField}
 use Rattle.iso8211_records.specs.declared.value.Value.{Value}
 use Rattle.iso8211_records.specs.declared.value.Value.TheVariants.{Number, Text, Bits}
 use Rattle.s57_fields.specs.declared.fault.FieldFault.{FieldFault}
 use Rattle.s57_fields.specs.declared.subfield.Subfield.{Subfield}
-use Rattle.s57_fields.specs.Answers.{◌>>=◌, or_fault, missing, bad}
+use Rattle.chart_model.specs.Answers.{◌>>=◌, or_fault}
+use Rattle.s57_fields.specs.Answers.{missing, bad}
 use Rattle.s57_fields.specs.RowValues.{RowValues, fields_in, first_of}
 use Rattle.s57_fields.specs.Places.{subfield_of}
 use Rattle.s57_fields.specs.Columns.{once_in, once_at, column_in, repeated_at, every, read_each, listed}
 use Rattle.s57_fields.specs.Number.{number_up_to, digits_up_to}
-use Rattle.s57_fields.specs.Signed.{number_within, whole_within, depth_in}
-use Rattle.s57_fields.specs.Texts.{nine_digits, plain_text, is_plain}
+use Rattle.s57_fields.specs.Signed.{number_within, whole_within, depth_in, LATITUDE, LONGITUDE}
+use Rattle.s57_fields.specs.Texts.{nine_digits, plain_text, is_plain, data_set_name, key_in}
 use Rattle.s57_records.specs.declared.fault.DatasetFault.{DatasetFault}
 use Rattle.s57_fields.specs.declared.lists.AttributeRow.{AttributeRow}
-use Rattle.s57_fields.specs.declared.lists.CoordinateRow.{CoordinateRow}
-use Rattle.s57_fields.specs.declared.lists.SoundingRow.{SoundingRow}
-use Rattle.s57_fields.specs.declared.lists.FeaturePointerRow.{FeaturePointerRow}
+use Rattle.s57_fields.specs.declared.positions.CoordinateRow.{CoordinateRow}
+use Rattle.s57_fields.specs.declared.positions.SoundingRow.{SoundingRow}
+use Rattle.s57_fields.specs.declared.pointers.FeaturePointerRow.{FeaturePointerRow}
 use Rattle.s57_fields.specs.Names.{record_name}
-use Rattle.s57_fields.specs.Lists.{attribute_row, attributes, attribute_columns, attributes_in, fspt_row, feature_pointers, feature_pointer_columns, feature_pointers_in, LATITUDE, LONGITUDE, sg2d_row, coordinates, coordinate_columns, coordinates_in, sg3d_row, soundings, sounding_columns, soundings_in}
-use Rattle.s57_records.specs.Readings.{widened, Layouts, has_field, coords_in, subfields_of, all_subfields}
+use Rattle.s57_fields.specs.Lists.{attribute_row, attributes, attribute_columns, attributes_in, fspt_row, feature_pointers, feature_pointer_columns, feature_pointers_in, sg2d_row, coordinates, coordinate_columns, coordinates_in, sg3d_row, soundings, sounding_columns, soundings_in}
+use Rattle.s57_records.specs.Readings.{widened, mapped, under, Layouts, has_field, coords_in, subfields_of, all_subfields}
 use Rattle.s57_records.proofs.Steps.{chosen}
-use Rattle.s57_records.proofs.Changes.{AreSound, All-nil}
+use Rattle.s57_records.proofs.Changes.{AreSound, HasKeys, All-nil}
 
 -- ---- steps
 
@@ -256,3 +258,29 @@ subfields_sound layouts n fields = record {
 pub all_sound : (layouts : Layouts) (n : ℕ) (records : List (List RawField)) → AllByRecursion AreSound (all_subfields layouts n records)
 all_sound layouts n [] = tt
 all_sound layouts n (fields ∷ records) = (subfields_sound layouts n fields, all_sound layouts (suc n) records)
+
+-- ---- keys
+
+of_mapped : {A B : Type 0} (f : A → B) (r : Result A DatasetFault) (y : B) → mapped f r ≡ Ok y → (x : A) × (r ≡ Ok x) × (f x ≡ y)
+of_mapped f (Ok x) y e = (x, refl, cc)
+of_mapped f (Err fault) y e = absurd cc
+
+named : (value : Value) (name : List ℕ) → data_set_name value ≡ Some name → is_key (key_in name) ≡ true
+unfolding data_set_name
+named (Text text) name e =
+    elim (chosen (is_key (key_in text)) (Some text) None (Some name) e) [
+      | inl h ↦ let same : text ≡ name = let found = h.1 in cc in ap (λ (n : List ℕ). is_key (key_in n)) (sym same) ∙ h.0
+      | inr h ↦ absurd (let none = h.1 in cc)
+    ]
+named (Number number) name e = absurd cc
+named (Bits bits) name e = absurd cc
+
+keyed : ((bytes : List ℕ) → (is_key bytes ≡ true) ↔ IsKey bytes) → (layouts : Layouts) (n : ℕ) (fields : List RawField) → HasKeys (subfields_of layouts n fields)
+keyed tests layouts n fields tag label key e =
+    let name = of_mapped key_in (under data_set_name layouts n fields tag label) key e in
+    let value = once_read data_set_name (fields_in n tag fields) (subfield_of (layouts tag) label) name.0 (of_widened _ name.0 name.1) in
+    subst IsKey name.2 ((tests (key_in name.0)).0 (named value.0 name.0 value.1))
+
+pub all_keyed : ((bytes : List ℕ) → (is_key bytes ≡ true) ↔ IsKey bytes) → (layouts : Layouts) (n : ℕ) (records : List (List RawField)) → AllByRecursion HasKeys (all_subfields layouts n records)
+all_keyed tests layouts n [] = tt
+all_keyed tests layouts n (fields ∷ records) = (keyed tests layouts n fields, all_keyed tests layouts (suc n) records)

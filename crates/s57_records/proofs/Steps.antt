@@ -1,7 +1,8 @@
 -- What follows from a step that gave a value.
 use Rattle.std.proofs.Common.{◌≡◌, Bool, true, false, cond, ◌⊎◌, Result, Ok, Err, refl, subst, inl, inr}
 use Rattle.s57_records.specs.declared.fault.DatasetFault.{DatasetFault}
-use Rattle.s57_records.specs.Rows.{◌>>=◌, ensure}
+use Rattle.chart_model.specs.Answers.{◌>>=◌}
+use Rattle.s57_records.specs.Rows.{ensure}
 use Rattle.s57_records.specs.Answers.{Gives}
 
 pub bind_ok : {A B : Type 0} (r : Result A DatasetFault) (f : A → Result B DatasetFault) (y : B) → (r >>= f) ≡ Ok y → (x : A) × (r ≡ Ok x) × (f x ≡ Ok y)

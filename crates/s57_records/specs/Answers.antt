@@ -1,14 +1,19 @@
 -- What a reader answers, beside what it was to answer.
-use Rattle.std.specs.Prelude.{◌≡◌, Result, Ok, Err}
+use Rattle.std.specs.Prelude.{Option, Some, None, Result}
+use Rattle.chart_model.specs.Answers as answers
 use Rattle.s57_records.specs.declared.fault.DatasetFault.{DatasetFault}
-use Rattle.s57_records.specs.declared.fault.DatasetFault.TheVariants.{NoMemory}
+use Rattle.s57_records.specs.declared.fault.DatasetFault.TheVariants.{NoGeneral, MissingField, Value, Profile, NoMemory}
 
--- the fault is the one that there is, unless memory ran out
+-- want of memory tells nothing
+abbrev pub told : DatasetFault → Option DatasetFault
+told NoGeneral = Some NoGeneral
+told (MissingField number tag) = Some (MissingField number tag)
+told (Value number label) = Some (Value number label)
+told (Profile label) = Some (Profile label)
+told NoMemory = None
+
 abbrev pub Fails : {X : Type 0} → DatasetFault → Result X DatasetFault → Type 0
-Fails NoMemory read = Unit {0}
-Fails fault read = read ≡ Err fault
+Fails fault wanted = answers.FailsBy told fault wanted
 
--- the answer is what was to be answered, unless memory ran out
 abbrev pub Gives : {X : Type 0} → Result X DatasetFault → Result X DatasetFault → Type 0
-Gives (Ok x) read = read ≡ Ok x
-Gives (Err fault) read = Fails fault read
+Gives answer wanted = answers.Gives told answer wanted

@@ -1,13 +1,15 @@
 -- The data set that the records of a file are, or the first fault by record.
-use Rattle.std.specs.Prelude.{ℕ, suc, Bool, true, false, not, ◌&&◌, ◌==◌, if◌then◌else◌, List, [], ◌∷◌, map, filter_map, codes, Option, Some, None, Result, Ok, Err}
+use Rattle.std.specs.Prelude.{ℕ, suc, Bool, true, false, not, ◌&&◌, ◌==◌, if◌then◌else◌, List, [], ◌∷◌}
+use Rattle.std.specs.Prelude.{map, filter_map, slice_get, codes, Option, Some, None, Result, Ok, Err}
 use Rattle.chart_model.specs.declared.dataset.Header.{Header}
+use Rattle.chart_model.specs.Answers.{◌>>=◌, or_fault}
 use Rattle.chart_model.specs.Change.{Change}
 use Rattle.chart_model.specs.Dataset.{DatasetValue}
 use Rattle.s57_records.specs.declared.general.General.{General}
 use Rattle.s57_records.specs.declared.fault.DatasetFault.{DatasetFault}
 use Rattle.s57_records.specs.declared.fault.DatasetFault.TheVariants.{NoGeneral, Profile}
 use Rattle.s57_records.specs.Subfields.{Subfields}
-use Rattle.s57_records.specs.Rows.{◌>>=◌, general_of, checked_structure, scale_of, vector_of, feature_of}
+use Rattle.s57_records.specs.Rows.{general_of, checked_structure, scale_of, vector_of, feature_of}
 
 -- what kind of record this is: by the first of these fields that it has
 pub data Kind : Type 0 where
@@ -19,7 +21,9 @@ pub data Kind : Type 0 where
 
 abbrev pub kind_of : Subfields → Kind
 kind_of s =
-    if s.has (codes "DSID") then general else (if s.has (codes "DSPM") then parameters else (if s.has (codes "VRID") then vector else (if s.has (codes "FRID") then feature else other)))
+    if s.has (codes "DSID") then general
+    else (if s.has (codes "DSPM") then parameters
+    else (if s.has (codes "VRID") then vector else (if s.has (codes "FRID") then feature else other)))
 
 abbrev pub is_parameters : Kind → Bool
 is_parameters parameters = true
@@ -27,10 +31,6 @@ is_parameters general = false
 is_parameters vector = false
 is_parameters feature = false
 is_parameters other = false
-
-abbrev pub first_or : {A : Type 0} → List A → DatasetFault → Result A DatasetFault
-first_or [] fault = Err fault
-first_or (x ∷ xs) fault = Ok x
 
 -- what one record after the first stands for: a change, the scale of a base file, or nothing
 pub data Said : Type 0 where
@@ -58,7 +58,8 @@ said_by base n s other = Ok nothing
 abbrev pub looked_at : Bool → ℕ → List Subfields → List (ℕ × Subfields)
 looked_at parameters_seen n [] = []
 looked_at parameters_seen n (s ∷ rest) =
-    if is_parameters (kind_of s) then (if parameters_seen then looked_at true (suc n) rest else (n, s) ∷ looked_at true (suc n) rest)
+    if is_parameters (kind_of s)
+    then (if parameters_seen then looked_at true (suc n) rest else (n, s) ∷ looked_at true (suc n) rest)
     else (n, s) ∷ looked_at parameters_seen (suc n) rest
 
 -- each value, or the first fault
@@ -82,10 +83,17 @@ scale_in nothing = None
 -- the scale of a base file, which needs one, and 0 for an update
 abbrev pub scale_among : Bool → List Said → Result ℕ DatasetFault
 scale_among false said = Ok 0
-scale_among true said = first_or (filter_map scale_in said) (Profile (codes "DSPM"))
+scale_among true said = or_fault (Profile (codes "DSPM")) (slice_get (filter_map scale_in said) 0)
 
 abbrev pub header_with : General → ℕ → Header
-header_with g scale = record { key = g.key; edition = g.edition; update = g.update; issued = g.issued; agency = g.agency; scale = scale }
+header_with g scale = record {
+  key = g.key;
+  edition = g.edition;
+  update = g.update;
+  issued = g.issued;
+  agency = g.agency;
+  scale = scale;
+}
 
 -- an update of edition 0 cancels its cell
 abbrev pub cancels : General → Bool

@@ -1,5 +1,7 @@
 -- The data set by what was gathered from the records before: the first scale, and the changes.
-use Rattle.std.specs.Prelude.{ℕ, suc, Bool, true, false, ◌&&◌, not, is_some, if◌then◌else◌, List, [], ◌∷◌, ◌++◌, codes, Option, Some, None, Result, Ok, Err}
+use Rattle.std.specs.Prelude.{ℕ, suc, Bool, true, false, ◌&&◌, not, is_some, if◌then◌else◌}
+use Rattle.std.specs.Prelude.{List, [], ◌∷◌, ◌++◌, codes, Option, Some, None, Result, Ok, Err}
+use Rattle.chart_model.specs.Answers.{◌>>=◌}
 use Rattle.chart_model.specs.Change.{Change}
 use Rattle.chart_model.specs.Dataset.{DatasetValue}
 use Rattle.s57_records.specs.declared.general.General.{General}
@@ -7,7 +9,7 @@ use Rattle.s57_records.specs.declared.dataset.Gathered.{Gathered}
 use Rattle.s57_records.specs.declared.fault.DatasetFault.{DatasetFault}
 use Rattle.s57_records.specs.declared.fault.DatasetFault.TheVariants.{Profile}
 use Rattle.s57_records.specs.Subfields.{Subfields}
-use Rattle.s57_records.specs.Rows.{◌>>=◌, checked_structure, scale_of, vector_of, feature_of}
+use Rattle.s57_records.specs.Rows.{checked_structure, scale_of, vector_of, feature_of}
 use Rattle.s57_records.specs.Dataset.{Kind, general, parameters, vector, feature, other, kind_of, header_with, cancels}
 
 abbrev pub with_change : Gathered → Change → Gathered

@@ -5,7 +5,8 @@ use Rattle.iso8211_records.specs.Kinds.{layout_at}
 use Rattle.s57_fields.specs.Tags as tags
 use Rattle.s57_fields.specs.General.{dsid_row, dssi_row, dspm_row}
 use Rattle.s57_fields.specs.Identifiers.{vrid_row, frid_row, foid_row}
-use Rattle.s57_fields.specs.Lists.{attribute_row, vrpc_row, vrpt_row, sgcc_row, sg2d_row, sg3d_row, ffpc_row, ffpt_row, fspc_row, fspt_row}
+use Rattle.s57_fields.specs.Lists.{attribute_row, vrpc_row, vrpt_row, sgcc_row, sg2d_row, sg3d_row}
+use Rattle.s57_fields.specs.Lists.{ffpc_row, ffpt_row, fspc_row, fspt_row}
 use Rattle.s57_fields.specs.Places.{subfield_of}
 use Rattle.s57_fields.specs.declared.lists.ControlRow.{ControlRow}
 use Rattle.s57_records.specs.declared.rows.GeneralRows.{GeneralRows}

@@ -1,11 +1,16 @@
 -- What one data record stands for (S-57 Part 3; Appendix B.1): its fields in their order, each with its subfields in
 -- their order, and with the tests of the profile and of the lists of values in their places.
-use Rattle.std.specs.Prelude.{ℕ, ◌-◌, ◌^◌, Bool, false, not, ◌&&◌, ◌||◌, ◌==◌, nat_le, if◌then◌else◌, List, [], ◌++◌, codes, Option, Some, None, Result, Ok, Err}
+use Rattle.std.specs.Prelude.{ℕ, Bool, false, not, ◌&&◌, ◌||◌, ◌==◌, nat_le, if◌then◌else◌, List, [], ◌++◌}
+use Rattle.std.specs.Prelude.{codes, Option, Some, None, Result, Ok, Err}
 use Rattle.std.specs.Int.{is_in_range}
+use Rattle.chart_model.specs.Answers.{◌>>=◌}
+use Rattle.chart_model.specs.Codes.{FEATURE, ISOLATED_NODE, CONNECTED_NODE, EDGE, POINT, AREA, NO_PRIMITIVE}
+use Rattle.chart_model.specs.Codes.{INSERT, DELETE, MODIFY}
 use Rattle.chart_model.specs.declared.name.Foid.{Foid}
 use Rattle.chart_model.specs.declared.update_record.Control.{Control}
 use Rattle.chart_model.specs.Change.{Change}
 use Rattle.chart_model.specs.declared.record.Coord.{Coord}
+use Rattle.s57_fields.specs.Number.{ONE_BYTE, TWO_BYTES, FOUR_BYTES}
 use Rattle.s57_records.specs.declared.general.General.{General}
 use Rattle.s57_records.specs.declared.change.VectorHead.{VectorHead}
 use Rattle.s57_records.specs.declared.change.FeatureHead.{FeatureHead}
@@ -13,23 +18,9 @@ use Rattle.s57_records.specs.declared.fault.DatasetFault.{DatasetFault}
 use Rattle.s57_records.specs.declared.fault.DatasetFault.TheVariants.{MissingField, Value, Profile}
 use Rattle.s57_records.specs.Subfields.{Subfields}
 
-infixl 10 ◌>>=◌
-abbrev pub ◌>>=◌ : {A B : Type 0} → Result A DatasetFault → (A → Result B DatasetFault) → Result B DatasetFault
-(Ok x) >>= f = f x
-(Err e) >>= f = Err e
-
 -- the fault where the test fails
 abbrev pub ensure : Bool → DatasetFault → Result (Unit {0}) DatasetFault
 ensure test fault = if test then Ok tt else Err fault
-
-abbrev pub one_byte : ℕ
-one_byte = 255
-
-abbrev pub two_bytes : ℕ
-two_bytes = 65535
-
-abbrev pub four_bytes : ℕ
-four_bytes = 2 ^ 32 - 1
 
 -- whether a subfield reads as this number
 abbrev pub reads_as : Result ℕ DatasetFault → ℕ → Bool
@@ -40,7 +31,8 @@ reads_as (Err fault) m = false
 
 -- an edition of 0 is refused in a base file
 abbrev pub checked_edition : Subfields → ℕ → Result (Unit {0}) DatasetFault
-checked_edition s edition = ensure (not (edition == 0 && reads_as (s.number (codes "DSID") (codes "PROF") one_byte) 1)) (Profile (codes "EDTN"))
+checked_edition s edition =
+    ensure (not (edition == 0 && reads_as (s.number (codes "DSID") (codes "PROF") ONE_BYTE) 1)) (Profile (codes "EDTN"))
 
 -- DSID: PROF is 1 for a base file, whose edition isn't 0, and 2 for an update
 unfoldable pub general_of : Subfields → Result General DatasetFault
@@ -50,16 +42,16 @@ general_of s = do
   _ ← checked_edition s edition
   update ← s.digits (codes "DSID") (codes "UPDN")
   issued ← s.date (codes "DSID") (codes "ISDT")
-  prof ← s.number (codes "DSID") (codes "PROF") one_byte
+  prof ← s.number (codes "DSID") (codes "PROF") ONE_BYTE
   _ ← ensure (prof == 1 || prof == 2) (Profile (codes "PROF"))
-  agency ← s.number (codes "DSID") (codes "AGEN") two_bytes
+  agency ← s.number (codes "DSID") (codes "AGEN") TWO_BYTES
   Ok (record { key = key; edition = edition; update = update; issued = issued; base = prof == 1; agency = agency })
 
 -- DSSI, where it is there: AALL is 0 or 1
 unfoldable pub checked_structure : Subfields → Result (Unit {0}) DatasetFault
 checked_structure s =
     if s.has (codes "DSSI") then (do
-      aall ← s.number (codes "DSSI") (codes "AALL") one_byte
+      aall ← s.number (codes "DSSI") (codes "AALL") ONE_BYTE
       ensure (nat_le aall 1) (Profile (codes "AALL")))
     else Ok tt
 
@@ -67,56 +59,57 @@ checked_structure s =
 -- soundings in decimetres
 unfoldable pub scale_of : Subfields → Result ℕ DatasetFault
 scale_of s = do
-  scale ← s.number (codes "DSPM") (codes "CSCL") four_bytes
-  duni ← s.number (codes "DSPM") (codes "DUNI") one_byte
+  scale ← s.number (codes "DSPM") (codes "CSCL") FOUR_BYTES
+  duni ← s.number (codes "DSPM") (codes "DUNI") ONE_BYTE
   _ ← ensure (duni == 1) (Profile (codes "DUNI"))
-  coun ← s.number (codes "DSPM") (codes "COUN") one_byte
+  coun ← s.number (codes "DSPM") (codes "COUN") ONE_BYTE
   _ ← ensure (coun == 1) (Profile (codes "COUN"))
-  comf ← s.number (codes "DSPM") (codes "COMF") four_bytes
+  comf ← s.number (codes "DSPM") (codes "COMF") FOUR_BYTES
   _ ← ensure (comf == 10000000) (Profile (codes "COMF"))
-  somf ← s.number (codes "DSPM") (codes "SOMF") four_bytes
+  somf ← s.number (codes "DSPM") (codes "SOMF") FOUR_BYTES
   _ ← ensure (somf == 10) (Profile (codes "SOMF"))
   Ok scale
 
 -- ---- changes
 
 abbrev pub is_instruction : ℕ → Bool
-is_instruction n = is_in_range 1 3 n
+is_instruction n = is_in_range INSERT MODIFY n
 
--- the instruction of a record: insert in a base file, and in an update RUIN, which is 1, 2 or 3
+-- the instruction of a record: insert in a base file, and in an update RUIN, which is insert, delete or modify
 unfoldable pub ruin_of : Bool → ℕ → Subfields → List ℕ → Result ℕ DatasetFault
 ruin_of base n s tag =
-    if base then Ok 1 else (do
-      ruin ← s.number tag (codes "RUIN") one_byte
+    if base then Ok INSERT else (do
+      ruin ← s.number tag (codes "RUIN") ONE_BYTE
       _ ← ensure (is_instruction ruin) (Value n (codes "RUIN"))
       Ok ruin)
 
 -- the lists of a deletion aren't looked at
 abbrev pub unless_deleted : {A : Type 0} → ℕ → Result (List A) DatasetFault → Result (List A) DatasetFault
-unless_deleted ruin items = if ruin == 2 then Ok [] else items
+unless_deleted ruin items = if ruin == DELETE then Ok [] else items
 
 -- The control field of a list: the labels are those of its instruction, its index and its count. It is looked at in
 -- the modifications of an update alone.
-unfoldable pub edit_of : Bool → ℕ → ℕ → Subfields → List ℕ → List ℕ → List ℕ → List ℕ → Result (Option Control) DatasetFault
+unfoldable pub edit_of :
+    Bool → ℕ → ℕ → Subfields → List ℕ → List ℕ → List ℕ → List ℕ → Result (Option Control) DatasetFault
 edit_of base ruin n s tag instruction_label index_label count_label =
-    if not base && (ruin == 3 && s.has tag) then (do
-      instruction ← s.number tag instruction_label one_byte
+    if not base && (ruin == MODIFY && s.has tag) then (do
+      instruction ← s.number tag instruction_label ONE_BYTE
       _ ← ensure (is_instruction instruction) (Value n instruction_label)
-      index ← s.number tag index_label two_bytes
-      count ← s.number tag count_label two_bytes
+      index ← s.number tag index_label TWO_BYTES
+      count ← s.number tag count_label TWO_BYTES
       Ok (Some (record { instruction = instruction; index = index; count = count })))
     else Ok None
 
 abbrev pub is_vector_kind : ℕ → Bool
-is_vector_kind rcnm = rcnm == 110 || (rcnm == 120 || rcnm == 130)
+is_vector_kind rcnm = rcnm == ISOLATED_NODE || (rcnm == CONNECTED_NODE || rcnm == EDGE)
 
 -- VRID
 unfoldable pub vector_head : Bool → ℕ → Subfields → Result VectorHead DatasetFault
 vector_head base n s = do
-  rcnm ← s.number (codes "VRID") (codes "RCNM") one_byte
+  rcnm ← s.number (codes "VRID") (codes "RCNM") ONE_BYTE
   _ ← ensure (is_vector_kind rcnm) (Profile (codes "RCNM"))
-  rcid ← s.number (codes "VRID") (codes "RCID") four_bytes
-  version ← s.number (codes "VRID") (codes "RVER") two_bytes
+  rcid ← s.number (codes "VRID") (codes "RCID") FOUR_BYTES
+  version ← s.number (codes "VRID") (codes "RVER") TWO_BYTES
   ruin ← ruin_of base n s (codes "VRID")
   Ok (record { target = record { rcnm = rcnm; rcid = rcid }; version = version; ruin = ruin })
 
@@ -157,11 +150,11 @@ vector_of base n s = do
 
 -- a point, a line, an area or none of these
 abbrev pub is_prim : ℕ → Bool
-is_prim prim = is_in_range 1 3 prim || prim == 255
+is_prim prim = is_in_range POINT AREA prim || prim == NO_PRIMITIVE
 
 -- whether the record inserts: each does in a base file
 abbrev pub inserts : Bool → Subfields → Bool
-inserts base s = base || reads_as (s.number (codes "FRID") (codes "RUIN") one_byte) 1
+inserts base s = base || reads_as (s.number (codes "FRID") (codes "RUIN") ONE_BYTE) INSERT
 
 -- the primitive of an insertion is one of the list
 abbrev pub checked_prim : Bool → ℕ → Subfields → ℕ → Result (Unit {0}) DatasetFault
@@ -173,21 +166,28 @@ foid_of ruin n s =
     if s.has (codes "FOID") then (do
       foid ← s.foid
       Ok (Some foid))
-    else (if ruin == 1 then Err (MissingField n (codes "FOID")) else Ok None)
+    else (if ruin == INSERT then Err (MissingField n (codes "FOID")) else Ok None)
 
 -- FRID
 unfoldable pub feature_head : Bool → ℕ → Subfields → Result FeatureHead DatasetFault
 feature_head base n s = do
-  rcnm ← s.number (codes "FRID") (codes "RCNM") one_byte
-  _ ← ensure (rcnm == 100) (Profile (codes "RCNM"))
-  rcid ← s.number (codes "FRID") (codes "RCID") four_bytes
-  prim ← s.number (codes "FRID") (codes "PRIM") one_byte
+  rcnm ← s.number (codes "FRID") (codes "RCNM") ONE_BYTE
+  _ ← ensure (rcnm == FEATURE) (Profile (codes "RCNM"))
+  rcid ← s.number (codes "FRID") (codes "RCID") FOUR_BYTES
+  prim ← s.number (codes "FRID") (codes "PRIM") ONE_BYTE
   _ ← checked_prim base n s prim
-  grup ← s.number (codes "FRID") (codes "GRUP") one_byte
-  class ← s.number (codes "FRID") (codes "OBJL") two_bytes
-  version ← s.number (codes "FRID") (codes "RVER") two_bytes
+  grup ← s.number (codes "FRID") (codes "GRUP") ONE_BYTE
+  class ← s.number (codes "FRID") (codes "OBJL") TWO_BYTES
+  version ← s.number (codes "FRID") (codes "RVER") TWO_BYTES
   ruin ← ruin_of base n s (codes "FRID")
-  Ok (record { target = record { rcnm = rcnm; rcid = rcid }; prim = prim; grup = grup; class = class; version = version; ruin = ruin })
+  Ok (record {
+    target = record { rcnm = rcnm; rcid = rcid };
+    prim = prim;
+    grup = grup;
+    class = class;
+    version = version;
+    ruin = ruin;
+  })
 
 -- FRID, FOID, ATTF, FFPC, FFPT, FSPC and FSPT
 unfoldable pub feature_of : Bool → ℕ → Subfields → Result Change DatasetFault

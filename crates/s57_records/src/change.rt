@@ -10,6 +10,9 @@ ghost use Rattle.iso8211_records.specs.Kinds.{layout_at};
 
 use crate::fault::DatasetFault;
 use crate::reader::{DataRecord, byte, long, reads_as, short};
+use chart_model::codes::{
+    AREA, CONNECTED_NODE, EDGE, FEATURE, INSERT, ISOLATED_NODE, MODIFY, NO_PRIMITIVE, POINT,
+};
 use chart_model::{Control, Foid, Name};
 use s57_fields::labels::{PRIM, RCNM, RUIN};
 use s57_fields::tags::{FOID, FRID, VRID};
@@ -55,10 +58,10 @@ fn read_ruin(
     ensures { Gives result (ruin_of base fields.now.number (reading fields.now) tag) }
 {
     if base {
-        return Ok(1);
+        return Ok(INSERT);
     }
     let ruin = byte(alloc, &fields.values(tag), subfield)?;
-    if ruin < 1 || ruin > 3 {
+    if ruin < INSERT || ruin > MODIFY {
         return Err(DatasetFault::Value {
             record: fields.number,
             label: RUIN,
@@ -77,15 +80,17 @@ pub(crate) fn read_edit(
     control: &ControlField,
 ) -> Result<Option<Control>, DatasetFault>
     requires { IsFound (layout_at fields.now.rows.now control.now.tag) control.now.row }
-    ensures { Gives result (edit_of base ruin fields.now.number (reading fields.now) control.now.tag control.now.row.instruction.label control.now.row.index.label control.now.row.count.label) }
+    ensures { let row = control.now.row in
+        Gives result (edit_of base ruin fields.now.number (reading fields.now) control.now.tag
+        row.instruction.label row.index.label row.count.label) }
 {
-    if base || ruin != 3 || !fields.has(control.tag) {
+    if base || ruin != MODIFY || !fields.has(control.tag) {
         return Ok(None);
     }
     let row = &control.row;
     let values = fields.values(control.tag);
     let instruction = byte(alloc, &values, &row.instruction)?;
-    if instruction < 1 || instruction > 3 {
+    if instruction < INSERT || instruction > MODIFY {
         let label = row.instruction.label;
         return Err(DatasetFault::Value {
             record: fields.number,
@@ -113,7 +118,7 @@ pub(crate) fn read_vector_head(
     let row = &fields.rows.vector().vrid;
     let values = fields.values(VRID);
     let rcnm = byte(alloc, &values, &row.rcnm)?;
-    if rcnm != 110 && rcnm != 120 && rcnm != 130 {
+    if rcnm != ISOLATED_NODE && rcnm != CONNECTED_NODE && rcnm != EDGE {
         return Err(DatasetFault::Profile(RCNM));
     }
     let rcid = long(alloc, &values, &row.rcid)?;
@@ -135,11 +140,11 @@ fn check_prim(
 ) -> Result<(), DatasetFault>
     ensures { Gives result (checked_prim base fields.now.number (reading fields.now) prim) }
 {
-    if (prim >= 1 && prim <= 3) || prim == 255 {
+    if (prim >= POINT && prim <= AREA) || prim == NO_PRIMITIVE {
         return Ok(());
     }
     let row = &fields.rows.feature().frid;
-    if base || reads_as(alloc, &fields.values(FRID), &row.ruin, 1)? {
+    if base || reads_as(alloc, &fields.values(FRID), &row.ruin, INSERT)? {
         return Err(DatasetFault::Value {
             record: fields.number,
             label: PRIM,
@@ -160,7 +165,7 @@ pub(crate) fn read_feature_head(
     let row = &fields.rows.feature().frid;
     let values = fields.values(FRID);
     let rcnm = byte(alloc, &values, &row.rcnm)?;
-    if rcnm != 100 {
+    if rcnm != FEATURE {
         return Err(DatasetFault::Profile(RCNM));
     }
     let rcid = long(alloc, &values, &row.rcid)?;
@@ -193,7 +198,7 @@ pub(crate) fn read_foid(
         let foid = fields.foid(alloc)?;
         return Ok(Some(foid));
     }
-    if ruin == 1 {
+    if ruin == INSERT {
         return Err(DatasetFault::MissingField {
             record: fields.number,
             tag: FOID,

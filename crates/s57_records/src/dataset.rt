@@ -1,6 +1,7 @@
 //! The data set of a file.
 
 ghost use Rattle.std.specs.Prelude.{◌≡◌, Ok};
+ghost use Rattle.chart_model.specs.Key.{IsKey};
 ghost use Rattle.iso8211_records.specs.Kinds.{layout_at};
 ghost use Rattle.s57_records.specs.Answers.{Gives};
 ghost use Rattle.s57_records.specs.Dataset.{kind_of, header_with, cancels, dataset_of};
@@ -36,7 +37,8 @@ fn gather_with(
     base: bool,
     gathered: Gathered,
 ) -> Result<Gathered, DatasetFault>
-    ensures { Gives result (gathered_with base fields.now.number (reading fields.now) (kind_of (reading fields.now)) gathered) }
+    ensures { let read = reading fields.now in
+        Gives result (gathered_with base fields.now.number read (kind_of read) gathered) }
 {
     if fields.has(DSID) {
         return Ok(gathered);
@@ -128,8 +130,10 @@ fn read_after<'a>(
     first: &DataRecord<'a>,
     rest: &'a [RawRecord],
 ) -> Result<Dataset, DatasetFault>
-    requires { general_of (reading first.now) ≡ Ok general.now }
-    ensures { Gives result (dataset_gathered general.now (reading first.now) (all_subfields (layout_at first.now.rows.now) 2 rest.now)) }
+    requires read { general_of (reading first.now) ≡ Ok general.now }
+    requires key { IsKey general.now.key }
+    ensures { Gives result (dataset_gathered general.now (reading first.now)
+        (all_subfields (layout_at first.now.rows.now) 2 rest.now)) }
 {
     if is_cancelling(general) {
         return Ok(Dataset {

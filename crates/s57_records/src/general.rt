@@ -1,6 +1,6 @@
 //! The general information of a data set.
 
-ghost use Rattle.std.specs.Prelude.{◌≡◌};
+ghost use Rattle.std.specs.Prelude.{◌≡◌, IfOk};
 ghost use Rattle.chart_model.specs.Key.{IsKey};
 ghost use Rattle.s57_fields.specs.Texts.{key_in};
 ghost use Rattle.s57_records.specs.Answers.{Gives};
@@ -54,7 +54,8 @@ fn check_edition(alloc: Global, fields: &DataRecord<'_>, edition: u32) -> Result
 /// The general information: PROF is 1 for a base file, whose edition isn't 0, and 2 for an update.
 #[tactic(auto, unfolding(crate::specs::Rows::general_of))]
 pub(crate) fn read_general(alloc: Global, fields: &DataRecord<'_>) -> Result<General, DatasetFault>
-    ensures { Gives result (general_of (reading fields.now)) }
+    ensures found { Gives result (general_of (reading fields.now)) }
+    ensures key { IfOk result (λ general. IsKey general.key) }
 {
     let row = &fields.rows.general().dsid;
     let values = fields.values(DSID);

@@ -8,11 +8,15 @@ ghost use Rattle.s57_records.specs.Rows.{vector_of, feature_of};
 ghost use Rattle.s57_records.specs.Dataset.{dataset_of};
 ghost use Rattle.s57_records.specs.Readings.{Layouts, subfields_of, all_subfields};
 
+use chart_model::keys_are_tested;
+
 /// What records say keeps what every data set keeps.
 pub fn data_sets_are_kept()
     ensures { (layouts : Layouts) (records : List (List RawField)) (value : DatasetValue) →
         dataset_of (all_subfields layouts 1 records) ≡ Ok value → IsDataset value }
-{}
+{
+    keys_are_tested();
+}
 
 /// What a vector record or a feature says keeps what every change keeps, and so do the changes of a
 /// data set.

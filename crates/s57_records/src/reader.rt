@@ -2,7 +2,7 @@
 
 ghost use Rattle.std.specs.Prelude.{◌≡◌, codes, IfOk, MatchResult};
 ghost use Rattle.s57_fields.specs.Columns.{once_in};
-ghost use Rattle.s57_fields.specs.Number.{number_up_to};
+ghost use Rattle.s57_fields.specs.Number.{number_up_to, ONE_BYTE, TWO_BYTES, FOUR_BYTES};
 ghost use Rattle.s57_fields.specs.RowValues.{fields_in};
 ghost use Rattle.s57_records.specs.Answers.{Gives};
 ghost use Rattle.s57_records.specs.Readings.{widened, has_field};
@@ -10,6 +10,7 @@ ghost use Rattle.s57_records.specs.Rows.{reads_as, unless_deleted};
 
 use crate::fault::DatasetFault;
 use crate::rows::Rows;
+use chart_model::codes::DELETE;
 use chart_model::{AttrList, Coords, Foid, Pointers, RelatedList};
 use iso8211_records::RawField;
 use s57_fields::tags::{ATTF, ATTV, FFPT, FOID, FSPT, SG2D, SG3D, VRPT};
@@ -45,7 +46,7 @@ pub(crate) fn byte(
     values: &RowFields<'_>,
     subfield: &Subfield,
 ) -> Result<u8, DatasetFault>
-    ensures { Gives result (widened (once_in (number_up_to 255) values.now subfield.now)) }
+    ensures { Gives result (widened (once_in (number_up_to ONE_BYTE) values.now subfield.now)) }
 {
     once(alloc, values, subfield, &OneByte)
 }
@@ -56,7 +57,7 @@ pub(crate) fn short(
     values: &RowFields<'_>,
     subfield: &Subfield,
 ) -> Result<u16, DatasetFault>
-    ensures { Gives result (widened (once_in (number_up_to 65535) values.now subfield.now)) }
+    ensures { Gives result (widened (once_in (number_up_to TWO_BYTES) values.now subfield.now)) }
 {
     once(alloc, values, subfield, &TwoBytes)
 }
@@ -67,7 +68,7 @@ pub(crate) fn long(
     values: &RowFields<'_>,
     subfield: &Subfield,
 ) -> Result<u32, DatasetFault>
-    ensures { Gives result (widened (once_in (number_up_to 4294967295) values.now subfield.now)) }
+    ensures { Gives result (widened (once_in (number_up_to FOUR_BYTES) values.now subfield.now)) }
 {
     once(alloc, values, subfield, &FourBytes)
 }
@@ -79,7 +80,9 @@ pub(crate) fn reads_as(
     subfield: &Subfield,
     number: u8,
 ) -> Result<bool, DatasetFault>
-    ensures { MatchResult result (λ is. is ≡ reads_as (widened (once_in (number_up_to 255) values.now subfield.now)) number) (λ fault. fault ≡ DatasetFault.NoMemory) }
+    ensures { MatchResult result
+        (λ is. is ≡ reads_as (widened (once_in (number_up_to ONE_BYTE) values.now subfield.now)) number)
+        (λ fault. fault ≡ DatasetFault.NoMemory) }
 {
     match byte(alloc, values, subfield) {
         Ok(read) => Ok(read == number),
@@ -116,7 +119,7 @@ impl<'a> DataRecord<'a> {
     pub fn vector_attrs(&self, alloc: Global, ruin: u8) -> Result<AttrList, DatasetFault>
         ensures { Gives result (unless_deleted ruin ((reading self.now).attrs (codes "ATTV"))) }
     {
-        if ruin == 2 {
+        if ruin == DELETE {
             return Ok(AttrList::new(alloc));
         }
         let row = &self.rows.vector().attv;
@@ -128,7 +131,7 @@ impl<'a> DataRecord<'a> {
     pub fn feature_attrs(&self, alloc: Global, ruin: u8) -> Result<AttrList, DatasetFault>
         ensures { Gives result (unless_deleted ruin ((reading self.now).attrs (codes "ATTF"))) }
     {
-        if ruin == 2 {
+        if ruin == DELETE {
             return Ok(AttrList::new(alloc));
         }
         let row = &self.rows.feature().attf;
@@ -140,7 +143,7 @@ impl<'a> DataRecord<'a> {
     pub fn vector_pointers(&self, alloc: Global, ruin: u8) -> Result<Pointers, DatasetFault>
         ensures { Gives result (unless_deleted ruin ((reading self.now).pointers (codes "VRPT"))) }
     {
-        if ruin == 2 {
+        if ruin == DELETE {
             return Ok(Pointers::new(alloc));
         }
         let row = &self.rows.vector().vrpt;
@@ -152,7 +155,7 @@ impl<'a> DataRecord<'a> {
     pub fn feature_pointers(&self, alloc: Global, ruin: u8) -> Result<Pointers, DatasetFault>
         ensures { Gives result (unless_deleted ruin ((reading self.now).pointers (codes "FSPT"))) }
     {
-        if ruin == 2 {
+        if ruin == DELETE {
             return Ok(Pointers::new(alloc));
         }
         let row = &self.rows.feature().fspt;
@@ -164,7 +167,7 @@ impl<'a> DataRecord<'a> {
     pub fn flat(&self, alloc: Global, ruin: u8) -> Result<Coords, DatasetFault>
         ensures { Gives result (unless_deleted ruin ((reading self.now).coords (codes "SG2D"))) }
     {
-        if ruin == 2 {
+        if ruin == DELETE {
             return Ok(Coords::new(alloc));
         }
         let row = &self.rows.vector().sg2d;
@@ -176,7 +179,7 @@ impl<'a> DataRecord<'a> {
     pub fn deep(&self, alloc: Global, ruin: u8) -> Result<Coords, DatasetFault>
         ensures { Gives result (unless_deleted ruin ((reading self.now).coords (codes "SG3D"))) }
     {
-        if ruin == 2 {
+        if ruin == DELETE {
             return Ok(Coords::new(alloc));
         }
         let row = &self.rows.vector().sg3d;
@@ -188,7 +191,7 @@ impl<'a> DataRecord<'a> {
     pub fn related(&self, alloc: Global, ruin: u8) -> Result<RelatedList, DatasetFault>
         ensures { Gives result (unless_deleted ruin ((reading self.now).related (codes "FFPT"))) }
     {
-        if ruin == 2 {
+        if ruin == DELETE {
             return Ok(RelatedList::new(alloc));
         }
         let row = &self.rows.feature().ffpt;

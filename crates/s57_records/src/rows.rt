@@ -66,7 +66,9 @@ impl<'a> Model for Rows<'a> {
 
     ghost view = { λ rows. rows.descriptors.now };
 
-    ghost invariant = { λ rows. (rows.general ≡ general_rows rows.descriptors.now) × (rows.vector ≡ vector_rows rows.descriptors.now) × (rows.feature ≡ feature_rows rows.descriptors.now) };
+    ghost invariant = { λ rows. (rows.general ≡ general_rows rows.descriptors.now)
+        × (rows.vector ≡ vector_rows rows.descriptors.now)
+        × (rows.feature ≡ feature_rows rows.descriptors.now) };
 }
 
 /// Finds the rows of general information.

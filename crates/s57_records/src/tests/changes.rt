@@ -6,19 +6,26 @@ use chart_model::{Control, Coord, Foid, Name};
 use std::test::Fail;
 
 #[test]
-fn deletion_of_a_node(rt: HostRuntime) -> Result<(), Fail> {
-    let bytes = b"00147 L   0900041   22 4DSID5800VRID4858\x1e\
+fn deletions_of_a_node_and_a_feature(rt: HostRuntime) -> Result<(), Fail> {
+    let bytes = b"00227 L   0900052   23 4DSID58000VRID48058FRID69106\x1e\
         0000;&   \x1fDSNM!EDTN!UPDN!ISDT!PROF!AGEN\x1f(3A,A(8),b11,b12)\x1e\
         0000;&   \x1fRCNM!RCID!RVER!RUIN\x1f(b11,b14,b12,b11)\x1e\
+        0000;&   \x1fRCNM!RCID!PRIM!GRUP!OBJL!RVER!RUIN\x1f(b11,b14,2b11,2b12,b11)\x1e\
         00061 D     00032   21 4DSID290\x1e\
         AA5TEST1.000\x1f2\x1f1\x1f20240131\x02&\x02\x1e\
         00040 D     00031   11 4VRID90\x1e\
-        n\x07\0\0\0\x04\0\x02\x1e";
+        n\x07\0\0\0\x04\0\x02\x1e\
+        00045 D     00032   21 4FRID130\x1e\
+        d\x09\0\0\0\x03\x02.\x01\x05\0\x02\x1e";
     let file = read(rt.alloc(), bytes)?;
     let dataset = read_dataset(rt.alloc(), &file)?;
-    let change = dataset.changes.as_slice().first().ok_or("a change")?;
-    assert_eq!(rt; change.target, Name { rcnm: 110, rcid: 7 });
-    assert_eq!(rt; (change.ruin, change.version), (2, 4));
+    let [node, feature] = dataset.changes.as_slice() else {
+        return Err(Fail::from("two changes"));
+    };
+    assert_eq!(rt; node.target, Name { rcnm: 110, rcid: 7 });
+    assert_eq!(rt; (node.ruin, node.version), (2, 4));
+    assert_eq!(rt; feature.target, Name { rcnm: 100, rcid: 9 });
+    assert_eq!(rt; (feature.ruin, feature.version), (2, 5));
     Ok(())
 }
 

@@ -1,4 +1,4 @@
-use Rattle.std.proofs.Common.{◌≡◌, ◌∙◌, ◌+◌, ◌*◌, ◌-◌, ◌<◌, ℕ, sym, ap, arith, rules, length, drop, get_or, true}
+use Rattle.std.proofs.Common.{◌≡◌, ◌∙◌, ◌+◌, ◌*◌, ℕ, sym, ap, arith, rules, drop, get_or, true}
 use Rattle.std.proofs.lemmas.Bool.Decides.{nat_tests}
 use Rattle.std.specs.Char.{is_ascii_digit, digit_value}
 use Rattle.s57_fields.proofs.Digits.{scanned, digits_up_to-none, digits_up_to-is, scanned-other, scanned-over, scanned-more, scanned-all, digit_is}

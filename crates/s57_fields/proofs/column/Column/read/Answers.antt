@@ -1,4 +1,4 @@
-use Rattle.std.proofs.Common.{◌≡◌, ◌∙◌, ℕ, List, sym, ap, arith, rules, true}
+use Rattle.std.proofs.Common.{◌≡◌, ◌∙◌, sym, ap, arith, rules, true}
 use Rattle.std.specs.Str.{bytes_eq}
 use Rattle.s57_fields.specs.declared.fault.FieldFault.TheVariants.{Value as BadValue}
 use Rattle.s57_fields.specs.Columns.{before, every, read_each}

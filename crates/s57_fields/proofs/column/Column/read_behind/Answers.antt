@@ -1,10 +1,8 @@
-use Rattle.std.proofs.Common.{◌≡◌, ◌∙◌, ℕ, ◌+◌, List, ◌++◌, drop, sym, ap, subst, arith}
+use Rattle.std.proofs.Common.{◌∙◌, ◌+◌, drop, sym, ap, subst, arith}
 use Rattle.std.specs.Prelude.{All}
 use Rattle.std.proofs.lemmas.List.Elements.{All-push}
-use Rattle.iso8211_records.specs.declared.value.Value.{Value}
-use Rattle.s57_fields.specs.declared.fault.FieldFault.{FieldFault}
 use Rattle.s57_fields.specs.declared.fault.FieldFault.TheVariants.{Value as BadValue}
-use Rattle.s57_fields.specs.Answers.{or_fault}
+use Rattle.chart_model.specs.Answers.{or_fault}
 use Rattle.s57_fields.specs.Columns.{before, every, read_each}
 use Rattle.s57_fields.proofs.Every.{every-drop, read_on, read_fails, read_done, Fails-as}
 use Rattle.s57_fields.proofs.column.Column.read_behind.Goals as goal

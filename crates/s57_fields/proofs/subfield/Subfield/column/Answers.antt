@@ -1,4 +1,4 @@
-use Rattle.std.proofs.Common.{◌≡◌, subst}
+use Rattle.std.proofs.Common.{subst}
 use Rattle.s57_fields.specs.Answers.{GivesBy}
 use Rattle.s57_fields.proofs.Fieldwise.{column_in-is}
 use Rattle.s57_fields.proofs.subfield.Subfield.column.Goals as goal

@@ -5,7 +5,7 @@ use Rattle.std.proofs.lemmas.Iterator.Consumers.{YieldsList-at}
 use Rattle.chart_model.specs.Record.{AreCoords}
 use Rattle.s57_fields.proofs.Joined.{coordinates-are}
 use Rattle.s57_fields.specs.Lists.{coordinates}
-use Rattle.s57_fields.proofs.lists.coordinates.Goals as goal
+use Rattle.s57_fields.proofs.positions.coordinates.Goals as goal
 
 pub returns-clause-joined : goal.returns-clause-joined
 returns-clause-joined c =

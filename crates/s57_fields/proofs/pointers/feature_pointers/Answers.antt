@@ -3,16 +3,17 @@ use Rattle.std.proofs.lemmas.Iterator.{YieldsList-from_map, YieldsList-from_zip,
 use Rattle.std.proofs.lemmas.Iterator.Adapters.{YieldsList-from_vec}
 use Rattle.std.proofs.lemmas.Iterator.Consumers.{YieldsList-at}
 use Rattle.std.specs.Prelude.{All}
+use Rattle.chart_model.specs.Codes.{NULL}
 use Rattle.s57_fields.proofs.Joined.{feature_pointers-topi}
 use Rattle.s57_fields.specs.Lists.{feature_pointers}
-use Rattle.s57_fields.proofs.lists.feature_pointers.Goals as goal
+use Rattle.s57_fields.proofs.pointers.feature_pointers.Goals as goal
 
 pub returns-clause-joined : goal.returns-clause-joined
 returns-clause-joined c =
     c.from_vec.ensures
     ∙ subst (λ r. IfOk r (λ joined. joined.items ≡ feature_pointers c.args.names.items c.args.ornts.items c.args.usags.items c.args.masks.items)) c.in_ok-joined.was
     (items_from_collect c.collect.result c.collect.ensures.ran
-    (YieldsList-from_map _ (λ it. record { target = it.0.0.0; ornt = it.0.0.1; usag = it.0.1; topi = 255; mask = it.1 })
+    (YieldsList-from_map _ (λ it. record { target = it.0.0.0; ornt = it.0.0.1; usag = it.0.1; topi = NULL; mask = it.1 })
     (YieldsList-at c.map.ensures.source
     (YieldsList-from_zip
     (YieldsList-at c.zip-3.ensures.first (YieldsList-from_zip
@@ -26,4 +27,4 @@ returns-clause-joined c =
 
 pub returns-clause-topi : goal.returns-clause-topi
 returns-clause-topi c =
-    subst (λ pointers. All (λ pointer. pointer.topi ≡ 255) pointers) (sym (returns-clause-joined c)) (feature_pointers-topi c.args.names.items c.args.ornts.items c.args.usags.items c.args.masks.items)
+    subst (λ pointers. All (λ pointer. pointer.topi ≡ NULL) pointers) (sym (returns-clause-joined c)) (feature_pointers-topi c.args.names.items c.args.ornts.items c.args.usags.items c.args.masks.items)

@@ -3,7 +3,7 @@ use Rattle.std.proofs.lemmas.Iterator.{YieldsList-from_map, YieldsList-from_zip,
 use Rattle.std.proofs.lemmas.Iterator.Adapters.{YieldsList-from_vec}
 use Rattle.std.proofs.lemmas.Iterator.Consumers.{YieldsList-at}
 use Rattle.s57_fields.specs.Lists.{vector_pointers}
-use Rattle.s57_fields.proofs.lists.vector_pointers.Goals as goal
+use Rattle.s57_fields.proofs.pointers.vector_pointers.Goals as goal
 
 pub returns : goal.returns
 returns c =
