@@ -15,7 +15,8 @@ use Rattle.update_apply.specs.Fault.{fault_of}
 use Rattle.update_apply.specs.Changed.{changed}
 use Rattle.update_sequence.specs.declared.fault.BuildFault.{BuildFault}
 use Rattle.update_sequence.specs.declared.fault.BuildFault.TheVariants as of_build
-use Rattle.update_sequence.specs.Built.{begun, unless, ◌>>=◌, folded, built}
+use Rattle.chart_model.specs.Answers.{unless, ◌>>=◌}
+use Rattle.update_sequence.specs.Built.{begun, folded, built}
 use Rattle.update_sequence.proofs.DataSets.{ok_is}
 
 -- ---- steps that succeed

@@ -1,5 +1,5 @@
 -- Changes, one after the other.
-use Rattle.std.proofs.Common.{◌≡◌, ℕ, ◌+◌, ◌<◌, List, ◌∷◌, length, get_or, drop, Option, None, Result, Err, refl, sym, ◌∙◌, ap}
+use Rattle.std.proofs.Common.{◌≡◌, ℕ, ◌+◌, ◌<◌, List, [], ◌∷◌, ◌++◌, length, get_or, drop, Option, None, Result, Ok, Err, refl, sym, ◌∙◌, ap}
 use Rattle.std.specs.Option.{option_map}
 use Rattle.chart_model.specs.Cell.{CellValue}
 use Rattle.chart_model.specs.Change.{Change}
@@ -10,7 +10,8 @@ use Rattle.update_apply.specs.declared.fault.ChangeFault.TheVariants as of_chang
 use Rattle.update_sequence.specs.declared.fault.BuildFault.{BuildFault}
 use Rattle.update_sequence.specs.declared.fault.BuildFault.TheVariants as of_build
 use Rattle.update_sequence.specs.Answers.{GivesBuilt, fault_of_change}
-use Rattle.update_sequence.specs.Built.{unless, ◌>>=◌, folded}
+use Rattle.chart_model.specs.Answers.{unless, ◌>>=◌}
+use Rattle.update_sequence.specs.Built.{folded, folded_after}
 use Rattle.update_sequence.proofs.Places.{from_place}
 
 -- what a change and those after it make, by the fault of the change
@@ -20,6 +21,28 @@ after_change cell change rest fault = unless (option_map of_build.Change fault) 
 pub folded-cons : (cell : CellValue) (change : Change) (rest : List Change) → folded cell (change ∷ rest) ≡ after_change cell change rest (fault_of cell change)
 unfolding folded
 folded-cons cell change rest = refl
+
+-- ---- lists behind one another
+
+bind-ok-again : (r : Result CellValue BuildFault) → (r >>= (λ x. Ok x)) ≡ r
+bind-ok-again (Ok x) = refl
+bind-ok-again (Err fault) = refl
+
+bind-bind : (r : Result CellValue BuildFault) (f g : CellValue → Result CellValue BuildFault) → (r >>= (λ x. f x >>= g)) ≡ ((r >>= f) >>= g)
+bind-bind (Ok x) f g = refl
+bind-bind (Err fault) f g = refl
+
+pub folded-one : (cell : CellValue) (change : Change) → folded cell (change ∷ []) ≡ unless (option_map of_build.Change (fault_of cell change)) (changed cell change)
+unfolding folded
+folded-one cell change = bind-ok-again (unless (option_map of_build.Change (fault_of cell change)) (changed cell change))
+
+pub folded-append : (cell : CellValue) (first rest : List Change) → folded cell (first ++ rest) ≡ folded_after (folded cell first) rest
+unfolding folded
+folded-append cell [] rest = refl
+folded-append cell (change ∷ first) rest =
+    let made : Result CellValue BuildFault = unless (option_map of_build.Change (fault_of cell change)) (changed cell change) in
+    (λ i. made >>= (λ after. folded-append after first rest i))
+    ∙ bind-bind made (λ after. folded after first) (λ after. folded after rest)
 
 pub folded-made : (cell after : CellValue) (changes : List Change) (i : ℕ) (change : Change) → i < length changes → change ≡ get_or changes i change →
     None ≡ fault_of cell change → after ≡ changed cell change → folded after (drop (i + 1) changes) ≡ folded cell (drop i changes)

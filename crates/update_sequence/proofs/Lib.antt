@@ -6,7 +6,8 @@ mod Folding
 mod Charts
 mod Rebuilding
 mod SoundLists
+mod Accepted
 mod Held
 mod OneName
 mod LocalChanges
-mod Notes
+mod NameLists

@@ -1,11 +1,9 @@
 -- Changes that can't break what other records are.
-use Rattle.std.proofs.Common.{◌≡◌, ◌≢◌, ◌⊎◌, inl, inr, ◌<◌, ◌≤◌, ℕ, ◌+◌, ◌-◌, ◌==◌, Bool, true, false, not, ◌&&◌, ◌||◌, if◌then◌else◌, List, [], ◌∷◌, ◌++◌, length, get_or, take, drop, Option, Some, None, Ok, IfSome, IsSome, IsNone, is_some, is_none, option_map, refl, sym, ap, ◌∙◌, subst, arith}
-use Rattle.std.specs.List.{AllByRecursion, list_all}
+use Rattle.std.proofs.Common.{◌≡◌, ◌≢◌, ◌⊎◌, inl, inr, ◌≤◌, ℕ, ◌+◌, ◌-◌, ◌==◌, Bool, true, false, not, ◌&&◌, ◌||◌, if◌then◌else◌, List, [], ◌∷◌, ◌++◌, length, take, drop, Option, Some, None, Ok, IfSome, IsSome, IsNone, is_some, is_none, option_map, refl, sym, ap, ◌∙◌, subst, arith}
+use Rattle.std.specs.List.{AllByRecursion}
 use Rattle.std.specs.FinMap as map
 use Rattle.std.specs.Ordering.{eq_by_cmp}
 use Rattle.std.proofs.lemmas.Bool.{true≢false, eqb-true, or_cases, and_parts, not-true, not-false}
-use Rattle.std.proofs.lemmas.List.Elements.{All-get_or}
-use Rattle.std.proofs.lemmas.List.Sums.{AllPass-from_list_all}
 use Rattle.std.proofs.lemmas.List.{length-append, length-take, length-drop, nil_from_length}
 use Rattle.chart_model.specs.declared.name.Name.{Name}
 use Rattle.chart_model.specs.declared.cell.Vector.{Vector}
@@ -13,22 +11,20 @@ use Rattle.chart_model.specs.declared.dataset.Header.{Header}
 use Rattle.chart_model.specs.declared.update_record.Control.{Control}
 use Rattle.chart_model.specs.Cell.{CellValue}
 use Rattle.chart_model.specs.Change.{Change}
-use Rattle.chart_model.specs.Names.{name_cmp}
+use Rattle.chart_model.specs.Names.{name_cmp, edited_at, edited_in}
 use Rattle.area_rings.specs.Kept.{StandsFor}
 use Rattle.chart_closure.specs.Closed.{fault_at, IsClosed}
 use Rattle.chart_closure.specs.Kept.{KeepsRecords, HasSame}
 use Rattle.update_apply.specs.declared.fault.ChangeFault.{ChangeFault}
 use Rattle.update_apply.specs.declared.fault.ChangeFault.TheVariants as fault
 use Rattle.update_apply.specs.Edited.{edited, edited_by}
-use Rattle.update_apply.specs.Fault.{is_feature, kept_vector, kept_feature, inserts, deletes, modifies, when, first_of, count_fault, edit_faults, kept_faults, fault_by, fault_of}
-use Rattle.update_apply.specs.Changed.{changed, changed_in, modified_in, inserted_vector, inserted_feature, modified_vector, modified_feature}
-use Rattle.update_sequence.specs.declared.undo.Saved.{Saved}
+use Rattle.chart_model.specs.Answers.{when, first_of}
+use Rattle.update_apply.specs.Fault.{is_feature, kept_vector, kept_feature, inserts, deletes, modifies, count_fault, edit_faults, kept_faults, fault_by, fault_of}
+use Rattle.update_apply.specs.Changed.{changed, changed_in, inserted_vector, inserted_feature, modified_vector, modified_feature}
 use Rattle.update_sequence.specs.Built.{begun, folded}
 use Rattle.update_sequence.specs.Extended.{keeps_coords, is_local, are_local, are_sound}
-use Rattle.update_sequence.specs.Undone.{TellsVectors, TellsFeatures}
 use Rattle.update_sequence.proofs.Charts.{folded-keeps}
 use Rattle.update_sequence.proofs.OneName.{ChangedAt, same_name, get-new, vectors-at, features-at}
-use Rattle.update_sequence.proofs.Notes.{tells-apart}
 
 -- ---- what it says of a change that it is local
 
@@ -133,8 +129,8 @@ modified-is : (records : map.FinMap name_cmp Vector) (change : Change) (kept : V
     → changed_in inserted_vector modified_vector records change ≡ map.insert records change.target (modified_vector change kept)
 modified-is records change kept so there =
     ap (λ (n : ℕ). if n == 1 then map.insert records change.target (inserted_vector change)
-    else if n == 2 then map.remove records change.target else modified_in inserted_vector modified_vector records change (map.get records change.target)) (eqb-true change.ruin 3 so)
-    ∙ ap (modified_in inserted_vector modified_vector records change) there
+    else if n == 2 then map.remove records change.target else edited_in (modified_vector change) records change.target) (eqb-true change.ruin 3 so)
+    ∙ ap (edited_at (modified_vector change) records change.target) there
 
 module _ (cell : CellValue) (change : Change) (local : is_local change ≡ true) (none : fault_of cell change ≡ None) where
   -- under the changed name
@@ -214,44 +210,51 @@ keeps-all chart after header changes local made =
     folded-keeps (KeepsRecords chart) (λ change. is_local change ≡ true) (λ cell change here local none. keeps-next chart cell change here local none)
     (begun (Some chart) header) after changes (keeps-itself chart header) (each-local changes local) made
 
--- each of changes that are local is
-pub local-at : (changes : List Change) (i : ℕ) (change : Change) → i < length changes → change ≡ get_or changes i change → are_local changes ≡ true → is_local change ≡ true
-local-at changes i change within is local =
-    subst (λ x. is_local x ≡ true) (sym is) (All-get_or (λ x. is_local x ≡ true) changes i change within (AllPass-from_list_all is_local changes local))
+-- ---- records that no change names
 
--- a noted record has no fault where none has one
-found-sound : (after : CellValue) (name : Name) (entries : List (Name × Saved)) → list_all (λ entry. is_none (fault_at after entry.0)) entries ≡ true → IsSome (map.find name_cmp name entries) → IsNone (fault_at after name)
-found-sound after name [] sound some = absurd (true≢false (sym some))
-found-sound after name (entry ∷ rest) sound some = by (eq_by_cmp name_cmp name entry.0) refl some (found-sound after name rest sounds.1)
+-- a local change of another name leaves the records of a name
+same-next : (chart cell : CellValue) (change : Change) (name : Name) → HasSame chart cell name → is_local change ≡ true → eq_by_cmp name_cmp name change.target ≡ false
+    → HasSame chart (changed cell change) name
+same-next chart cell change name same local apart = record {
+  vector = (vectors-at cell change (local-stays change local)).others name apart ∙ same.vector;
+  feature = (features-at cell change (local-stays change local)).others name apart ∙ same.feature;
+}
+
+-- a record that changes name has no fault, or they leave what is under the name
+named-or-apart : (after : CellValue) (changes : List Change) → AllByRecursion (λ change. IsNone (fault_at after change.target)) changes → (name : Name)
+    → IsNone (fault_at after name) ⊎ AllByRecursion (λ change. eq_by_cmp name_cmp name change.target ≡ false) changes
+named-or-apart after [] sound name = inr tt
+named-or-apart after (change ∷ rest) sound name = by (eq_by_cmp name_cmp name change.target) refl (named-or-apart after rest sound.1 name)
   where
-    sounds : (is_none (fault_at after entry.0) ≡ true) × (list_all (λ entry. is_none (fault_at after entry.0)) rest ≡ true)
-    sounds = and_parts (is_none (fault_at after entry.0)) _ sound
+    by : (b : Bool) → eq_by_cmp name_cmp name change.target ≡ b → IsNone (fault_at after name) ⊎ AllByRecursion (λ other. eq_by_cmp name_cmp name other.target ≡ false) rest
+        → IsNone (fault_at after name) ⊎ AllByRecursion (λ other. eq_by_cmp name_cmp name other.target ≡ false) (change ∷ rest)
+    by true same later = inl (subst (λ n. IsNone (fault_at after n)) (sym (same_name name change.target same)) sound.0)
+    by false apart (inl none) = inl none
+    by false apart (inr others) = inr (apart, others)
 
-    by : (b : Bool) → eq_by_cmp name_cmp name entry.0 ≡ b → IsSome (if b then Some entry.1 else map.find name_cmp name rest)
-        → (IsSome (map.find name_cmp name rest) → IsNone (fault_at after name)) → IsNone (fault_at after name)
-    by true same some later = subst (λ n. IsNone (fault_at after n)) (sym (same_name name entry.0 same)) (not-true (is_some (fault_at after entry.0)) sounds.0)
-    by false apart some later = later some
+each-sound : (after : CellValue) (changes : List Change) → are_sound after changes ≡ true → AllByRecursion (λ change. IsNone (fault_at after change.target)) changes
+each-sound after [] sound = tt
+each-sound after (change ∷ rest) sound =
+    let parts = and_parts (is_none (fault_at after change.target)) (are_sound after rest) sound in
+    (not-true (is_some (fault_at after change.target)) parts.0, each-sound after rest parts.1)
 
--- a record has no fault where it is noted, and is as it was where it isn't
-sound-or-same : (notes : map.FinMap name_cmp Saved) (chart after : CellValue) → TellsVectors notes chart.vectors after.vectors → TellsFeatures notes chart.features after.features
-    → are_sound after notes ≡ true → (name : Name) → IsNone (fault_at after name) ⊎ HasSame chart after name
-sound-or-same notes chart after vectors features sound name = by (map.get notes name) refl
-  where
-    by : (o : Option Saved) → map.get notes name ≡ o → IsNone (fault_at after name) ⊎ HasSame chart after name
-    by None none = inr (record {
-      vector = tells-apart (λ (saved : Saved). saved.vector) notes chart.vectors after.vectors vectors name none;
-      feature = tells-apart (λ (saved : Saved). saved.feature) notes chart.features after.features features name none;
-    })
-    by (Some saved) is = inl (found-sound after name (map.entries notes) sound (ap is_some (sym (map.get-entries notes name) ∙ is)))
+both : {A : Type 0} (P Q : A → Type 0) (xs : List A) → AllByRecursion P xs → AllByRecursion Q xs → AllByRecursion (λ x. P x × Q x) xs
+both P Q [] p q = tt
+both P Q (x ∷ xs) p q = ((p.0, q.0), both P Q xs p.1 q.1)
 
 -- so a closed chart stays closed, by the law of charts
 pub stays-closed : ((before after : CellValue) → IsClosed before → KeepsRecords before after → ((name : Name) → IsNone (fault_at after name) ⊎ HasSame before after name) → IsClosed after)
-    → (notes : map.FinMap name_cmp Saved) (chart start after : CellValue) (header : Header) (changes : List Change) → start ≡ begun (Some chart) header → IsClosed chart → are_local changes ≡ true
-    → folded start changes ≡ Ok after → TellsVectors notes start.vectors after.vectors → TellsFeatures notes start.features after.features → are_sound after notes ≡ true → IsClosed after
-stays-closed law notes chart start after header changes is closed local made vectors features sound =
-    law chart after closed
-    (keeps-all chart after header changes local (ap (λ (cell : CellValue). folded cell changes) (sym is) ∙ made))
-    (sound-or-same notes chart after
-    (subst (λ (cell : CellValue). TellsVectors notes cell.vectors after.vectors) is vectors)
-    (subst (λ (cell : CellValue). TellsFeatures notes cell.features after.features) is features)
-    sound)
+    → (chart after : CellValue) (header : Header) (changes : List Change) → IsClosed chart → folded (begun (Some chart) header) changes ≡ Ok after
+    → are_local changes ≡ true → are_sound after changes ≡ true → IsClosed after
+stays-closed law chart after header changes closed made local sound =
+    law chart after closed (keeps-all chart after header changes local made) (λ name. sound-or-same name)
+  where
+    sound-or-same : (name : Name) → IsNone (fault_at after name) ⊎ HasSame chart after name
+    sound-or-same name =
+        elim (named-or-apart after changes (each-sound after changes sound) name) [
+          | inl none ↦ inl none
+          | inr others ↦ inr (folded-keeps (λ cell. HasSame chart cell name) (λ change. (is_local change ≡ true) × (eq_by_cmp name_cmp name change.target ≡ false))
+              (λ cell change same here none. same-next chart cell change name same here.0 here.1)
+              (begun (Some chart) header) after changes (record { vector = refl; feature = refl })
+              (both (λ change. is_local change ≡ true) (λ change. eq_by_cmp name_cmp name change.target ≡ false) changes (each-local changes local) others) made)
+        ]

@@ -1,5 +1,5 @@
 -- Records that are others under one name at most.
-use Rattle.std.proofs.Common.{◌≡◌, true, false, true≢false, cond, if◌then◌else◌, Option, Some, None, refl, sym, ap, ◌∙◌, subst}
+use Rattle.std.proofs.Common.{◌≡◌, true, false, true≢false, cond, if◌then◌else◌, Option, Some, None, refl, sym, ap, ◌∙◌}
 use Rattle.std.specs.declared.cmp.Ordering.{Ordering}
 use Rattle.std.specs.declared.cmp.Ordering.TheVariants.{Less, Equal, Greater}
 use Rattle.std.specs.Option.{IsSome, is_some}
@@ -7,11 +7,11 @@ use Rattle.std.specs.Ordering.{is_eq, eq_by_cmp}
 use Rattle.std.specs.Cmp.{tied_itself}
 use Rattle.std.specs.FinMap as map
 use Rattle.chart_model.specs.declared.name.Name.{Name}
-use Rattle.chart_model.specs.Names.{name_cmp}
+use Rattle.chart_model.specs.Names.{name_cmp, edited_at}
 use Rattle.chart_model.proofs.Names.{name_cmp-total, name_cmp-IsAntisymmetric}
 use Rattle.chart_model.specs.Cell.{CellValue}
 use Rattle.chart_model.specs.Change.{Change}
-use Rattle.update_apply.specs.Changed.{changed_in, modified_in, changed, inserted_vector, inserted_feature, modified_vector, modified_feature}
+use Rattle.update_apply.specs.Changed.{changed_in, changed, inserted_vector, inserted_feature, modified_vector, modified_feature}
 use Rattle.update_apply.specs.Fault.{is_feature, inserts, deletes}
 
 tied : (r : Ordering) → is_eq r ≡ true → r ≡ Equal
@@ -48,7 +48,7 @@ changed_in-at : {V : Type 0} (inserted : Change → V) (modified : Change → V 
     → ChangedAt change.target records (changed_in inserted modified records change)
 changed_in-at {V} inserted modified records change stays =
     let name = change.target in
-    let modified_here : Option V → map.FinMap name_cmp V = modified_in inserted modified records change in
+    let modified_here : Option V → map.FinMap name_cmp V = edited_at (modified change) records name in
     elim (inserts change) as (λ b. ChangedAt name records (if b then map.insert records name (inserted change)
     else if deletes change then map.remove records name else modified_here (map.get records name))) [
       | true ↦ at-insert name records (inserted change)
@@ -76,18 +76,3 @@ module _ (cell : CellValue) (change : Change) (stays : deletes change ≡ false)
         | true ↦ changed_in-at inserted_feature modified_feature cell.features change stays
         | false ↦ at-same change.target cell.features
       ]
-
--- the records of a cell that was changed, or left, under one name
-pub record Touched (name : Name) (before after : CellValue) : Type 0 where
-  pub vectors : ChangedAt name before.vectors after.vectors
-  pub features : ChangedAt name before.features after.features
-
-pub touched-none : (name : Name) (before after : CellValue) → after ≡ before → Touched name before after
-touched-none name before after same =
-    subst (Touched name before) (sym same) (record { vectors = at-same name before.vectors; features = at-same name before.features })
-
-pub touched-change : (name : Name) (before after : CellValue) (change : Change) → name ≡ change.target → deletes change ≡ false → after ≡ changed before change → Touched name before after
-touched-change name before after change named stays made =
-    subst (Touched name before) (sym made)
-    (subst (λ n. Touched n before (changed before change)) (sym named)
-    (record { vectors = vectors-at before change stays; features = features-at before change stays }))

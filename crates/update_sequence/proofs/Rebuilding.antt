@@ -12,7 +12,8 @@ use Rattle.update_sequence.specs.declared.fault.BuildFault.{BuildFault}
 use Rattle.update_sequence.specs.declared.fault.BuildFault.TheVariants as of_build
 use Rattle.update_sequence.specs.declared.fault.ReadFault.{ReadFault}
 use Rattle.update_sequence.specs.Reading.{data_set_in, tags_read}
-use Rattle.update_sequence.specs.Built.{begun, unless, ◌>>=◌, folded, built}
+use Rattle.chart_model.specs.Answers.{unless, ◌>>=◌}
+use Rattle.update_sequence.specs.Built.{begun, folded, built}
 use Rattle.update_sequence.specs.Rebuilt.{chart_with, chart_after, rebuilt, data_records_of}
 use Rattle.update_sequence.specs.Sound.{IsSoundList}
 use Rattle.update_sequence.proofs.Places.{around_place}

@@ -1,6 +1,7 @@
 -- The chart that a data set builds on the one that is held.
-use Rattle.std.specs.Prelude.{List, [], ◌∷◌, Option, Some, None, Result, Ok, Err}
+use Rattle.std.specs.Prelude.{List, [], ◌∷◌, Option, Some, None, Result, Ok}
 use Rattle.std.specs.Option.{option_map}
+use Rattle.chart_model.specs.Answers.{unless, ◌>>=◌}
 use Rattle.chart_model.specs.Cell.{CellValue, empty_cell}
 use Rattle.chart_model.specs.Change.{Change}
 use Rattle.chart_model.specs.Dataset.{DatasetValue}
@@ -20,22 +21,18 @@ abbrev pub begun : Option CellValue → Header → CellValue
 begun None header = empty_cell header
 begun (Some chart) header = record chart { header = header_after chart.header header }
 
--- the cell, unless there is a fault
-abbrev pub unless : Option BuildFault → CellValue → Result CellValue BuildFault
-unless None cell = Ok cell
-unless (Some fault) cell = Err fault
-
-infixl 10 ◌>>=◌
-abbrev pub ◌>>=◌ : Result CellValue BuildFault → (CellValue → Result CellValue BuildFault) → Result CellValue BuildFault
-(Ok cell) >>= next = next cell
-(Err fault) >>= next = Err fault
-
 -- the changes, one after the other, or the fault of the first that can't be made
 unfoldable pub folded : CellValue → List Change → Result CellValue BuildFault
 folded cell [] = Ok cell
 folded cell (change ∷ rest) = do
   after ← unless (option_map of_build.Change (fault_of cell change)) (changed cell change)
   folded after rest
+
+-- changes made of what others leave, or the fault of those
+abbrev pub folded_after : Result CellValue BuildFault → List Change → Result CellValue BuildFault
+folded_after made changes = do
+  cell ← made
+  folded cell changes
 
 -- the chart that the last change leaves, where it is closed
 unfoldable pub built : Option CellValue → DatasetValue → Result CellValue BuildFault

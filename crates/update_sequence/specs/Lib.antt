@@ -4,5 +4,4 @@ pub mod Judged
 pub mod Built
 pub mod Rebuilt
 pub mod Sound
-pub mod Undone
 pub mod Extended

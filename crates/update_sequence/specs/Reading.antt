@@ -1,5 +1,6 @@
 -- The data set that the bytes of a cell file are, or the first fault.
-use Rattle.std.specs.Prelude.{ℕ, List, [], ◌∷◌, codes, Result, Ok, Err}
+use Rattle.std.specs.Prelude.{ℕ, List, [], ◌∷◌, codes, Result}
+use Rattle.chart_model.specs.Answers.{◌>>=◌, or_fault_as}
 use Rattle.chart_model.specs.Dataset.{DatasetValue}
 use Rattle.iso8211_records.specs.FileValue.{FileValue}
 use Rattle.iso8211_records.specs.RecordFile.{record_file_of}
@@ -29,16 +30,12 @@ abbrev pub fault_of_records : DatasetFault → ReadFault
 fault_of_records of_records.NoMemory = NoMemory
 fault_of_records fault = Dataset fault
 
--- the data set, or the fault of the records
-abbrev pub from_records : Result DatasetValue DatasetFault → Result DatasetValue ReadFault
-from_records (Ok dataset) = Ok dataset
-from_records (Err fault) = Err (fault_of_records fault)
+-- the data set of a file's records, or the fault of the records
+abbrev pub data_set_of : FileValue → Result DatasetValue ReadFault
+data_set_of file = or_fault_as fault_of_records (dataset_of (all_subfields (layout_at file.descriptors) 1 file.records))
 
--- the data set of the file's records, or the fault of the file
-abbrev pub from_file : Result FileValue FileFault → Result DatasetValue ReadFault
-from_file (Ok file) = from_records (dataset_of (all_subfields (layout_at file.descriptors) 1 file.records))
-from_file (Err fault) = Err (fault_of_file fault)
-
--- the data set that the bytes of a cell file are
+-- the data set that the bytes of a cell file are, or the fault of the file
 unfoldable pub data_set_in : List ℕ → Result DatasetValue ReadFault
-data_set_in bytes = from_file (record_file_of tags_read bytes)
+data_set_in bytes = do
+  file ← or_fault_as fault_of_file (record_file_of tags_read bytes)
+  data_set_of file

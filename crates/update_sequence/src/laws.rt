@@ -1,16 +1,24 @@
 //! Laws of the definitions.
 
 ghost use Rattle.std.specs.Prelude.{◌≡◌, ◌≢◌, ℕ, false, List, [], ◌∷◌, ◌++◌, Option, Some, None, Ok, All, IfSome};
+ghost use Rattle.std.specs.Option.{option_map};
+ghost use Rattle.std.specs.Result.{IsOk, result_ok};
 ghost use Rattle.chart_closure.specs.Closed.{IsClosed};
+ghost use Rattle.chart_model.specs.Answers.{unless};
 ghost use Rattle.chart_model.specs.Cell.{CellValue, IsCell};
-ghost use Rattle.chart_model.specs.Change.{IsChange};
+ghost use Rattle.chart_model.specs.Change.{Change, IsChange};
 ghost use Rattle.chart_model.specs.Dataset.{DatasetValue, IsDataset};
 ghost use Rattle.chart_model.specs.State.{IsHolding};
 ghost use Rattle.chart_model.specs.declared.state.Held.{Held};
 ghost use Rattle.update_sequence.specs.Reading.{data_set_in};
-ghost use Rattle.update_sequence.specs.Built.{built, header_after};
-ghost use Rattle.update_sequence.specs.Rebuilt.{chart_after, held_after, held_by, rebuilt};
-ghost use Rattle.update_sequence.specs.Sound.{Follows, IsSoundList};
+ghost use Rattle.update_apply.specs.Changed.{changed};
+ghost use Rattle.update_apply.specs.Fault.{fault_of};
+ghost use Rattle.update_sequence.specs.declared.fault.BuildFault.TheVariants as of_build;
+ghost use Rattle.update_sequence.specs.Built.{built, folded, folded_after, header_after};
+ghost use Rattle.update_sequence.specs.Judged.{judged};
+ghost use Rattle.update_sequence.specs.declared.effect.Effect.TheVariants.{Replace, Extend, Cancel};
+ghost use Rattle.update_sequence.specs.Rebuilt.{chart_after, held_after, held_by, rebuilt, numbers_of, cancelled};
+ghost use Rattle.update_sequence.specs.Sound.{Follows, IsSoundList, IsFileOf, Leaves};
 
 use chart_closure::first_is_least;
 use s57_records::{changes_are_kept, data_sets_are_kept};
@@ -65,6 +73,23 @@ pub fn sound_lists_grow()
     ensures before { (key : List ℕ) (files rest : List (List ℕ)) → files ≢ [] → IsSoundList key (files ++ rest) → IsSoundList key files }
 {}
 
+/// What is live once a file is taken over: a base file stands alone, any other follows those before it.
+/// The files are a sound list, and what they leave is the held numbers and the chart of the file's effect.
+pub fn accepted_files_follow()
+    ensures replaces { (key file : List ℕ) (dataset : DatasetValue) (held : Option Held) → IsFileOf key file dataset →
+        judged held dataset ≡ Ok Replace → IsOk (built None dataset) →
+        Leaves key (file ∷ []) (Some (numbers_of dataset.header)) (result_ok (built None dataset)) }
+    ensures extends { (key : List ℕ) (files : List (List ℕ)) (file : List ℕ) (dataset : DatasetValue) → IsSoundList key files → IsFileOf key file dataset →
+        judged (held_by files) dataset ≡ Ok Extend → IsOk (built (rebuilt files) dataset) →
+        Leaves key (files ++ file ∷ []) (Some (numbers_of dataset.header)) (result_ok (built (rebuilt files) dataset)) }
+    ensures cancels { (key : List ℕ) (files : List (List ℕ)) (file : List ℕ) (dataset : DatasetValue) → IsSoundList key files → IsFileOf key file dataset →
+        judged (held_by files) dataset ≡ Ok Cancel → Leaves key (files ++ file ∷ []) (option_map cancelled (held_by files)) None }
+{
+    files_are_data_sets();
+    one_file_more();
+    sound_lists_grow();
+}
+
 /// A sound list of files, the numbers that it leaves and the chart that it builds can be held under its
 /// key, and the chart is closed.
 pub fn sound_lists_are_held()
@@ -77,3 +102,11 @@ pub fn sound_lists_are_held()
     charts_are_cells();
     headers_follow();
 }
+
+/// The changes of a data set are made in turn: what a list and one behind it make of a cell is what the
+/// second makes of what the first leaves.
+pub fn changes_are_made_in_turn()
+    ensures none { (cell : CellValue) → folded cell [] ≡ Ok cell }
+    ensures one { (cell : CellValue) (change : Change) → folded cell (change ∷ []) ≡ unless (option_map of_build.Change (fault_of cell change)) (changed cell change) }
+    ensures turn { (cell : CellValue) (first rest : List Change) → folded cell (first ++ rest) ≡ folded_after (folded cell first) rest }
+{}

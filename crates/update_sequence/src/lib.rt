@@ -7,23 +7,22 @@
 
 mod chart;
 mod effect;
+mod extension;
 mod fault;
 mod files;
-mod in_place;
 mod laws;
 mod local;
 mod read;
 #[cfg(test)]
 mod tests;
-mod undo;
 
 pub use chart::build;
 pub use effect::{Effect, judge};
+pub use extension::extend;
 pub use fault::{BuildFault, ReadFault, SequenceFault};
 pub use files::rebuild;
-pub use in_place::extend;
 pub use laws::{
-    charts_are_cells, charts_are_closed, files_are_data_sets, headers_follow, one_file_more,
-    sound_lists_are_held, sound_lists_grow,
+    accepted_files_follow, changes_are_made_in_turn, charts_are_cells, charts_are_closed,
+    files_are_data_sets, headers_follow, one_file_more, sound_lists_are_held, sound_lists_grow,
 };
 pub use read::read_data_set;

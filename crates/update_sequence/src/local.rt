@@ -3,17 +3,8 @@
 ghost use Rattle.std.specs.Prelude.{◌≡◌};
 ghost use Rattle.update_sequence.specs.Extended.{keeps_coords, is_local, are_local};
 
+use chart_model::codes::{DELETE, FEATURE, INSERT, MODIFY};
 use chart_model::{Control, UpdateRecord};
-
-/// The kind of features (S-57 Part 3, RCNM).
-const FEATURE: u8 = 100;
-
-// The update instructions of records (S-57 Part 3, RUIN), which those of lists share.
-const INSERT: u8 = 1;
-
-const DELETE: u8 = 2;
-
-const MODIFY: u8 = 3;
 
 /// Whether an edit of coordinates takes none away.
 fn keeps_coords(edit: Option<Control>) -> bool

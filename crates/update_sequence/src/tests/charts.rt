@@ -1,26 +1,23 @@
 //! A small chart, extended.
 
-ghost use Rattle.std.specs.Prelude.{◌≡◌, ◌<◌, true, length, IfOk, IsTrue};
+ghost use Rattle.std.specs.Prelude.{IfOk};
 ghost use Rattle.chart_closure.specs.Closed.{IsClosed};
-ghost use Rattle.chart_model.specs.State.{IsFileLength};
 
 use super::files::{
-    BASE, DELETED, GENERAL, INSERTED, MOVED, POINTING, SECOND, data_set_of, file_of,
+    BASE, DELETED, GENERAL, HIDDEN, INSERTED, MOVED, POINTING, SECOND, data_set_of,
 };
-use crate::{
-    BuildFault, build, charts_are_closed, extend, judge, one_file_more, read_data_set, rebuild,
-    sound_lists_grow,
-};
+use crate::{BuildFault, build, charts_are_closed, extend};
 use chart_closure::ClosureFault;
-use chart_model::{Cell, Dataset, FileList, Name, Octets};
-use chart_ports::Steps;
+use chart_model::{Cell, Name};
 use std::alloc::Global;
-use std::marker::Brand;
-use std::sync::ledger::{Blank, Ledger};
 use std::test::Fail;
 use update_apply::ChangeFault;
 
 const NODE: Name = Name { rcnm: 110, rcid: 1 };
+
+/// What is looked at of a chart: its update, how many vector records and features it has, and the
+/// longitude of the first node.
+pub(crate) type Seen = (u32, usize, usize, Option<i32>);
 
 /// The chart of the base file: a node, and a feature that points to it.
 fn base_chart(alloc: Global) -> Result<Cell, Fail>
@@ -34,8 +31,8 @@ fn base_chart(alloc: Global) -> Result<Cell, Fail>
     Ok(build(alloc, None, &dataset)?)
 }
 
-/// What is looked at of a chart: its update, how many records it has, and where the node is.
-fn seen(chart: &Cell) -> (u32, usize, usize, Option<i32>) {
+/// What is looked at of a chart.
+pub(crate) fn seen(chart: &Cell) -> Seen {
     let place = match chart.vectors.get(NODE) {
         Some(node) => node.coords.as_slice().first().map(|coord| coord.x),
         None => None,
@@ -49,10 +46,7 @@ fn seen(chart: &Cell) -> (u32, usize, usize, Option<i32>) {
 }
 
 /// Extends the chart by an update with these data records, and tells what came of it.
-fn extended(
-    alloc: Global,
-    records: &[&[u8]],
-) -> Result<(Result<(), BuildFault>, (u32, usize, usize, Option<i32>)), Fail> {
+fn extended(alloc: Global, records: &[&[u8]]) -> Result<(Result<(), BuildFault>, Seen), Fail> {
     let mut chart = base_chart(alloc)?;
     let dataset = data_set_of(alloc, records)?;
     if dataset.cancels || dataset.base {
@@ -98,42 +92,28 @@ fn a_refused_update_leaves_the_chart(rt: HostRuntime) -> Result<(), Fail> {
     Ok(())
 }
 
-/// Whether a file may come first.
-fn is_first(bytes: &[u8], dataset: &Dataset) -> bool
-    ensures { IsTrue result → IsFileLength (length bytes.now) × (dataset.now.base ≡ true) }
-{
-    bytes.len() <= 8_388_608 && dataset.base
-}
-
-/// The chart of a list of one file, which is read, judged and built first.
-fn rebuilt_alone<C: Ledger>(
-    alloc: Global,
-    bytes: Vec<u8>,
-    blank: Blank,
-) -> Result<Option<Cell>, Fail>
-    requires name { blank.name ≡ C.name }
-    requires parts { blank.parts ≡ C.parts }
-    requires share { 0 < C.parts }
-{
-    one_file_more();
-    sound_lists_grow();
-    let mut steps = Steps::<C>::new(blank);
-    let dataset = read_data_set(alloc, bytes.as_slice(), &mut steps)?;
-    if !is_first(bytes.as_slice(), &dataset) {
-        return Err("the file is no base file".into());
+/// The chart that an update with these data records builds on the chart of the base file.
+fn built(alloc: Global, records: &[&[u8]]) -> Result<Seen, Fail> {
+    let chart = base_chart(alloc)?;
+    let dataset = data_set_of(alloc, records)?;
+    if dataset.cancels || dataset.base {
+        return Err("it is an update".into());
     }
-    judge(None, &dataset)?;
-    build(alloc, None, &dataset)?;
-    let mut files = FileList::new(alloc);
-    files.push(Octets::from_vec(bytes))?;
-    Ok(rebuild(alloc, &files, &mut steps)?)
+    let after = build(alloc, Some(&chart), &dataset)?;
+    Ok(seen(&after))
 }
 
 #[test]
-fn a_base_file_is_rebuilt(rt: HostRuntime) -> Result<(), Fail> {
+fn a_chart_is_built_on_another(rt: HostRuntime) -> Result<(), Fail> {
     let alloc = rt.alloc();
-    let bytes = file_of(alloc, &[BASE])?;
-    let chart = rebuilt_alone::<Brand>(alloc, bytes, Blank::new(1))?.ok_or("it has a chart")?;
-    assert_eq!(rt; seen(&chart), (0, 1, 1, Some(100)));
+    let table: [(&[&[u8]], Seen); 3] = [
+        (&[GENERAL, MOVED], (1, 1, 1, Some(8))),
+        (&[GENERAL, HIDDEN], (1, 1, 0, Some(100))),
+        (&[GENERAL, HIDDEN, DELETED, SECOND], (1, 1, 0, None)),
+    ];
+    for (records, wanted) in table {
+        assert_eq!(rt; built(alloc, records)?, wanted);
+        assert_eq!(rt; extended(alloc, records)?, (Ok(()), wanted));
+    }
     Ok(())
 }

@@ -40,6 +40,14 @@ n\x01\0\0\0\xff\xff\xff\x1e";
 pub(crate) const GENERAL: &[u8] = b"00063 D   0900034   23 4DSID29000\x1e\
 AA5TEST1.001\x1f1\x1f1\x1f20240201\x02&\x02\x1e";
 
+/// The general information of the second update.
+pub(crate) const NEXT: &[u8] = b"00063 D   0900034   23 4DSID29000\x1e\
+AA5TEST1.002\x1f1\x1f2\x1f20240202\x02&\x02\x1e";
+
+/// The general information of an update that cancels the cell.
+pub(crate) const CANCELLING: &[u8] = b"00063 D   0900034   23 4DSID29000\x1e\
+AA5TEST1.002\x1f0\x1f2\x1f20240202\x02&\x02\x1e";
+
 /// The node at another place.
 pub(crate) const MOVED: &[u8] = b"00076 D   0900052   23 4VRID09000SGCC06009SG2D09015\x1e\
 n\x01\0\0\0\x02\0\x03\x1e\
@@ -54,6 +62,10 @@ n\x01\0\0\0\x01\0\x01\x1e\
 /// The node deleted, to which a feature points.
 pub(crate) const DELETED: &[u8] = b"00043 D   0900034   23 4VRID09000\x1e\
 n\x01\0\0\0\x02\0\x02\x1e";
+
+/// The feature deleted.
+pub(crate) const HIDDEN: &[u8] = b"00047 D   0900034   23 4FRID13000\x1e\
+d\x01\0\0\0\x01\x02*\0\x02\0\x02\x1e";
 
 /// A second feature, which points to a node that isn't there.
 pub(crate) const POINTING: &[u8] = b"00083 D   0900052   23 4FRID13000FOID09013FSPT09022\x1e\
