@@ -12,3 +12,4 @@ pub mod PageNames
 pub mod SharedTrees
 pub mod Pages
 pub mod Outcomes
+pub mod SetOrders

@@ -24,11 +24,11 @@ both true b p q = q
 both false b p q = p
 
 -- the first of two, where it is there
-abbrev or_else : {X : Type 0} → Option X → Option X → Option X
+abbrev pub or_else : {X : Type 0} → Option X → Option X → Option X
 or_else None y = y
 or_else (Some x) y = Some x
 
-or_else-None : {X : Type 0} (o : Option X) → or_else o None ≡ o
+pub or_else-None : {X : Type 0} (o : Option X) → or_else o None ≡ o
 or_else-None None = refl
 or_else-None (Some x) = refl
 
@@ -40,7 +40,7 @@ module _ {K X : Type 0} (R : K → K → Ordering) where
   EachEntry P [] = Unit {0}
   EachEntry P (e ∷ es) = P e.0 e.1 × EachEntry P es
 
-  find-below : (k : K) (es : List (K × X)) → T (below_all R k es) → find R k es ≡ None
+  pub find-below : (k : K) (es : List (K × X)) → T (below_all R k es) → find R k es ≡ None
   find-below k [] below = refl
   find-below k (e ∷ es) below = ap (λ b. cond b (Some e.1) (find R k es)) (ap is_eq (less _ (first _ _ below))) ∙ find-below k es (second _ _ below)
 

@@ -1,5 +1,5 @@
 -- Attributes by code.
-use Rattle.std.specs.Prelude.{ℕ, List, [], ◌∷◌, T, nat_eq, if◌then◌else◌}
+use Rattle.std.specs.Prelude.{ℕ, Bool, true, false, nat_le, List, [], ◌∷◌, T, nat_eq, if◌then◌else◌}
 use Rattle.std.specs.List.{fold}
 use Rattle.std.specs.Prelude as list
 use Rattle.std.specs.Ordering.{nat_cmp}
@@ -33,3 +33,17 @@ set_attr attrs setting =
 -- settings, one after the other
 abbrev pub set_attrs : Attrs → List Attr → Attrs
 set_attrs attrs settings = fold set_attr attrs settings
+
+-- attributes as they stand, put one after the other
+abbrev pub put_attrs : Attrs → List Attr → Attrs
+put_attrs attrs kept = fold (λ m attr. map.insert m attr.code attr.value) attrs kept
+
+-- settings of what attributes leave that are put
+abbrev pub merged : Attrs → List Attr → List Attr → Attrs
+merged attrs kept settings = set_attrs (put_attrs attrs kept) settings
+
+-- whether an attribute comes before the settings: its code isn't above theirs
+abbrev pub keeps_first : List Attr → List Attr → Bool
+keeps_first [] settings = false
+keeps_first (attr ∷ kept) [] = true
+keeps_first (attr ∷ kept) (setting ∷ settings) = nat_le attr.code setting.code

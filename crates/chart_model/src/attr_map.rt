@@ -8,13 +8,16 @@ ghost use Rattle.std.specs.Ordering.{nat_cmp};
 ghost use Rattle.std.specs.declared.cmp.Ordering.TheVariants.{Less, Equal, Greater};
 ghost use Rattle.std.specs.Cmp.Lexicographic.{pointwise};
 ghost use Rattle.std.specs.Vec.{vec_len, vec_capacity};
+ghost use Rattle.std.specs.VecDeque.{deque_len};
 ghost use Rattle.std.specs.FinMap as map;
-ghost use Rattle.chart_model.specs.Attrs.{AreRising, attrs_of, set_attr, set_attrs, texts_by_code};
+ghost use Rattle.chart_model.specs.Attrs.{AreRising, attrs_of, keeps_first, merged, set_attr, set_attrs, texts_by_code};
 
 use crate::octets::Octets;
 use crate::record::Attr;
 use std::alloc::{AllocError, Global};
+use std::collections::VecDeque;
 use std::marker::Model;
+use std::mem;
 
 /// The text that removes an attribute: the delete character alone (S-57 Part 3).
 const DELETED: [u8; 1] = [0x7F];
@@ -102,15 +105,49 @@ fn set_one(attrs: &mut Vec<Attr>, setting: Attr)
     }
 }
 
-/// Sets or removes attributes one after the other. It takes no memory.
-fn set_each(attrs: &mut Vec<Attr>, settings: Vec<Attr>)
+/// Whether the next in turn is an attribute: it comes before the settings of its code and of higher codes.
+fn keeps_first(kept: &VecDeque<Attr>, given: &VecDeque<Attr>) -> bool
+    ensures { result ≡ keeps_first kept.now.items given.now.items }
+{
+    match (kept.front(), given.front()) {
+        (Some(attr), Some(setting)) => attr.code <= setting.code,
+        (Some(_), None) => true,
+        (None, _) => false,
+    }
+}
+
+/// Puts the attribute, or does the setting, that is next in turn. It takes no memory.
+fn step(attrs: &mut Vec<Attr>, kept: &mut VecDeque<Attr>, given: &mut VecDeque<Attr>)
     requires rising { AreRising attrs.old.items }
-    requires room { vec_len attrs.old + vec_len settings ≤ vec_capacity attrs.old }
-    ensures map { attrs_of attrs.new.items ≡ set_attrs (attrs_of attrs.old.items) settings.items }
+    requires kept { AreRising kept.old.items }
+    requires room { vec_len attrs.old + deque_len kept.old + deque_len given.old ≤ vec_capacity attrs.old }
+    requires some { 0 < deque_len kept.old + deque_len given.old }
+    ensures map { merged (attrs_of attrs.new.items) kept.new.items given.new.items ≡ merged (attrs_of attrs.old.items) kept.old.items given.old.items }
+    ensures rising { AreRising attrs.new.items }
+    ensures kept { AreRising kept.new.items }
+    ensures room { vec_len attrs.new + deque_len kept.new + deque_len given.new ≤ vec_capacity attrs.new }
+    ensures fewer { deque_len kept.new + deque_len given.new < deque_len kept.old + deque_len given.old }
+{
+    if keeps_first(kept, given) {
+        if let Some(attr) = kept.pop_front() {
+            put(attrs, attr.code, attr.value);
+        }
+    } else if let Some(setting) = given.pop_front() {
+        set_one(attrs, setting);
+    }
+}
+
+/// Puts attributes and does settings, the lower codes first: so where the settings come in the order of
+/// their codes, each text is put behind all others. It takes no memory.
+fn merge(attrs: &mut Vec<Attr>, mut kept: VecDeque<Attr>, mut given: VecDeque<Attr>)
+    requires rising { AreRising attrs.old.items }
+    requires kept { AreRising kept.items }
+    requires room { vec_len attrs.old + deque_len kept + deque_len given ≤ vec_capacity attrs.old }
+    ensures map { attrs_of attrs.new.items ≡ merged (attrs_of attrs.old.items) kept.items given.items }
     ensures rising { AreRising attrs.new.items }
 {
-    for setting in settings {
-        set_one(attrs, setting);
+    while !kept.is_empty() || !given.is_empty() {
+        step(attrs, &mut kept, &mut given);
     }
 }
 
@@ -172,9 +209,12 @@ impl AttrMap {
         ensures ok { OnOk result (self.new ≡ set_attrs self.old settings.now) }
         ensures err { OnErr result (self.new ≡ self.old) }
     {
-        let settings = settings.to_vec(alloc)?;
-        self.attrs.reserve(settings.len())?;
-        set_each(&mut self.attrs, settings);
+        let mut given = settings.to_vec(alloc)?;
+        given.sort_by_key(|setting| setting.code)?;
+        let mut attrs = Vec::with_capacity(alloc, self.attrs.len() + given.len())?;
+        let kept = mem::replace(&mut self.attrs, Vec::new(alloc));
+        merge(&mut attrs, VecDeque::from(kept), VecDeque::from(given));
+        self.attrs = attrs;
         Ok(())
     }
 }
