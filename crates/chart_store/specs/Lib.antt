@@ -1,0 +1,5 @@
+pub mod Refusal
+pub mod Fault
+pub mod Loaded
+pub mod Live
+pub mod Taken

@@ -1,0 +1,43 @@
+-- What is kept of all that is held: a cell is what its live files leave, one after the other from nothing.
+use Rattle.std.specs.Prelude.{◌≡◌, ◌≤◌, ℕ, List, fold, Some, IfSome, Result, Ok, Err}
+use Rattle.std.specs.FinMap as map
+use Rattle.chart_model.specs.State.{StateValue}
+use Rattle.chart_model.specs.declared.state.Holding.{Holding}
+use Rattle.update_sequence.specs.Rebuilt.{held_by, rebuilt}
+use Rattle.update_sequence.specs.Sound.{IsSoundList}
+use Rattle.chart_store.specs.declared.refusal.Refusal.{Refusal}
+use Rattle.chart_store.specs.Loaded.{HoldingsByKey, nothing_held, live_bytes, STORE_LIMIT, Loaded, loaded}
+
+-- the live files of the cell are a sound list, and numbers and chart are those that they leave
+pub record IsLive (key : List ℕ) (here : Holding) : Type 0 where
+  pub sound : IsSoundList key here.files
+  pub held : held_by here.files ≡ Some here.held
+  pub chart : rebuilt here.files ≡ here.chart
+
+-- each cell that is held is so
+abbrev pub AreLive : HoldingsByKey → Type 0
+AreLive cells = (key : List ℕ) → IfSome (map.get cells key) (IsLive key)
+
+-- the count that is kept of the bytes of all live files
+pub record IsCounted (state : StateValue) (bytes : ℕ) : Type 0 where
+  pub counted : bytes ≡ live_bytes state.cells
+  pub within : bytes ≤ STORE_LIMIT
+
+pub record IsStore (state : StateValue) (bytes : ℕ) : Type 0 where
+  pub count : IsCounted state bytes
+  pub live : AreLive state.cells
+
+-- ---- files, one after the other
+
+-- a refusal leaves all as it was
+abbrev pub state_or : StateValue → Result Loaded Refusal → StateValue
+state_or state (Ok done) = done.state
+state_or state (Err refusal) = state
+
+-- what is held after a file, accepted or refused
+abbrev pub state_after : StateValue → List ℕ → StateValue
+state_after state file = state_or state (loaded state file)
+
+-- what is held after files, one after the other from nothing held
+unfoldable pub state_by : List (List ℕ) → StateValue
+state_by files = fold state_after nothing_held files

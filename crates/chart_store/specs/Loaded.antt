@@ -1,0 +1,132 @@
+-- A file that is loaded: by the live files of its cell it is accepted, or refused.
+use Rattle.std.specs.Prelude.{◌≡◌, ℕ, ◌&&◌, not, nat_le, List, [], ◌∷◌, ◌++◌, length, sum_by, Option, Some, None, unwrap_or, Result, Ok, Err, if◌then◌else◌}
+use Rattle.std.specs.FinMap as map
+use Rattle.chart_model.specs.Answers.{◌>>=◌, or_fault_as}
+use Rattle.chart_model.specs.Dataset.{DatasetValue}
+use Rattle.chart_model.specs.Keys.{key_cmp}
+use Rattle.chart_model.specs.State.{StateValue}
+use Rattle.chart_model.specs.declared.dataset.Header.{Header}
+use Rattle.chart_model.specs.declared.state.Held.{Held}
+use Rattle.chart_model.specs.declared.state.Holding.{Holding}
+use Rattle.update_sequence.specs.Reading.{data_set_in}
+use Rattle.update_sequence.specs.Judged.{judged}
+use Rattle.update_sequence.specs.Built.{built}
+use Rattle.update_sequence.specs.Rebuilt.{numbers_of, held_by, rebuilt}
+use Rattle.update_sequence.specs.declared.effect.Effect.{Effect}
+use Rattle.update_sequence.specs.declared.effect.Effect.TheVariants.{Replace, Extend, Cancel}
+use Rattle.update_sequence.specs.declared.fault.BuildFault.{BuildFault}
+use Rattle.chart_store.specs.declared.refusal.Refusal.{Refusal}
+use Rattle.chart_store.specs.declared.refusal.Refusal.TheVariants.{FileLong, CellsFull, StoreFull}
+use Rattle.chart_store.specs.declared.fault.SubmitFault.{SubmitFault}
+use Rattle.chart_store.specs.declared.load.Accepted.{Accepted}
+use Rattle.chart_store.specs.Refusal.{refusal_of_read, refusal_of_sequence, refusal_of_build}
+use Rattle.chart_store.specs.Fault.{GivesBy, or_refused}
+
+abbrev pub HoldingsByKey : Type 0
+HoldingsByKey = map.FinMap key_cmp Holding
+
+-- no cell is held
+abbrev pub nothing_held : StateValue
+nothing_held = record { cells = map.empty }
+
+-- ---- the live files of one cell
+
+-- the live files, none where nothing is held
+abbrev pub files_of : Option Holding → List (List ℕ)
+files_of None = []
+files_of (Some here) = here.files
+
+-- a base file stands alone, any other follows those before it
+abbrev pub files_after : List (List ℕ) → Effect → List ℕ → List (List ℕ)
+files_after files Replace file = file ∷ []
+files_after files Extend file = files ++ file ∷ []
+files_after files Cancel file = files ++ file ∷ []
+
+-- a base file has to build a chart on nothing, and an update on the chart of the files; one that cancels builds none
+abbrev pub buildable : List (List ℕ) → Effect → DatasetValue → Result (Unit {0}) BuildFault
+buildable files Replace dataset = built None dataset >>= λ chart. Ok tt
+buildable files Extend dataset = built (rebuilt files) dataset >>= λ chart. Ok tt
+buildable files Cancel dataset = Ok tt
+
+-- What is held of a cell by its live files: the numbers and the chart that the whole files leave. Live files leave
+-- numbers; the header is that of the last.
+abbrev pub holding_of : List (List ℕ) → Header → Holding
+holding_of files header = record {
+  held = unwrap_or (held_by files) (numbers_of header);
+  files = files;
+  chart = rebuilt files;
+}
+
+-- ---- the limits
+
+-- the most bytes of a file
+abbrev pub FILE_LIMIT : ℕ
+FILE_LIMIT = 8388608
+
+-- a file of no more bytes
+abbrev pub within_limit : List ℕ → Result (List ℕ) Refusal
+within_limit file = if nat_le (length file) FILE_LIMIT then Ok file else Err (FileLong FILE_LIMIT)
+
+-- the most cells that are held, cancelled ones too
+abbrev pub CELLS_LIMIT : ℕ
+CELLS_LIMIT = 32
+
+-- room for the cell of this key, which may be held already
+abbrev pub cells_within : HoldingsByKey → List ℕ → Result (Unit {0}) Refusal
+cells_within cells key =
+    if not (map.contains_key cells key) && nat_le CELLS_LIMIT (map.len cells) then Err (CellsFull CELLS_LIMIT) else Ok tt
+
+-- the bytes of whole files
+abbrev pub bytes_of : List (List ℕ) → ℕ
+bytes_of files = sum_by length files
+
+-- the bytes of all live files
+abbrev pub live_bytes : HoldingsByKey → ℕ
+live_bytes cells = sum_by (λ (here : Holding). bytes_of here.files) (map.values cells)
+
+-- the most bytes of all live files
+abbrev pub STORE_LIMIT : ℕ
+STORE_LIMIT = 67108864
+
+-- cells whose live files have no more bytes
+abbrev pub store_within : HoldingsByKey → Result StateValue Refusal
+store_within cells =
+    if nat_le (live_bytes cells) STORE_LIMIT then Ok (record { cells = cells }) else Err (StoreFull (live_bytes cells))
+
+-- ---- a file
+
+-- a file that was accepted: its cell, the numbers that are held of it now, and all that is held
+pub record Loaded : Type 0 where
+  pub key : List ℕ
+  pub held : Held
+  pub state : StateValue
+
+-- the cells with this one put in, as far as there is room
+abbrev pub put : StateValue → List ℕ → Holding → Result Loaded Refusal
+put state key here = do
+  after ← store_within (map.insert state.cells key here)
+  Ok (record { key = key; held = here.held; state = after })
+
+-- a file and the data set that it is, by the live files of the cell
+abbrev pub accepted : StateValue → DatasetValue → List ℕ → List (List ℕ) → Result Loaded Refusal
+accepted state dataset file files = do
+  effect ← or_fault_as refusal_of_sequence (judged (held_by files) dataset)
+  _ ← cells_within state.cells dataset.header.key
+  _ ← or_refused refusal_of_build (buildable files effect dataset)
+  put state dataset.header.key (holding_of (files_after files effect file) dataset.header)
+
+-- what is held once the file is accepted, or the first refusal
+unfoldable pub loaded : StateValue → List ℕ → Result Loaded Refusal
+loaded state file = do
+  bytes ← within_limit file
+  dataset ← or_refused refusal_of_read (data_set_in bytes)
+  accepted state dataset bytes (files_of (map.get state.cells dataset.header.key))
+
+-- ---- answers
+
+abbrev pub loaded_with : StateValue → Accepted → Loaded
+loaded_with state cell = record { key = cell.key; held = cell.held; state = state }
+
+-- the answer with what is held now is what was to be answered, unless memory ran out
+abbrev pub GivesLoaded : Result Accepted SubmitFault → StateValue → Result Loaded Refusal → Type 0
+GivesLoaded answer state wanted = GivesBy (loaded_with state) answer wanted

@@ -1,0 +1,99 @@
+-- The same step by what is held of the cell, which the code looks at: of a live cell it is what its files leave.
+use Rattle.std.specs.Prelude.{◌≡◌, ℕ, false, List, [], ◌∷◌, ◌++◌, IfSome, IsSome, Option, Some, None, Result, Ok, Err}
+use Rattle.std.specs.Option.{option_map, option_and_then}
+use Rattle.std.specs.FinMap as map
+use Rattle.chart_model.specs.Answers.{◌>>=◌, or_fault_as}
+use Rattle.chart_model.specs.Cell.{CellValue}
+use Rattle.chart_model.specs.Dataset.{DatasetValue}
+use Rattle.chart_model.specs.State.{StateValue, IsHolding}
+use Rattle.chart_model.specs.declared.dataset.Header.{Header}
+use Rattle.chart_model.specs.declared.state.Held.{Held}
+use Rattle.chart_model.specs.declared.state.Holding.{Holding}
+use Rattle.update_sequence.specs.Judged.{judged}
+use Rattle.update_sequence.specs.Built.{built}
+use Rattle.update_sequence.specs.Rebuilt.{numbers_of, cancelled}
+use Rattle.update_sequence.specs.declared.effect.Effect.{Effect}
+use Rattle.update_sequence.specs.declared.effect.Effect.TheVariants.{Replace, Extend, Cancel}
+use Rattle.chart_store.specs.declared.refusal.Refusal.{Refusal}
+use Rattle.chart_store.specs.declared.fault.SubmitFault.{SubmitFault}
+use Rattle.chart_store.specs.Refusal.{refusal_of_sequence, refusal_of_build}
+use Rattle.chart_store.specs.Fault.{Gives, GivesBy, or_refused}
+use Rattle.chart_store.specs.Loaded.{HoldingsByKey, files_of, files_after, bytes_of, cells_within, store_within, Loaded, put}
+use Rattle.chart_store.specs.Live.{IsLive}
+
+abbrev pub held_of : Option Holding → Option Held
+held_of before = option_map (λ (here : Holding). here.held) before
+
+abbrev pub chart_of : Option Holding → Option CellValue
+chart_of before = option_and_then (λ (here : Holding). here.chart) before
+
+-- the numbers after a file: one that cancels leaves edition and update as they were
+abbrev pub held_after : Option Holding → Effect → Header → Held
+held_after (Some here) Cancel header = cancelled here.held
+held_after None Cancel header = cancelled (numbers_of header)
+held_after before Replace header = numbers_of header
+held_after before Extend header = numbers_of header
+
+-- the chart that a data set builds
+abbrev pub chart_built : Option CellValue → DatasetValue → Result (Option CellValue) Refusal
+chart_built chart dataset = do
+  after ← or_refused refusal_of_build (built chart dataset)
+  Ok (Some after)
+
+abbrev pub chart_after : Option CellValue → Effect → DatasetValue → Result (Option CellValue) Refusal
+chart_after chart Replace dataset = chart_built None dataset
+chart_after chart Extend dataset = chart_built chart dataset
+chart_after chart Cancel dataset = Ok None
+
+-- the cell with another file
+abbrev pub cell_after : Option Holding → Effect → Held → Option CellValue → List ℕ → Holding
+cell_after before effect held chart file =
+    record { held = held; files = files_after (files_of before) effect file; chart = chart }
+
+-- a data set and its file
+abbrev pub taken : StateValue → DatasetValue → List ℕ → Option Holding → Result Loaded Refusal
+taken state dataset file before = do
+  effect ← or_fault_as refusal_of_sequence (judged (held_of before) dataset)
+  _ ← cells_within state.cells dataset.header.key
+  chart ← chart_after (chart_of before) effect dataset
+  put state dataset.header.key (cell_after before effect (held_after before effect dataset.header) chart file)
+
+-- the bytes of the live files that a file replaces
+abbrev pub replaced_bytes : Option Holding → Effect → ℕ
+replaced_bytes before Replace = bytes_of (files_of before)
+replaced_bytes before Extend = 0
+replaced_bytes before Cancel = 0
+
+-- ---- a chart that is extended in its place
+
+-- a cell extended by an update and its file
+abbrev pub extended : Holding → Held → DatasetValue → List ℕ → Result Holding Refusal
+extended here held dataset file = do
+  chart ← chart_built here.chart dataset
+  Ok (record { held = held; files = here.files ++ file ∷ []; chart = chart })
+
+-- the cells, with one of them extended
+abbrev pub extended_in : HoldingsByKey → List ℕ → Held → DatasetValue → List ℕ → Result HoldingsByKey Refusal
+extended_in cells key held dataset file = do
+  chart ← chart_built (chart_of (map.get cells key)) dataset
+  Ok (map.insert cells key (cell_after (map.get cells key) Extend held chart file))
+
+-- the same, as far as there is room
+abbrev pub extended_within : HoldingsByKey → List ℕ → Held → DatasetValue → List ℕ → Result StateValue Refusal
+extended_within cells key held dataset file = do
+  after ← extended_in cells key held dataset file
+  store_within after
+
+-- a cell with a chart can be extended by an update, and is then one that can be held
+pub record IsExtension (cells : HoldingsByKey) (key : List ℕ) (held : Held) (dataset : DatasetValue) (file : List ℕ) : Type 0 where
+  pub stands : dataset.cancels ≡ false
+  pub update : dataset.base ≡ false
+  pub there : IsSome (chart_of (map.get cells key))
+  pub live : (chart : CellValue) → built (chart_of (map.get cells key)) dataset ≡ Ok chart →
+      IsLive key (cell_after (map.get cells key) Extend held (Some chart) file)
+
+-- ---- answers
+
+-- a value as it is now is what was to be, unless memory ran out
+abbrev pub GivesNow : {A : Type 0} → Result (Unit {0}) SubmitFault → A → Result A Refusal → Type 0
+GivesNow answer now wanted = GivesBy (λ done. now) answer wanted

@@ -1,0 +1,1 @@
+//! Loads worked out by hand.
