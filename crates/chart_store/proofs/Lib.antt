@@ -1,0 +1,7 @@
+mod Weights
+mod Holdings
+mod Answering
+mod Extending
+mod Judging
+mod Loading
+mod Accepting

@@ -1,5 +1,5 @@
 -- The same step by what is held of the cell, which the code looks at: of a live cell it is what its files leave.
-use Rattle.std.specs.Prelude.{◌≡◌, ℕ, false, List, [], ◌∷◌, ◌++◌, IfSome, IsSome, Option, Some, None, Result, Ok, Err}
+use Rattle.std.specs.Prelude.{◌≡◌, ℕ, false, List, [], ◌∷◌, ◌++◌, IfSome, IsSome, Option, Some, None, unwrap_or, Result, Ok, Err}
 use Rattle.std.specs.Option.{option_map, option_and_then}
 use Rattle.std.specs.FinMap as map
 use Rattle.chart_model.specs.Answers.{◌>>=◌, or_fault_as}
@@ -29,10 +29,9 @@ chart_of before = option_and_then (λ (here : Holding). here.chart) before
 
 -- the numbers after a file: one that cancels leaves edition and update as they were
 abbrev pub held_after : Option Holding → Effect → Header → Held
-held_after (Some here) Cancel header = cancelled here.held
-held_after None Cancel header = cancelled (numbers_of header)
 held_after before Replace header = numbers_of header
 held_after before Extend header = numbers_of header
+held_after before Cancel header = cancelled (unwrap_or (held_of before) (numbers_of header))
 
 -- the chart that a data set builds
 abbrev pub chart_built : Option CellValue → DatasetValue → Result (Option CellValue) Refusal
