@@ -18,6 +18,7 @@ use Rattle.chart_model.proofs.Keys.{key_cmp-total, key_cmp-IsAntisymmetric}
 use Rattle.update_sequence.specs.Reading.{data_set_in}
 use Rattle.update_sequence.specs.Judged.{judged}
 use Rattle.update_sequence.specs.Built.{built}
+use Rattle.update_sequence.specs.Rebuilt.{held_by}
 use Rattle.update_sequence.specs.declared.effect.Effect.{Effect}
 use Rattle.update_sequence.specs.declared.effect.Effect.TheVariants.{Replace, Extend, Cancel}
 use Rattle.update_sequence.specs.declared.fault.BuildFault.{BuildFault}
@@ -29,7 +30,7 @@ use Rattle.chart_store.specs.Refusal.{refusal_of_read, refusal_of_sequence, refu
 use Rattle.chart_store.specs.Fault.{or_refused}
 use Rattle.chart_store.specs.Loaded.{HoldingsByKey, nothing_held, files_of, files_after, buildable, holding_of, FILE_LIMIT, STORE_LIMIT, live_bytes, store_within, within_limit, cells_within, Loaded, put, accepted, loaded}
 use Rattle.chart_store.specs.Live.{IsLive, AreLive, state_or, state_after, state_by}
-use Rattle.chart_store.specs.Taken.{held_of, chart_of, held_after, chart_after, cell_after, taken}
+use Rattle.chart_store.specs.Taken.{held_of, chart_of, held_after, chart_after, cell_after, placed, taken}
 use Rattle.chart_store.proofs.Holdings.{AreLive-nothing, AreLive-insert}
 use Rattle.chart_store.proofs.Judging.{effect_says}
 use Rattle.chart_store.proofs.Loading.{Laws, WasLive, live-replace, live-extend, live-cancel, accepted-taken}
@@ -65,8 +66,8 @@ within-long file long =
 within-is : (file bytes : List ℕ) → within_limit file ≡ Ok bytes → (file ≡ bytes) × (length file ≤ FILE_LIMIT)
 within-is file bytes e =
     elim (cases_Bool (leb (length file) FILE_LIMIT)) [
-      | inl yes ↦ (ok_is (sym (ap (λ (b : Bool). cond b (Ok file) (Err (FileLong FILE_LIMIT))) yes) ∙ e), grind (arith, nat_tests, yes))
-      | inr no ↦ absurd (let f = sym (ap (λ (b : Bool). cond b (Ok file) (Err (FileLong FILE_LIMIT))) no) ∙ e in cc)
+      | inl is_so ↦ (ok_is (sym (ap (λ (b : Bool). cond b (Ok file) (Err (FileLong FILE_LIMIT))) is_so) ∙ e), grind (arith, nat_tests, is_so))
+      | inr is_not ↦ absurd (let f = sym (ap (λ (b : Bool). cond b (Ok file) (Err (FileLong FILE_LIMIT))) is_not) ∙ e in cc)
     ]
 
 store_within-is : (cells : HoldingsByKey) (after : StateValue) → store_within cells ≡ Ok after → record { cells = cells } ≡ after
@@ -111,16 +112,28 @@ pub record IsPut (state : StateValue) (dataset : DatasetValue) (done : Loaded) :
 
 pub accepted-is : (state : StateValue) (dataset : DatasetValue) (file : List ℕ) (files : List (List ℕ)) (done : Loaded) → accepted state dataset file files ≡ Ok done → IsPut state dataset done
 accepted-is state dataset file files done e =
-    let j = bound_is _ _ done e in
-    let c = bound_is (cells_within state.cells dataset.header.key) _ done j.2 in
-    let b = bound_is (or_refused refusal_of_build (buildable files j.0 dataset)) _ done c.2 in
-    let p = put-is state dataset.header.key _ done b.2 in
-    record { here = _; keyed = p.0; cells = p.1 }
+    judging (or_fault_as refusal_of_sequence (judged (held_by files) dataset)) (cells_within state.cells dataset.header.key)
+    (λ effect. or_refused refusal_of_build (buildable files effect dataset)) (λ effect. holding_of (files_after files effect file) dataset.header) e
+  where
+    key : List ℕ
+    key = dataset.header.key
+
+    building : (r : Result (Unit {0}) Refusal) (here : Holding) → (r >>= λ _. put state key here) ≡ Ok done → IsPut state dataset done
+    building r here e =
+        let b = bound_is r (λ _. put state key here) done e in
+        let p = put-is state key here done b.2 in
+        record { here = here; keyed = p.0; cells = p.1 }
+
+    judging : (r : Result Effect Refusal) (room : Result (Unit {0}) Refusal) (builds : Effect → Result (Unit {0}) Refusal) (here : Effect → Holding) →
+        (r >>= λ effect. room >>= λ _. builds effect >>= λ _. put state key (here effect)) ≡ Ok done → IsPut state dataset done
+    judging (Ok effect) (Ok done') builds here e = building (builds effect) (here effect) e
+    judging (Ok effect) (Err refusal) builds here e = absurd cc
+    judging (Err refusal) room builds here e = absurd cc
 
 -- ---- another key
 
 apart : (q key : List ℕ) → q ≢ key → eq_by_cmp key_cmp q key ≡ false
-apart q key other = elim (cases_Bool (eq_by_cmp key_cmp q key)) [ | inl yes ↦ absurd (other (key_cmp-IsAntisymmetric q key (tied (key_cmp q key) yes))) | inr no ↦ no ]
+apart q key other = elim (cases_Bool (eq_by_cmp key_cmp q key)) [ | inl is_so ↦ absurd (other (key_cmp-IsAntisymmetric q key (tied (key_cmp q key) is_so))) | inr is_not ↦ is_not ]
   where
     tied : (r : Ordering) → is_eq r ≡ true → r ≡ Equal
     tied Less e = absurd (let f : false ≡ true = e in cc)
@@ -163,11 +176,11 @@ module _ (laws : Laws) where
   taken-live : (state : StateValue) (dataset : DatasetValue) (file : List ℕ) (before : Option Holding) (done : Loaded) → AreLive state.cells → WasLive dataset.header.key before → data_set_in file ≡ Ok dataset →
       IsFileLength (length file) → taken state dataset file before ≡ Ok done → AreLive done.state.cells
   taken-live state dataset file before done live h reads short e =
-      let j = bound_is _ _ done e in
+      let j = bound_is (or_fault_as refusal_of_sequence (judged (held_of before) dataset)) _ done e in
       let w = bound_is (cells_within state.cells dataset.header.key) _ done j.2 in
-      let c = bound_is (chart_after (chart_of before) j.0 dataset) _ done w.2 in
-      let p = put-is state dataset.header.key _ done c.2 in
-      subst AreLive p.1
+      let p = bound_is (placed state dataset file before j.0) _ done w.2 in
+      let c = bound_is (chart_after (chart_of before) j.0 dataset) _ p.0 p.1 in
+      subst AreLive (ap (λ (s : StateValue). s.cells) (store_within-is _ p.0 c.2) ∙ ap (λ (d : Loaded). d.state.cells) (ok_is p.2))
       (AreLive-insert state.cells dataset.header.key _ live
       (next-live before dataset file j.0 c.0 h reads short (fault_is refusal_of_sequence (judged (held_of before) dataset) j.0 j.1) c.1))
 

@@ -5,3 +5,4 @@ mod Extending
 mod Judging
 mod Loading
 mod Accepting
+mod Placing

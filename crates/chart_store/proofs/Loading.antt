@@ -28,9 +28,9 @@ use Rattle.chart_store.specs.declared.refusal.Refusal.{Refusal}
 use Rattle.chart_store.specs.declared.refusal.Refusal.TheVariants.{FileLong}
 use Rattle.chart_store.specs.Refusal.{refusal_of_read, refusal_of_sequence, refusal_of_build}
 use Rattle.chart_store.specs.Fault.{or_refused}
-use Rattle.chart_store.specs.Loaded.{HoldingsByKey, files_of, files_after, buildable, holding_of, FILE_LIMIT, within_limit, cells_within, Loaded, put, accepted, loaded}
+use Rattle.chart_store.specs.Loaded.{HoldingsByKey, files_of, files_after, buildable, holding_of, FILE_LIMIT, within_limit, cells_within, store_within, Loaded, put, accepted, loaded}
 use Rattle.chart_store.specs.Live.{IsLive, AreLive}
-use Rattle.chart_store.specs.Taken.{held_of, chart_of, held_after, chart_built, chart_after, cell_after, taken, IsExtension}
+use Rattle.chart_store.specs.Taken.{held_of, chart_of, held_after, chart_built, chart_after, cell_after, placed, taken, IsExtension}
 use Rattle.chart_store.proofs.Judging.{stands_by_base, SaysExtend, SaysCancel, Says, effect_says, first_accepted}
 
 -- what is held of the cell before, if anything, is what its files leave
@@ -159,24 +159,26 @@ module _ (laws : Laws) where
   built-taken : (state : StateValue) (dataset : DatasetValue) (file : List ℕ) (before : Option Holding) (effect : Effect) → WasLive dataset.header.key before → data_set_in file ≡ Ok dataset →
       IsFileLength (length file) → judged (held_of before) dataset ≡ Ok effect →
       (or_refused refusal_of_build (buildable (files_of before) effect dataset) >>= λ _. put state dataset.header.key (holding_of (files_after (files_of before) effect file) dataset.header))
-      ≡ (chart_after (chart_of before) effect dataset >>= λ chart. put state dataset.header.key (cell_after before effect (held_after before effect dataset.header) chart file))
+      ≡ (placed state dataset file before effect >>= λ after. Ok (record { key = dataset.header.key; held = held_after before effect dataset.header; state = after }))
   built-taken state dataset file before Replace h reads short judges = go (built None dataset) refl
     where
       go : (r : Result CellValue BuildFault) → built None dataset ≡ r →
-          (or_refused refusal_of_build (r >>= λ chart. Ok tt) >>= λ _. put state dataset.header.key (holding_of (files_after (files_of before) Replace file) dataset.header))
-          ≡ ((or_refused refusal_of_build r >>= λ after. Ok (Some after)) >>= λ chart. put state dataset.header.key (cell_after before Replace (numbers_of dataset.header) chart file))
+          (or_refused refusal_of_build (r >>= λ chart. Ok (tt {0})) >>= λ _. put state dataset.header.key (holding_of (files_after (files_of before) Replace file) dataset.header))
+          ≡ (((or_refused refusal_of_build r >>= λ after. Ok (Some after)) >>= λ chart. store_within (map.insert state.cells dataset.header.key (cell_after before Replace (numbers_of dataset.header) chart file)))
+          >>= λ after. Ok (record { key = dataset.header.key; held = numbers_of dataset.header; state = after }))
       go (Ok cell) builds =
           ap (put state dataset.header.key)
           (live-holding dataset.header.key _ dataset.header (live-replace before dataset file cell reads short (effect_says (held_of before) dataset Replace judges) builds))
       go (Err fault) builds = refl
   built-taken state dataset file before Extend h reads short judges =
-      ap (λ (c : Option CellValue). or_refused refusal_of_build (built c dataset >>= λ chart. Ok tt) >>= λ _. put state dataset.header.key (holding_of (files_after (files_of before) Extend file) dataset.header))
+      ap (λ (c : Option CellValue). or_refused refusal_of_build (built c dataset >>= λ chart. Ok (tt {0})) >>= λ _. put state dataset.header.key (holding_of (files_after (files_of before) Extend file) dataset.header))
       (chart-before dataset.header.key before h)
       ∙ go (built (chart_of before) dataset) refl
     where
       go : (r : Result CellValue BuildFault) → built (chart_of before) dataset ≡ r →
-          (or_refused refusal_of_build (r >>= λ chart. Ok tt) >>= λ _. put state dataset.header.key (holding_of (files_after (files_of before) Extend file) dataset.header))
-          ≡ ((or_refused refusal_of_build r >>= λ after. Ok (Some after)) >>= λ chart. put state dataset.header.key (cell_after before Extend (numbers_of dataset.header) chart file))
+          (or_refused refusal_of_build (r >>= λ chart. Ok (tt {0})) >>= λ _. put state dataset.header.key (holding_of (files_after (files_of before) Extend file) dataset.header))
+          ≡ (((or_refused refusal_of_build r >>= λ after. Ok (Some after)) >>= λ chart. store_within (map.insert state.cells dataset.header.key (cell_after before Extend (numbers_of dataset.header) chart file)))
+          >>= λ after. Ok (record { key = dataset.header.key; held = numbers_of dataset.header; state = after }))
       go (Ok cell) builds =
           ap (put state dataset.header.key) (live-holding dataset.header.key _ dataset.header (live-extend before dataset file cell h reads short judges builds))
       go (Err fault) builds = refl
@@ -198,6 +200,6 @@ module _ (laws : Laws) where
           (or_fault_as refusal_of_sequence r >>= λ effect. cells_within state.cells dataset.header.key >>= λ _.
           or_refused refusal_of_build (buildable (files_of before) effect dataset) >>= λ _. put state dataset.header.key (holding_of (files_after (files_of before) effect file) dataset.header))
           ≡ (or_fault_as refusal_of_sequence r >>= λ effect. cells_within state.cells dataset.header.key >>= λ _.
-          chart_after (chart_of before) effect dataset >>= λ chart. put state dataset.header.key (cell_after before effect (held_after before effect dataset.header) chart file))
+          placed state dataset file before effect >>= λ after. Ok (record { key = dataset.header.key; held = held_after before effect dataset.header; state = after }))
       go (Ok effect) judges = room (cells_within state.cells dataset.header.key) _ _ (built-taken state dataset file before effect h reads short judges)
       go (Err fault) judges = refl

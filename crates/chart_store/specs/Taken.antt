@@ -18,7 +18,7 @@ use Rattle.chart_store.specs.declared.refusal.Refusal.{Refusal}
 use Rattle.chart_store.specs.declared.fault.SubmitFault.{SubmitFault}
 use Rattle.chart_store.specs.Refusal.{refusal_of_sequence, refusal_of_build}
 use Rattle.chart_store.specs.Fault.{Gives, GivesBy, or_refused}
-use Rattle.chart_store.specs.Loaded.{HoldingsByKey, files_of, files_after, bytes_of, cells_within, store_within, Loaded, put}
+use Rattle.chart_store.specs.Loaded.{HoldingsByKey, files_of, files_after, bytes_of, cells_within, store_within, Loaded}
 use Rattle.chart_store.specs.Live.{IsLive}
 
 abbrev pub held_of : Option Holding → Option Held
@@ -49,13 +49,19 @@ abbrev pub cell_after : Option Holding → Effect → Held → Option CellValue 
 cell_after before effect held chart file =
     record { held = held; files = files_after (files_of before) effect file; chart = chart }
 
+-- what is held once a data set and its file are put in, as they were judged
+abbrev pub placed : StateValue → DatasetValue → List ℕ → Option Holding → Effect → Result StateValue Refusal
+placed state dataset file before effect = do
+  chart ← chart_after (chart_of before) effect dataset
+  store_within (map.insert state.cells dataset.header.key (cell_after before effect (held_after before effect dataset.header) chart file))
+
 -- a data set and its file
 abbrev pub taken : StateValue → DatasetValue → List ℕ → Option Holding → Result Loaded Refusal
 taken state dataset file before = do
   effect ← or_fault_as refusal_of_sequence (judged (held_of before) dataset)
   _ ← cells_within state.cells dataset.header.key
-  chart ← chart_after (chart_of before) effect dataset
-  put state dataset.header.key (cell_after before effect (held_after before effect dataset.header) chart file)
+  after ← placed state dataset file before effect
+  Ok (record { key = dataset.header.key; held = held_after before effect dataset.header; state = after })
 
 -- the bytes of the live files that a file replaces
 abbrev pub replaced_bytes : Option Holding → Effect → ℕ

@@ -1,13 +1,15 @@
 //! Files that are loaded.
 
-ghost use Rattle.std.specs.Prelude.{◌≡◌, ◌+◌, ◌≤◌, Ok, length, OnErr};
+ghost use Rattle.std.specs.Prelude.{◌≡◌, ◌+◌, ◌≤◌, Ok, length, IfSome, OnErr};
 ghost use Rattle.std.specs.Option.{option_copied};
 ghost use Rattle.std.specs.FinMap as map;
 ghost use Rattle.chart_model.specs.State.{IsFileLength};
 ghost use Rattle.iso8211_records.specs.RecordFile.{data_records_in};
 ghost use Rattle.update_sequence.specs.Reading.{tags_read, data_set_in};
+ghost use Rattle.update_sequence.specs.Judged.{judged};
 ghost use Rattle.chart_store.specs.Loaded.{loaded, GivesLoaded};
-ghost use Rattle.chart_store.specs.Taken.{held_after, taken};
+ghost use Rattle.chart_store.specs.Live.{IsLive, AreLive};
+ghost use Rattle.chart_store.specs.Taken.{held_of, held_after, placed, taken, GivesNow};
 
 use crate::fault::SubmitFault;
 use crate::holding::held_of;
@@ -18,7 +20,7 @@ use chart_ports::Steps;
 use std::alloc::Global;
 use std::sync::ledger::Ledger;
 use update_sequence::{
-    Effect, build, charts_are_cells, files_are_data_sets, judge, one_file_more, read_data_set,
+    Effect, build, files_are_data_sets, judge, one_file_more, read_data_set, sound_lists_are_held,
     sound_lists_grow,
 };
 
@@ -51,6 +53,38 @@ fn held_after(before: Option<&Holding>, effect: Effect, header: &Header) -> Held
     }
 }
 
+/// Puts a data set and its file in, as it was judged: by its effect and the numbers that are held then.
+fn place(
+    alloc: Global,
+    dataset: &Dataset,
+    file: Octets,
+    live: &mut LiveCells,
+    effect: Effect,
+    held: Held,
+) -> Result<(), SubmitFault>
+    requires reads { data_set_in file ≡ Ok dataset.now }
+    requires short { IsFileLength (length file) }
+    requires live { IfSome (map.get live.old.cells dataset.now.header.key) (IsLive dataset.now.header.key) }
+    requires judged { judged (held_of (map.get live.old.cells dataset.now.header.key)) dataset.now ≡ Ok effect }
+    requires held { held ≡ held_after (map.get live.old.cells dataset.now.header.key) effect dataset.now.header }
+    ensures placed { GivesNow result live.new (placed live.old dataset.now file (map.get live.old.cells dataset.now.header.key) effect) }
+    ensures err { OnErr result (live.new ≡ live.old) }
+{
+    files_are_data_sets();
+    one_file_more();
+    sound_lists_grow();
+    sound_lists_are_held();
+    let key = dataset.header.key;
+    match effect {
+        Effect::Replace => {
+            let chart = build(alloc, None, dataset)?;
+            live.put(alloc, key, effect, held, Some(chart), file)
+        }
+        Effect::Extend => live.extend(alloc, key, held, dataset, file),
+        Effect::Cancel => live.put(alloc, key, effect, held, None, file),
+    }
+}
+
 /// Takes over a data set and its file.
 fn take(
     alloc: Global,
@@ -62,23 +96,13 @@ fn take(
     requires short { IsFileLength (length file) }
     ensures taken { GivesLoaded result live.new (taken live.old dataset.now file (map.get live.old.cells dataset.now.header.key)) }
     ensures err { OnErr result (live.new ≡ live.old) }
+    ensures was { AreLive live.old.cells }
 {
-    files_are_data_sets();
-    one_file_more();
-    sound_lists_grow();
     let key = dataset.header.key;
-    let before = live.cells().get(key);
-    let effect = judge(held_of(before), dataset)?;
-    let held = held_after(before, effect, &dataset.header);
+    let effect = judge(held_of(live.cells().get(key)), dataset)?;
+    let held = held_after(live.cells().get(key), effect, &dataset.header);
     live.check_room(key)?;
-    match effect {
-        Effect::Replace => {
-            let chart = build(alloc, None, dataset)?;
-            live.put(alloc, key, effect, held, Some(chart), file)?;
-        }
-        Effect::Extend => live.extend(alloc, key, held, dataset, file)?,
-        Effect::Cancel => live.put(alloc, key, effect, held, None, file)?,
-    }
+    place(alloc, dataset, file, live, effect, held)?;
     Ok(Accepted { key, held })
 }
 
