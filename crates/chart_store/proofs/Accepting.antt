@@ -133,7 +133,7 @@ accepted-is state dataset file files done e =
 -- ---- another key
 
 apart : (q key : List ℕ) → q ≢ key → eq_by_cmp key_cmp q key ≡ false
-apart q key other = elim (cases_Bool (eq_by_cmp key_cmp q key)) [ | inl is_so ↦ absurd (other (key_cmp-IsAntisymmetric q key (tied (key_cmp q key) is_so))) | inr is_not ↦ is_not ]
+apart q key other = elim (cases_Bool (eq_by_cmp key_cmp q key)) [ inl is_so ↦ absurd (other (key_cmp-IsAntisymmetric q key (tied (key_cmp q key) is_so))) | inr is_not ↦ is_not ]
   where
     tied : (r : Ordering) → is_eq r ≡ true → r ≡ Equal
     tied Less e = absurd (let f : false ≡ true = e in cc)

@@ -1,5 +1,5 @@
 -- A file that is loaded: by the live files of its cell it is accepted, or refused.
-use Rattle.std.specs.Prelude.{◌≡◌, ℕ, ◌&&◌, not, nat_le, List, [], ◌∷◌, ◌++◌, length, sum_by, Option, Some, None, unwrap_or, Result, Ok, Err, if◌then◌else◌}
+use Rattle.std.specs.Prelude.{◌≡◌, ℕ, Bool, ◌&&◌, not, nat_le, List, [], ◌∷◌, ◌++◌, length, sum_by, Option, Some, None, unwrap_or, Result, Ok, Err, if◌then◌else◌}
 use Rattle.std.specs.FinMap as map
 use Rattle.chart_model.specs.Answers.{◌>>=◌, or_fault_as}
 use Rattle.chart_model.specs.Dataset.{DatasetValue}
@@ -71,10 +71,12 @@ within_limit file = if nat_le (length file) FILE_LIMIT then Ok file else Err (Fi
 abbrev pub CELLS_LIMIT : ℕ
 CELLS_LIMIT = 32
 
--- room for the cell of this key, which may be held already
+-- no room for the cell of this key, which is another
+abbrev pub is_full_for : HoldingsByKey → List ℕ → Bool
+is_full_for cells key = not (map.contains_key cells key) && nat_le CELLS_LIMIT (map.len cells)
+
 abbrev pub cells_within : HoldingsByKey → List ℕ → Result (Unit {0}) Refusal
-cells_within cells key =
-    if not (map.contains_key cells key) && nat_le CELLS_LIMIT (map.len cells) then Err (CellsFull CELLS_LIMIT) else Ok tt
+cells_within cells key = if is_full_for cells key then Err (CellsFull CELLS_LIMIT) else Ok tt
 
 -- the bytes of whole files
 abbrev pub bytes_of : List (List ℕ) → ℕ

@@ -8,8 +8,7 @@ ghost use Rattle.chart_model.specs.State.{IsHolding};
 ghost use Rattle.chart_closure.specs.Closed.{IsClosed};
 ghost use Rattle.update_sequence.specs.declared.effect.Effect.TheVariants.{Extend};
 ghost use Rattle.update_sequence.specs.Built.{built};
-ghost use Rattle.chart_store.specs.Fault.{Gives};
-ghost use Rattle.chart_store.specs.Loaded.{nothing_held, files_of, bytes_of, cells_within, store_within};
+ghost use Rattle.chart_store.specs.Loaded.{nothing_held, files_of, bytes_of, is_full_for, store_within};
 ghost use Rattle.chart_store.specs.Live.{IsLive, AreLive};
 ghost use Rattle.chart_store.specs.Taken.{chart_of, cell_after, replaced_bytes, extended_in, extended_within, IsExtension, GivesNow};
 
@@ -22,7 +21,7 @@ use std::marker::Model;
 use update_sequence::{Effect, build, sound_lists_are_held};
 
 /// The most cells that are held, cancelled ones too.
-const CELLS_LIMIT: usize = 32;
+pub(crate) const CELLS_LIMIT: usize = 32;
 
 /// The most bytes of all live files.
 const STORE_LIMIT: u64 = 67_108_864;
@@ -139,15 +138,12 @@ impl LiveCells {
         &self.state.cells
     }
 
-    /// Tests that there is room for the cell of this key.
-    pub(crate) fn check_room(&self, key: Key) -> Result<(), SubmitFault>
-        ensures { Gives result (cells_within self.now.cells key) }
+    /// Whether there is no room for the cell of this key.
+    pub(crate) fn is_full_for(&self, key: Key) -> bool
+        ensures { result ≡ is_full_for self.now.cells key }
     {
         let cells = &self.state.cells;
-        if !cells.contains(key) && cells.len() >= CELLS_LIMIT {
-            return Err(SubmitFault::Refused(Refusal::CellsFull(CELLS_LIMIT)));
-        }
-        Ok(())
+        !cells.contains(key) && cells.len() >= CELLS_LIMIT
     }
 
     /// Puts a file in, where there is room for it: it replaces the live files of its cell or follows

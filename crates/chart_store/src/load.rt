@@ -13,7 +13,7 @@ ghost use Rattle.chart_store.specs.Taken.{held_of, held_after, placed, taken, Gi
 
 use crate::fault::SubmitFault;
 use crate::holding::held_of;
-use crate::live::LiveCells;
+use crate::live::{CELLS_LIMIT, LiveCells};
 use crate::refusal::Refusal;
 use chart_model::{Dataset, Header, Held, Holding, Key, Octets};
 use chart_ports::Steps;
@@ -99,9 +99,12 @@ fn take(
     ensures was { AreLive live.old.cells }
 {
     let key = dataset.header.key;
-    let effect = judge(held_of(live.cells().get(key)), dataset)?;
-    let held = held_after(live.cells().get(key), effect, &dataset.header);
-    live.check_room(key)?;
+    let before = live.cells().get(key);
+    let effect = judge(held_of(before), dataset)?;
+    let held = held_after(before, effect, &dataset.header);
+    if live.is_full_for(key) {
+        return Err(SubmitFault::Refused(Refusal::CellsFull(CELLS_LIMIT)));
+    }
     place(alloc, dataset, file, live, effect, held)?;
     Ok(Accepted { key, held })
 }

@@ -19,13 +19,22 @@ pub enum Refusal {
     /// 14: the field with this tag has no descriptor.
     Descriptor([u8; 4]),
     /// 15: a field with this tag of this data record spells no values by its descriptor.
-    Subfield { record: usize, tag: [u8; 4] },
+    Subfield {
+        record: usize,
+        tag: [u8; 4],
+    },
     /// 20: there is no data record, or the first has no general information.
     NoGeneral,
     /// 21: a label that is looked at is missing in the field's descriptor, or a feature has no identifier.
-    MissingField { record: usize, tag: [u8; 4] },
+    MissingField {
+        record: usize,
+        tag: [u8; 4],
+    },
     /// 22: a value has the wrong kind, or is out of its width, its range or its list of values.
-    Value { record: usize, label: [u8; 4] },
+    Value {
+        record: usize,
+        label: [u8; 4],
+    },
     /// 23: a rule of the product specification is broken.
     Profile([u8; 4]),
     /// 30: an update of a cell that isn't held.
@@ -38,19 +47,37 @@ pub enum Refusal {
         update: u32,
     },
     /// 32: an update of another edition than the held one.
-    Edition { held: u32, given: u32 },
+    Edition {
+        held: u32,
+        given: u32,
+    },
     /// 33: an update whose number isn't the held one plus 1.
-    Gap { wanted: u64, given: u32 },
+    Gap {
+        wanted: u64,
+        given: u32,
+    },
     /// 34: an update of a cell that is cancelled.
     Cancelled(Key),
     /// 40: the name of an insertion is there.
-    Present { name: Name },
+    Present {
+        name: Name,
+    },
     /// 41: the name of a modification or a deletion isn't there.
-    Absent { name: Name },
+    Absent {
+        name: Name,
+    },
     /// 42: a version doesn't follow the one that is kept.
-    Version { name: Name, kept: u16, given: u16 },
+    Version {
+        name: Name,
+        kept: u16,
+        given: u16,
+    },
     /// 43: the identifier of a feature object is another.
-    Foid { name: Name, kept: Foid, given: Foid },
+    Foid {
+        name: Name,
+        kept: Foid,
+        given: Foid,
+    },
     /// 44: the places of a control field are not in the list.
     Index {
         name: Name,
@@ -64,11 +91,18 @@ pub enum Refusal {
         found: usize,
     },
     /// 46: items of a list are given without its control field.
-    NoControl { name: Name },
+    NoControl {
+        name: Name,
+    },
     /// 47: soundings are put among points without a depth, or such points among soundings.
-    Mixed { name: Name },
+    Mixed {
+        name: Name,
+    },
     /// 50: the record of the first name points to the second, of which the cell has no record.
-    Dangling { name: Name, target: Name },
+    Dangling {
+        name: Name,
+        target: Name,
+    },
     /// 51: an edge hasn't its two nodes, or one of them has no coordinate.
     EdgeNodes(Name),
     /// 52: an area has no shape.

@@ -163,7 +163,11 @@ fn base_of(alloc: Global, letter: u8) -> Result<Octets, AllocError> {
 }
 
 /// What is answered to the base files of so many cells, and then to the first of them once more.
-fn last_of<C: Ledger>(alloc: Global, count: u8, blank: Blank) -> Result<(usize, String, String), Fail>
+fn last_of<C: Ledger>(
+    alloc: Global,
+    count: u8,
+    blank: Blank,
+) -> Result<(usize, String, String), Fail>
     requires name { blank.name ≡ C.name }
     requires parts { blank.parts ≡ C.parts }
     requires share { 0 < C.parts }
@@ -182,10 +186,7 @@ fn last_of<C: Ledger>(alloc: Global, count: u8, blank: Blank) -> Result<(usize, 
 #[test]
 fn thirty_two_cells_are_held(rt: HostRuntime) -> Result<(), Fail> {
     let alloc = rt.alloc();
-    let cases = [
-        (32, "1 0 false"),
-        (33, "CellsFull(32)"),
-    ];
+    let cases = [(32, "1 0 false"), (33, "CellsFull(32)")];
     for (count, answer) in cases {
         let told = last_of::<Brand>(alloc, count, Blank::new(1))?;
         assert_eq!(rt; told.0, 32);

@@ -30,9 +30,11 @@ build-requires-clause-held c =
       chart = c.one_file_more.ensures.chart;
       first = c.sound_lists_grow.ensures.first;
       next = c.sound_lists_grow.ensures.next;
-    } in
-    (λ _. base_by laws c.args.live.now.cells c.args.dataset.now.header.key c.args.dataset.now c.args.file c.args.effect c.args.held refl
-    c.requires.reads c.requires.short c.requires.live c.requires.judged c.requires.held c.in-Replace.is, λ _. refl)
+    } in (
+      λ _. base_by laws c.args.live.now.cells c.args.dataset.now.header.key c.args.dataset.now c.args.file c.args.effect c.args.held refl
+          c.requires.reads c.requires.short c.requires.live c.requires.judged c.requires.held c.in-Replace.is,
+      λ _. refl,
+    )
 
 pub put-requires : goal.put-requires
 put-requires c =

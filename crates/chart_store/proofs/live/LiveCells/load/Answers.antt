@@ -1,8 +1,21 @@
 -- The step by what is held is the step by whole files.
-use Rattle.std.proofs.Common.{sym, subst}
-use Rattle.chart_store.specs.Loaded.{GivesLoaded}
+use Rattle.std.proofs.Common.{◌≡◌, ◌≤◌, List, ℕ, length, Ok, sym, ◌∙◌, ap, subst}
+use Rattle.update_sequence.specs.Reading.{data_set_in}
+use Rattle.chart_store.specs.Loaded.{GivesLoaded, FILE_LIMIT}
 use Rattle.chart_store.proofs.Accepting.{loaded-taken}
+use Rattle.chart_store.proofs.Loading.{Laws}
 use Rattle.chart_store.proofs.live.LiveCells.load.Goals as goal
 
 pub returns-clause-loaded : goal.returns-clause-loaded
-returns-clause-loaded g c = ?
+returns-clause-loaded g c =
+    let laws : Laws = record {
+      kept = c.files_are_data_sets.ensures.kept;
+      none = c.one_file_more.ensures.none;
+      held = c.one_file_more.ensures.held;
+      chart = c.one_file_more.ensures.chart;
+      first = c.sound_lists_grow.ensures.first;
+      next = c.sound_lists_grow.ensures.next;
+    } in
+    let short : length c.args.file ≤ FILE_LIMIT = subst (λ (l : List ℕ). length l ≤ FILE_LIMIT) c.as_slice.ensures c.if-as_slice-gt-FILE_LIMIT.false in
+    let reads : data_set_in c.args.file ≡ Ok c.in_ok-dataset.dataset = ap data_set_in (sym c.as_slice-2.ensures) ∙ c.in_ok-dataset.ensures.exact in
+    subst (GivesLoaded c.take.result c.take.new.live) (sym (loaded-taken laws c.args.self.now c.args.file c.in_ok-dataset.dataset c.take.ensures.was short reads)) c.take.ensures.taken
