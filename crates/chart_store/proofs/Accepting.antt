@@ -1,5 +1,6 @@
 -- A file that is accepted, and what is held then.
-use Rattle.std.proofs.Common.{◌≡◌, ◌≢◌, ℕ, ◌<◌, ◌≤◌, Bool, true, false, cond, List, length, leb, Option, Some, None, IfSome, Result, Ok, Err, refl, sym, ◌∙◌, ap, subst, arith, inl, inr}
+use Rattle.std.proofs.Common.{◌≡◌, ◌≢◌, ℕ, ◌<◌, ◌≤◌, Bool, true, false, cond, List, length, leb, Option, Some, None}
+use Rattle.std.proofs.Common.{IfSome, Result, Ok, Err, refl, sym, ◌∙◌, ap, subst, arith, inl, inr}
 use Rattle.std.proofs.lemmas.Bool.{true≢false, cases_Bool}
 use Rattle.std.proofs.lemmas.Bool.Decides.{nat_tests}
 use Rattle.std.proofs.lemmas.List.Sums.{fold-append}
@@ -28,24 +29,27 @@ use Rattle.chart_store.specs.declared.refusal.Refusal.{Refusal}
 use Rattle.chart_store.specs.declared.refusal.Refusal.TheVariants.{FileLong, StoreFull}
 use Rattle.chart_store.specs.Refusal.{refusal_of_read, refusal_of_sequence, refusal_of_build}
 use Rattle.chart_store.specs.Fault.{or_refused}
-use Rattle.chart_store.specs.Loaded.{HoldingsByKey, nothing_held, files_of, files_after, buildable, holding_of, FILE_LIMIT, STORE_LIMIT, live_bytes, store_within, within_limit, cells_within, Loaded, put, accepted, loaded}
+use Rattle.chart_store.specs.Loaded.{HoldingsByKey, nothing_held, files_of, files_after, buildable, holding_of}
+use Rattle.chart_store.specs.Loaded.{FILE_LIMIT, STORE_LIMIT, live_bytes, store_within, within_limit, cells_within}
+use Rattle.chart_store.specs.Loaded.{Loaded, put, accepted, loaded}
 use Rattle.chart_store.specs.Live.{IsLive, AreLive, state_or, state_after, state_by}
 use Rattle.chart_store.specs.Taken.{held_of, chart_of, held_after, chart_after, cell_after, placed, taken}
 use Rattle.chart_store.proofs.Holdings.{AreLive-nothing, AreLive-insert}
-use Rattle.chart_store.proofs.Judging.{effect_says}
 use Rattle.chart_store.proofs.Loading.{Laws, WasLive, live-replace, live-extend, live-cancel, accepted-taken}
 
 -- ---- steps
 
 -- a bound value
-bound_is : {A B : Type 0} (r : Result A Refusal) (next : A → Result B Refusal) (y : B) → (r >>= next) ≡ Ok y → (x : A) × (r ≡ Ok x) × (next x ≡ Ok y)
+bound_is : {A B : Type 0} (r : Result A Refusal) (next : A → Result B Refusal) (y : B) → (r >>= next) ≡ Ok y →
+    (x : A) × (r ≡ Ok x) × (next x ≡ Ok y)
 bound_is (Ok x) next y e = (x, refl, e)
 bound_is (Err refusal) next y e = absurd cc
 
 ok_is : {A E : Type 0} {x y : A} → ◌≡◌ {A = Result A E} (Ok x) (Ok y) → x ≡ y
 ok_is e = cc
 
-refused_is : {A E : Type 0} (refusal : E → Option Refusal) (r : Result A E) (x : A) → or_refused refusal r ≡ Ok x → r ≡ Ok x
+refused_is : {A E : Type 0} (refusal : E → Option Refusal) (r : Result A E) (x : A) → or_refused refusal r ≡ Ok x →
+    r ≡ Ok x
 refused_is refusal (Ok y) x e = ap Ok (ok_is e)
 refused_is refusal (Err fault) x e = absurd cc
 
@@ -70,16 +74,19 @@ within-is file bytes e =
       | inr is_not ↦ absurd (let f = sym (ap (λ (b : Bool). cond b (Ok file) (Err (FileLong FILE_LIMIT))) is_not) ∙ e in cc)
     ]
 
-store_within-is : (cells : HoldingsByKey) (after : StateValue) → store_within cells ≡ Ok after → record { cells = cells } ≡ after
+store_within-is : (cells : HoldingsByKey) (after : StateValue) → store_within cells ≡ Ok after →
+    record { cells = cells } ≡ after
 store_within-is cells after e = go (leb (live_bytes cells) STORE_LIMIT) e
   where
-    go : (b : Bool) → cond b (Ok (record { cells = cells })) (Err (StoreFull (live_bytes cells))) ≡ Ok after → record { cells = cells } ≡ after
+    go : (b : Bool) → cond b (Ok (record { cells = cells })) (Err (StoreFull (live_bytes cells))) ≡ Ok after →
+        record { cells = cells } ≡ after
     go true e = ok_is e
     go false e = absurd cc
 
 -- ---- what a file is that is accepted
 
-put-is : (state : StateValue) (key : List ℕ) (here : Holding) (done : Loaded) → put state key here ≡ Ok done → (key ≡ done.key) × (map.insert state.cells key here ≡ done.state.cells)
+put-is : (state : StateValue) (key : List ℕ) (here : Holding) (done : Loaded) → put state key here ≡ Ok done →
+    (key ≡ done.key) × (map.insert state.cells key here ≡ done.state.cells)
 put-is state key here done e =
     let b = bound_is (store_within (map.insert state.cells key here)) _ done e in
     let same = ok_is b.2 in
@@ -92,7 +99,8 @@ pub record IsLoaded (state : StateValue) (file : List ℕ) (done : Loaded) : Typ
   pub reads : data_set_in file ≡ Ok dataset
   pub accepts : accepted state dataset file (files_of (map.get state.cells dataset.header.key)) ≡ Ok done
 
-pub loaded-is : (state : StateValue) (file : List ℕ) (done : Loaded) → loaded state file ≡ Ok done → IsLoaded state file done
+pub loaded-is : (state : StateValue) (file : List ℕ) (done : Loaded) → loaded state file ≡ Ok done →
+    IsLoaded state file done
 unfolding loaded
 loaded-is state file done e =
     let b = bound_is (within_limit file) _ done e in
@@ -118,13 +126,15 @@ accepted-is state dataset file files done e =
     key : List ℕ
     key = dataset.header.key
 
-    building : (r : Result (Unit {0}) Refusal) (here : Holding) → (r >>= λ _. put state key here) ≡ Ok done → IsPut state dataset done
+    building : (r : Result (Unit {0}) Refusal) (here : Holding) → (r >>= λ _. put state key here) ≡ Ok done →
+        IsPut state dataset done
     building r here e =
         let b = bound_is r (λ _. put state key here) done e in
         let p = put-is state key here done b.2 in
         record { here = here; keyed = p.0; cells = p.1 }
 
-    judging : (r : Result Effect Refusal) (room : Result (Unit {0}) Refusal) (builds : Effect → Result (Unit {0}) Refusal) (here : Effect → Holding) →
+    judging : (r : Result Effect Refusal) (room : Result (Unit {0}) Refusal) (builds : Effect →
+        Result (Unit {0}) Refusal) (here : Effect → Holding) →
         (r >>= λ effect. room >>= λ _. builds effect >>= λ _. put state key (here effect)) ≡ Ok done → IsPut state dataset done
     judging (Ok effect) (Ok done') builds here e = building (builds effect) (here effect) e
     judging (Ok effect) (Err refusal) builds here e = absurd cc
@@ -140,7 +150,8 @@ apart q key other = elim (cases_Bool (eq_by_cmp key_cmp q key)) [ inl is_so ↦ 
     tied Equal e = refl
     tied Greater e = absurd (let f : false ≡ true = e in cc)
 
-pub loaded-alone : (state : StateValue) (file : List ℕ) (done : Loaded) (key : List ℕ) → loaded state file ≡ Ok done → key ≢ done.key → map.get done.state.cells key ≡ map.get state.cells key
+pub loaded-alone : (state : StateValue) (file : List ℕ) (done : Loaded) (key : List ℕ) →
+    loaded state file ≡ Ok done → key ≢ done.key → map.get done.state.cells key ≡ map.get state.cells key
 loaded-alone state file done key e other =
     let l = loaded-is state file done e in
     let p = accepted-is state l.dataset file _ done l.accepts in
@@ -150,7 +161,8 @@ loaded-alone state file done key e other =
 
 -- ---- the step by whole files
 
-pub loaded-reads : (state : StateValue) (file : List ℕ) (dataset : DatasetValue) → length file ≤ FILE_LIMIT → data_set_in file ≡ Ok dataset →
+pub loaded-reads : (state : StateValue) (file : List ℕ) (dataset : DatasetValue) → length file ≤ FILE_LIMIT →
+    data_set_in file ≡ Ok dataset →
     loaded state file ≡ accepted state dataset file (files_of (map.get state.cells dataset.header.key))
 unfolding loaded
 loaded-reads state file dataset short reads =
@@ -159,12 +171,13 @@ loaded-reads state file dataset short reads =
 
 module _ (laws : Laws) where
   next-live : (before : Option Holding) (dataset : DatasetValue) (file : List ℕ) (effect : Effect) (chart : Option CellValue) → WasLive dataset.header.key before → data_set_in file ≡ Ok dataset →
-      IsFileLength (length file) → judged (held_of before) dataset ≡ Ok effect → chart_after (chart_of before) effect dataset ≡ Ok chart →
+      IsFileLength (length file) → judged (held_of before) dataset ≡ Ok effect →
+      chart_after (chart_of before) effect dataset ≡ Ok chart →
       IsLive dataset.header.key (cell_after before effect (held_after before effect dataset.header) chart file)
   next-live before dataset file Replace chart h reads short judges e =
       let b = bound_is (or_refused refusal_of_build (built None dataset)) _ chart e in
       subst (λ (c : Option CellValue). IsLive dataset.header.key (cell_after before Replace (held_after before Replace dataset.header) c file)) (ok_is b.2)
-      (live-replace laws before dataset file b.0 reads short (effect_says (held_of before) dataset Replace judges) (refused_is refusal_of_build (built None dataset) b.0 b.1))
+      (live-replace laws before dataset file b.0 reads short judges (refused_is refusal_of_build (built None dataset) b.0 b.1))
   next-live before dataset file Extend chart h reads short judges e =
       let b = bound_is (or_refused refusal_of_build (built (chart_of before) dataset)) _ chart e in
       subst (λ (c : Option CellValue). IsLive dataset.header.key (cell_after before Extend (held_after before Extend dataset.header) c file)) (ok_is b.2)
@@ -185,21 +198,24 @@ module _ (laws : Laws) where
       (next-live before dataset file j.0 c.0 h reads short (fault_is refusal_of_sequence (judged (held_of before) dataset) j.0 j.1) c.1))
 
   -- a file that is accepted keeps all cells what their files leave
-  pub loaded-live : (state : StateValue) (file : List ℕ) (done : Loaded) → AreLive state.cells → loaded state file ≡ Ok done → AreLive done.state.cells
+  pub loaded-live : (state : StateValue) (file : List ℕ) (done : Loaded) → AreLive state.cells →
+      loaded state file ≡ Ok done → AreLive done.state.cells
   loaded-live state file done live e =
       let l = loaded-is state file done e in
       let before = map.get state.cells l.dataset.header.key in
       taken-live state l.dataset file before done live (live l.dataset.header.key) l.reads l.short
       (sym (accepted-taken laws state l.dataset file before (live l.dataset.header.key) l.reads l.short) ∙ l.accepts)
 
-  pub state_after-live : (state : StateValue) (file : List ℕ) → AreLive state.cells → AreLive (state_after state file).cells
+  pub state_after-live : (state : StateValue) (file : List ℕ) → AreLive state.cells →
+      AreLive (state_after state file).cells
   state_after-live state file live = go (loaded state file) refl
     where
       go : (r : Result Loaded Refusal) → loaded state file ≡ r → AreLive (state_or state r).cells
       go (Ok done) e = loaded-live state file done live e
       go (Err refusal) e = live
 
-  files-live : (state : StateValue) (files : List (List ℕ)) → AreLive state.cells → AreLive (fold state_after state files).cells
+  files-live : (state : StateValue) (files : List (List ℕ)) → AreLive state.cells →
+      AreLive (fold state_after state files).cells
   files-live state [] live = live
   files-live state (file ∷ files) live = files-live (state_after state file) files (state_after-live state file live)
 
@@ -208,7 +224,8 @@ module _ (laws : Laws) where
   state_by-live files = files-live nothing_held files AreLive-nothing
 
   -- by what is held of the cell
-  pub loaded-taken : (state : StateValue) (file : List ℕ) (dataset : DatasetValue) → AreLive state.cells → length file ≤ FILE_LIMIT → data_set_in file ≡ Ok dataset →
+  pub loaded-taken : (state : StateValue) (file : List ℕ) (dataset : DatasetValue) → AreLive state.cells →
+      length file ≤ FILE_LIMIT → data_set_in file ≡ Ok dataset →
       loaded state file ≡ taken state dataset file (map.get state.cells dataset.header.key)
   loaded-taken state file dataset live short reads =
       loaded-reads state file dataset short reads

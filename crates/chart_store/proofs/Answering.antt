@@ -11,7 +11,8 @@ use Rattle.chart_store.specs.declared.refusal.Refusal.{Refusal}
 use Rattle.chart_store.specs.declared.refusal.Refusal.TheVariants as refuses
 use Rattle.chart_store.specs.declared.fault.SubmitFault.{SubmitFault}
 use Rattle.chart_store.specs.declared.fault.SubmitFault.TheVariants.{Refused, NoMemory}
-use Rattle.chart_store.specs.Refusal.{refusal_of_file, refusal_of_records, refusal_of_read, refusal_of_change, refusal_of_build}
+use Rattle.chart_store.specs.Refusal.{refusal_of_file, refusal_of_records, refusal_of_read, refusal_of_change}
+use Rattle.chart_store.specs.Refusal.{refusal_of_build}
 use Rattle.chart_store.specs.Fault.{told, fault_of, or_refused}
 use Rattle.chart_store.specs.Taken.{GivesNow}
 
@@ -20,26 +21,31 @@ abbrev pub Fails : {A : Type 0} → SubmitFault → Result A Refusal → Type 0
 Fails fault wanted = FailsBy told fault wanted
 
 -- a fault ends the command
-pub Fails-stop : {A B : Type 0} (fault : SubmitFault) (r : Result A Refusal) (next : A → Result B Refusal) → Fails fault r → Fails fault (r >>= next)
+pub Fails-stop : {A B : Type 0} (fault : SubmitFault) (r : Result A Refusal) (next : A → Result B Refusal) →
+    Fails fault r → Fails fault (r >>= next)
 Fails-stop (Refused refusal) r next h = ap (λ s. s >>= next) h
 Fails-stop NoMemory r next h = tt
 
 -- a fault below is refused as that which it tells
-pub Fails-told : {A : Type 0} (refusal : Option Refusal) (wanted : Result A Refusal) → wanted ≡ Err (unwrap_or refusal refuses.NoGeneral) → Fails (fault_of refusal) wanted
+pub Fails-told : {A : Type 0} (refusal : Option Refusal) (wanted : Result A Refusal) →
+    wanted ≡ Err (unwrap_or refusal refuses.NoGeneral) → Fails (fault_of refusal) wanted
 Fails-told None wanted h = tt
 Fails-told (Some refusal) wanted h = h
 
-pub Fails-read : {A : Type 0} (fault : ReadFault) (wanted : Result A ReadFault) → GivesRead (Err fault) wanted → Fails (fault_of (refusal_of_read fault)) (or_refused refusal_of_read wanted)
+pub Fails-read : {A : Type 0} (fault : ReadFault) (wanted : Result A ReadFault) → GivesRead (Err fault) wanted →
+    Fails (fault_of (refusal_of_read fault)) (or_refused refusal_of_read wanted)
 Fails-read (of_read.File fault) wanted h = Fails-told (refusal_of_file fault) (or_refused refusal_of_read wanted) (ap (or_refused refusal_of_read) h)
 Fails-read (of_read.Dataset fault) wanted h = Fails-told (refusal_of_records fault) (or_refused refusal_of_read wanted) (ap (or_refused refusal_of_read) h)
 Fails-read of_read.NoMemory wanted h = tt
 
-pub Fails-build : {A : Type 0} (fault : BuildFault) (wanted : Result A BuildFault) → GivesBuilt (Err fault) wanted → Fails (fault_of (refusal_of_build fault)) (or_refused refusal_of_build wanted)
+pub Fails-build : {A : Type 0} (fault : BuildFault) (wanted : Result A BuildFault) →
+    GivesBuilt (Err fault) wanted → Fails (fault_of (refusal_of_build fault)) (or_refused refusal_of_build wanted)
 Fails-build (of_build.Change fault) wanted h = Fails-told (refusal_of_change fault) (or_refused refusal_of_build wanted) (ap (or_refused refusal_of_build) h)
 Fails-build (of_build.Closure fault) wanted h = ap (or_refused refusal_of_build) h
 Fails-build of_build.NoMemory wanted h = tt
 
 -- what follows from a value that was to be answered
-pub GivesNow-map : {A B : Type 0} (r : Result (Unit {0}) SubmitFault) (x : A) (f : A → B) (wanted : Result A Refusal) → GivesNow r x wanted → GivesNow r (f x) (wanted >>= (λ y. Ok (f y)))
+pub GivesNow-map : {A B : Type 0} (r : Result (Unit {0}) SubmitFault) (x : A) (f : A →
+    B) (wanted : Result A Refusal) → GivesNow r x wanted → GivesNow r (f x) (wanted >>= (λ y. Ok (f y)))
 GivesNow-map (Ok done) x f wanted h = ap (λ w. w >>= (λ y. Ok (f y))) h
 GivesNow-map (Err fault) x f wanted h = Fails-stop fault wanted (λ y. Ok (f y)) h

@@ -1,5 +1,7 @@
 -- What is held, when a cell is put in.
-use Rattle.std.proofs.Common.{◌≡◌, ◌↔◌, ℕ, ◌+◌, ◌-◌, ◌<◌, ◌≤◌, leb, Ok, Err, Bool, true, false, cond, List, [], ◌∷◌, ◌++◌, length, sum_by, Option, Some, None, arith, refl, sym, ◌∙◌, ap, subst, length-append}
+use Rattle.std.proofs.Common.{◌≡◌, ◌↔◌, ℕ, ◌+◌, ◌-◌, ◌<◌, ◌≤◌, leb, Ok, Err, Bool, true, false, cond, List, [], ◌∷◌}
+use Rattle.std.proofs.Common.{◌++◌, length, sum_by, Option, Some, None, arith, refl, sym, ◌∙◌, ap, subst}
+use Rattle.std.proofs.Common.{length-append}
 use Rattle.std.specs.Cmp.{tied_itself}
 use Rattle.std.specs.Option.{unwrap_or, is_some}
 use Rattle.std.specs.Prelude.{All, IfSome, IsSome, map as list_map}
@@ -19,7 +21,8 @@ use Rattle.chart_model.proofs.Maps.{each-empty, each-insert}
 use Rattle.chart_model.proofs.Trees.{entries-empty}
 use Rattle.update_sequence.specs.declared.effect.Effect.{Effect}
 use Rattle.update_sequence.specs.declared.effect.Effect.TheVariants.{Replace, Extend, Cancel}
-use Rattle.chart_store.specs.Loaded.{HoldingsByKey, files_of, files_after, bytes_of, live_bytes, STORE_LIMIT, store_within, nothing_held}
+use Rattle.chart_store.specs.Loaded.{HoldingsByKey, files_of, files_after, bytes_of, live_bytes, STORE_LIMIT}
+use Rattle.chart_store.specs.Loaded.{store_within, nothing_held}
 use Rattle.chart_store.specs.Live.{IsLive, AreLive, IsCounted, IsStore}
 use Rattle.chart_store.specs.Taken.{cell_after, replaced_bytes}
 use Rattle.chart_store.specs.declared.refusal.Refusal.TheVariants.{StoreFull}
@@ -28,7 +31,8 @@ use Rattle.chart_store.proofs.Weights.{weight_found, weight-insert, weight-get}
 
 -- ---- bytes
 
-found_bytes : (before : Option Holding) → weight_found (λ (here : Holding). bytes_of here.files) before ≡ bytes_of (files_of before)
+found_bytes : (before : Option Holding) →
+    weight_found (λ (here : Holding). bytes_of here.files) before ≡ bytes_of (files_of before)
 found_bytes None = refl
 found_bytes (Some here) = refl
 
@@ -39,14 +43,16 @@ live_bytes-insert cells key here =
     ∙ weight-insert key_cmp-total (λ (here : Holding). bytes_of here.files) cells key here
 
 -- no cell's files are more than all
-pub bytes_of-le-live_bytes : (cells : HoldingsByKey) (key : List ℕ) → bytes_of (files_of (map.get cells key)) ≤ live_bytes cells
+pub bytes_of-le-live_bytes : (cells : HoldingsByKey) (key : List ℕ) →
+    bytes_of (files_of (map.get cells key)) ≤ live_bytes cells
 bytes_of-le-live_bytes cells key =
     subst (λ (n : ℕ). n ≤ live_bytes cells) (found_bytes (map.get cells key)) (weight-get (λ (here : Holding). bytes_of here.files) cells key)
 
 pub bytes_of-one : (file : List ℕ) → bytes_of (file ∷ []) ≡ length file
 bytes_of-one file = sum_by-cons length file [] ∙ omega arith
 
-pub bytes_of-append : (files : List (List ℕ)) (file : List ℕ) → bytes_of (files ++ file ∷ []) ≡ bytes_of files + length file
+pub bytes_of-append : (files : List (List ℕ)) (file : List ℕ) →
+    bytes_of (files ++ file ∷ []) ≡ bytes_of files + length file
 bytes_of-append files file = sum_by-append length files (file ∷ []) ∙ ap (λ (n : ℕ). bytes_of files + n) (bytes_of-one file)
 
 bytes_of-after : (before : Option Holding) (effect : Effect) (file : List ℕ)
@@ -55,7 +61,8 @@ bytes_of-after before Replace file = omega (arith, bytes_of-one file)
 bytes_of-after before Extend file = omega (arith, bytes_of-append (files_of before) file)
 bytes_of-after before Cancel file = omega (arith, bytes_of-append (files_of before) file)
 
-pub replaced_bytes-le : (before : Option Holding) (effect : Effect) → replaced_bytes before effect ≤ bytes_of (files_of before)
+pub replaced_bytes-le : (before : Option Holding) (effect : Effect) →
+    replaced_bytes before effect ≤ bytes_of (files_of before)
 replaced_bytes-le before Replace = omega arith
 replaced_bytes-le before Extend = omega arith
 replaced_bytes-le before Cancel = omega arith
@@ -82,11 +89,13 @@ tied Equal e = refl
 tied Greater e = absurd (let f : false ≡ true = e in cc)
 
 -- what was put in last stays
-pub insert-insert : (cells : HoldingsByKey) (key : List ℕ) (x y : Holding) → map.insert (map.insert cells key x) key y ≡ map.insert cells key y
+pub insert-insert : (cells : HoldingsByKey) (key : List ℕ) (x y : Holding) →
+    map.insert (map.insert cells key x) key y ≡ map.insert cells key y
 insert-insert cells key x y = map.same_map key_cmp-total key_cmp-IsAntisymmetric _ _ (λ q. grind (arith, map.gets))
 
 -- a value that is there, put in again, changes nothing
-pub insert-same : (cells : HoldingsByKey) (key : List ℕ) (here : Holding) → map.get cells key ≡ Some here → map.insert cells key here ≡ cells
+pub insert-same : (cells : HoldingsByKey) (key : List ℕ) (here : Holding) → map.get cells key ≡ Some here →
+    map.insert cells key here ≡ cells
 insert-same cells key here is = map.same_map key_cmp-total key_cmp-IsAntisymmetric _ _ (λ q.
     map.get-insert key_cmp-total cells key here q
     ∙ elim (eq_by_cmp key_cmp q key) as (λ b. eq_by_cmp key_cmp q key ≡ b → cond b (Some here) (map.get cells q) ≡ map.get cells q) [
@@ -106,10 +115,12 @@ get-put cells key here = map.get-insert key_cmp-total cells key here key ∙ ap 
 abbrev pub swapped : HoldingsByKey → List ℕ → Holding → HoldingsByKey
 swapped cells key here = cond (map.contains_key cells key) (map.insert cells key here) cells
 
-swapped-held : (cells : HoldingsByKey) (key : List ℕ) (old here : Holding) → map.get cells key ≡ Some old → swapped cells key here ≡ map.insert cells key here
+swapped-held : (cells : HoldingsByKey) (key : List ℕ) (old here : Holding) → map.get cells key ≡ Some old →
+    swapped cells key here ≡ map.insert cells key here
 swapped-held cells key old here is = ap (λ (o : Option Holding). cond (is_some o) (map.insert cells key here) cells) is
 
-pub swapped-swapped : (cells : HoldingsByKey) (key : List ℕ) (other here : Holding) → IsSome (map.get cells key) → swapped (swapped cells key other) key here ≡ map.insert cells key here
+pub swapped-swapped : (cells : HoldingsByKey) (key : List ℕ) (other here : Holding) → IsSome (map.get cells key) →
+    swapped (swapped cells key other) key here ≡ map.insert cells key here
 swapped-swapped cells key other here h =
     elim (map.get cells key) as (λ o. map.get cells key ≡ o → IsSome o → swapped (swapped cells key other) key here ≡ map.insert cells key here) [
       | None ↦ λ is some. absurd (let f : false ≡ true = some in cc)
@@ -120,7 +131,8 @@ swapped-swapped cells key other here h =
     ] refl h
 
 -- what was taken out, put in again
-pub swapped-back : (cells : HoldingsByKey) (key : List ℕ) (other : Holding) → IsSome (map.get cells key) → swapped (swapped cells key other) key (unwrap_or (map.get cells key) other) ≡ cells
+pub swapped-back : (cells : HoldingsByKey) (key : List ℕ) (other : Holding) → IsSome (map.get cells key) →
+    swapped (swapped cells key other) key (unwrap_or (map.get cells key) other) ≡ cells
 swapped-back cells key other h =
     swapped-swapped cells key other (unwrap_or (map.get cells key) other) h
     ∙ elim (map.get cells key) as (λ o. map.get cells key ≡ o → IsSome o → map.insert cells key (unwrap_or o other) ≡ cells) [
@@ -128,7 +140,8 @@ swapped-back cells key other h =
       | Some old ↦ λ is some. insert-same cells key old is
     ] refl h
 
-pub files_of-taken : (before : Option Holding) (other : Holding) → IsSome before → (unwrap_or before other).files ≡ files_of before
+pub files_of-taken : (before : Option Holding) (other : Holding) → IsSome before →
+    (unwrap_or before other).files ≡ files_of before
 files_of-taken None other h = absurd (let f : false ≡ true = h in cc)
 files_of-taken (Some here) other h = refl
 
@@ -167,13 +180,15 @@ IsCounted-nothing = record {
   within = omega arith;
 }
 
-pub IsState-insert : (state : StateValue) (key : List ℕ) (here : Holding) → IsState state → IsHolding key here → IsState (record { cells = map.insert state.cells key here })
+pub IsState-insert : (state : StateValue) (key : List ℕ) (here : Holding) → IsState state → IsHolding key here →
+    IsState (record { cells = map.insert state.cells key here })
 IsState-insert state key here h x = record { cells = each-insert key_cmp-total key_cmp-IsAntisymmetric IsHolding state.cells key here h.cells x }
 
 pub AreLive-nothing : AreLive map.empty
 AreLive-nothing = each-empty key_cmp IsLive
 
-pub AreLive-insert : (cells : HoldingsByKey) (key : List ℕ) (here : Holding) → AreLive cells → IsLive key here → AreLive (map.insert cells key here)
+pub AreLive-insert : (cells : HoldingsByKey) (key : List ℕ) (here : Holding) → AreLive cells → IsLive key here →
+    AreLive (map.insert cells key here)
 AreLive-insert cells key here h x = each-insert key_cmp-total key_cmp-IsAntisymmetric IsLive cells key here h x
 
 pub IsStore-nothing : IsStore nothing_held 0
@@ -181,12 +196,14 @@ IsStore-nothing = record { count = IsCounted-nothing; live = AreLive-nothing }
 
 -- ---- limits
 
-pub store_within-full : (cells : HoldingsByKey) (count : ℕ) → live_bytes cells ≡ count → STORE_LIMIT < count → store_within cells ≡ Err (StoreFull count)
+pub store_within-full : (cells : HoldingsByKey) (count : ℕ) → live_bytes cells ≡ count → STORE_LIMIT < count →
+    store_within cells ≡ Err (StoreFull count)
 store_within-full cells count is over =
     ap (λ (n : ℕ). cond (leb n STORE_LIMIT) (Ok (record { cells = cells })) (Err (StoreFull n))) is
     ∙ ap (λ (b : Bool). cond b (Ok (record { cells = cells })) (Err (StoreFull count))) (let no : leb count STORE_LIMIT ≡ false = grind (arith, nat_tests) in no)
 
-pub store_within-room : (cells : HoldingsByKey) (count : ℕ) → live_bytes cells ≡ count → count ≤ STORE_LIMIT → store_within cells ≡ Ok (record { cells = cells })
+pub store_within-room : (cells : HoldingsByKey) (count : ℕ) → live_bytes cells ≡ count → count ≤ STORE_LIMIT →
+    store_within cells ≡ Ok (record { cells = cells })
 store_within-room cells count is within =
     ap (λ (n : ℕ). cond (leb n STORE_LIMIT) (Ok (record { cells = cells })) (Err (StoreFull n))) is
     ∙ ap (λ (b : Bool). cond b (Ok (record { cells = cells })) (Err (StoreFull count))) (let yes : leb count STORE_LIMIT ≡ true = grind (arith, nat_tests) in yes)
@@ -198,14 +215,16 @@ abbrev pub cells_after : StateValue → List ℕ → Effect → Held → Option 
 cells_after state key effect held chart file = map.insert state.cells key (cell_after (map.get state.cells key) effect held chart file)
 
 pub IsState-after : (state : StateValue) (cells : HoldingsByKey) (key : List ℕ) (effect : Effect) (held : Held) (chart : Option CellValue) (file : List ℕ)
-    → cells ≡ cells_after state key effect held chart file → IsState state → IsHolding key (cell_after (map.get state.cells key) effect held chart file)
+    → cells ≡ cells_after state key effect held chart file → IsState state →
+    IsHolding key (cell_after (map.get state.cells key) effect held chart file)
     → IsState (record { cells = cells })
 IsState-after state cells key effect held chart file e h is =
     subst (λ (m : HoldingsByKey). IsState (record { cells = m })) (sym e) (IsState-insert state key _ h is)
 
 -- the count that is kept of the bytes, after the file
 pub count-after : (state : StateValue) (count replaced : ℕ) (before : Option Holding) (key : List ℕ) (effect : Effect) (held : Held) (chart : Option CellValue) (file bytes : List ℕ)
-    → count ≡ live_bytes state.cells → before ≡ map.get state.cells key → replaced ≡ replaced_bytes before effect → bytes ≡ file
+    → count ≡ live_bytes state.cells → before ≡ map.get state.cells key → replaced ≡ replaced_bytes before effect →
+    bytes ≡ file
     → live_bytes (cells_after state key effect held chart file) ≡ count - replaced + length bytes
 count-after state count replaced before key effect held chart file bytes counted found same whole =
     live_bytes-put state.cells key effect file _ count counted refl
@@ -213,7 +232,8 @@ count-after state count replaced before key effect held chart file bytes counted
     ∙ ap (λ (l : List ℕ). count - replaced + length l) (sym whole)
 
 pub put-full : (state now : StateValue) (count replaced : ℕ) (before : Option Holding) (key : List ℕ) (effect : Effect) (held : Held) (chart : Option CellValue) (file bytes : List ℕ)
-    → state ≡ now → count ≡ live_bytes state.cells → before ≡ map.get state.cells key → replaced ≡ replaced_bytes before effect → bytes ≡ file
+    → state ≡ now → count ≡ live_bytes state.cells → before ≡ map.get state.cells key →
+    replaced ≡ replaced_bytes before effect → bytes ≡ file
     → STORE_LIMIT < count - replaced + length bytes
     → store_within (cells_after now key effect held chart file) ≡ Err (StoreFull (count - replaced + length bytes))
 put-full state now count replaced before key effect held chart file bytes seen counted found same whole over =
@@ -221,7 +241,8 @@ put-full state now count replaced before key effect held chart file bytes seen c
     ∙ store_within-full (cells_after state key effect held chart file) (count - replaced + length bytes) (count-after state count replaced before key effect held chart file bytes counted found same whole) over
 
 pub put-counted : (state after : StateValue) (count replaced : ℕ) (before : Option Holding) (key : List ℕ) (effect : Effect) (held : Held) (chart : Option CellValue) (file bytes : List ℕ)
-    → after ≡ record { cells = cells_after state key effect held chart file } → count ≡ live_bytes state.cells → before ≡ map.get state.cells key → replaced ≡ replaced_bytes before effect → bytes ≡ file
+    → after ≡ record { cells = cells_after state key effect held chart file } → count ≡ live_bytes state.cells →
+    before ≡ map.get state.cells key → replaced ≡ replaced_bytes before effect → bytes ≡ file
     → count - replaced + length bytes ≤ STORE_LIMIT
     → IsCounted after (count - replaced + length bytes)
 put-counted state after count replaced before key effect held chart file bytes done counted found same whole within = record {
@@ -230,7 +251,9 @@ put-counted state after count replaced before key effect held chart file bytes d
 }
 
 pub put-done : (state now after : StateValue) (count replaced : ℕ) (before : Option Holding) (key : List ℕ) (effect : Effect) (held : Held) (chart : Option CellValue) (file bytes : List ℕ)
-    → state ≡ now → after ≡ record { cells = cells_after state key effect held chart file } → count ≡ live_bytes state.cells → before ≡ map.get state.cells key → replaced ≡ replaced_bytes before effect → bytes ≡ file
+    → state ≡ now → after ≡ record { cells = cells_after state key effect held chart file } →
+    count ≡ live_bytes state.cells → before ≡ map.get state.cells key →
+    replaced ≡ replaced_bytes before effect → bytes ≡ file
     → count - replaced + length bytes ≤ STORE_LIMIT
     → store_within (cells_after now key effect held chart file) ≡ Ok after
 put-done state now after count replaced before key effect held chart file bytes seen done counted found same whole within =

@@ -1,5 +1,6 @@
 -- What an effect says of the data set and of what is held.
-use Rattle.std.proofs.Common.{◌≡◌, ◌+◌, Bool, true, false, not, cond, eqb, Option, Some, None, Result, Ok, Err, refl, sym, ◌∙◌, ap, subst, inl, inr}
+use Rattle.std.proofs.Common.{◌≡◌, ◌+◌, Bool, true, false, not, cond, eqb, Option, Some, None, Result, Ok, Err, refl}
+use Rattle.std.proofs.Common.{sym, ◌∙◌, ap, subst, inl, inr}
 use Rattle.std.proofs.lemmas.Bool.{true≢false, cases_Bool}
 use Rattle.std.specs.Prelude.{◌⊎◌}
 use Rattle.chart_model.specs.Dataset.{DatasetValue, IsDataset}
@@ -45,7 +46,8 @@ chosen : {A : Type 0} (b : Bool) (x y z : A) → cond b x y ≡ z → ((b ≡ tr
 chosen true x y z e = inl (refl, e)
 chosen false x y z e = inr (refl, e)
 
-base_says : (held : Option Held) (dataset : DatasetValue) (effect : Effect) → dataset.base ≡ true → judged_base held dataset.header ≡ Ok effect → Says held dataset effect
+base_says : (held : Option Held) (dataset : DatasetValue) (effect : Effect) → dataset.base ≡ true →
+    judged_base held dataset.header ≡ Ok effect → Says held dataset effect
 base_says None dataset effect base e = subst (Says None dataset) (ok_is e) base
 base_says (Some here) dataset effect base e =
     elim (chosen (is_older dataset.header here) (Err (StaleBase here.edition here.update dataset.header.edition dataset.header.update)) (Ok Replace) (Ok effect) e) [
@@ -53,7 +55,8 @@ base_says (Some here) dataset effect base e =
       | inr h ↦ subst (Says (Some here) dataset) (ok_is h.1) base
     ]
 
-update_says : (held : Option Held) (dataset : DatasetValue) (effect : Effect) → dataset.base ≡ false → judged_update held dataset.header dataset.cancels ≡ Ok effect → Says held dataset effect
+update_says : (held : Option Held) (dataset : DatasetValue) (effect : Effect) → dataset.base ≡ false →
+    judged_update held dataset.header dataset.cancels ≡ Ok effect → Says held dataset effect
 update_says None dataset effect base e = absurd cc
 update_says (Some here) dataset effect base e =
     elim (chosen here.cancelled (Err (Cancelled dataset.header.key)) _ (Ok effect) e) [
@@ -73,15 +76,11 @@ update_says (Some here) dataset effect base e =
           ]
     ]
 
-pub effect_says : (held : Option Held) (dataset : DatasetValue) (effect : Effect) → judged held dataset ≡ Ok effect → Says held dataset effect
+pub effect_says : (held : Option Held) (dataset : DatasetValue) (effect : Effect) →
+    judged held dataset ≡ Ok effect → Says held dataset effect
 unfolding judged
 effect_says held dataset effect e =
     elim (chosen dataset.base (judged_base held dataset.header) (judged_update held dataset.header dataset.cancels) (Ok effect) e) [
       | inl h ↦ base_says held dataset effect h.0 h.1
       | inr h ↦ update_says held dataset effect h.0 h.1
     ]
-
--- a base file alone is taken
-pub first_accepted : (dataset : DatasetValue) → dataset.base ≡ true → judged None dataset ≡ Ok Replace
-unfolding judged
-first_accepted dataset base = ap (λ (b : Bool). cond b (judged_base None dataset.header) (judged_update None dataset.header dataset.cancels)) base

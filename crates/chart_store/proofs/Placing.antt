@@ -1,5 +1,6 @@
 -- What is put in as it was judged is what the files of its cell leave.
-use Rattle.std.proofs.Common.{◌≡◌, ◌≢◌, ℕ, true, false, List, length, Option, Some, None, IfSome, IsSome, Ok, refl, sym, ◌∙◌, ap, subst}
+use Rattle.std.proofs.Common.{◌≡◌, ◌≢◌, ℕ, true, false, List, length, Option, Some, None, IfSome, IsSome, Ok, refl}
+use Rattle.std.proofs.Common.{sym, ◌∙◌, ap, subst}
 use Rattle.std.proofs.lemmas.Bool.{true≢false}
 use Rattle.std.specs.Prelude.{◌↔◌}
 use Rattle.std.specs.FinMap as map
@@ -28,7 +29,8 @@ moved cells key k effect e held h chart file keyed is numbers live =
     (subst (λ (n : Held). IsLive k (cell_after (map.get cells k) e n chart file)) (sym numbers) live))
 
 -- a cell that isn't cancelled has a chart
-has_chart : (key : List ℕ) (before : Option Holding) (here : Held) → ((holding : Holding) → IsLive key holding → IsHolding key holding) → WasLive key before →
+has_chart : (key : List ℕ) (before : Option Holding) (here : Held) → ((holding : Holding) → IsLive key holding →
+    IsHolding key holding) → WasLive key before →
     held_of before ≡ Some here → here.cancelled ≡ false → IsSome (chart_of before)
 has_chart key None here holds live is stands = absurd (let none = is in cc)
 has_chart key (Some holding) here holds live is stands = is_there holding.chart (λ none. true≢false (sym ((holds holding live).cancelled.0 none) ∙ ap (λ (x : Held). x.cancelled) (some_is is) ∙ stands))
@@ -54,17 +56,19 @@ module _ (laws : Laws) (cells : HoldingsByKey) (key : List ℕ) (dataset : Datas
   pub base_by : effect ≡ Replace → dataset.base ≡ true
   base_by is = effect_says (held_of (map.get cells dataset.header.key)) dataset Replace (as_judged Replace is)
 
-  pub place-replace : (cell : CellValue) → effect ≡ Replace → built None dataset ≡ Ok cell → IsLive key (cell_after (map.get cells key) effect held (Some cell) file)
+  pub place-replace : (cell : CellValue) → effect ≡ Replace → built None dataset ≡ Ok cell →
+      IsLive key (cell_after (map.get cells key) effect held (Some cell) file)
   place-replace cell is builds =
       moved cells key dataset.header.key effect Replace held (numbers_of dataset.header) (Some cell) file keyed is (with_numbers Replace is)
-      (live-replace laws (map.get cells dataset.header.key) dataset file cell reads short (base_by is) builds)
+      (live-replace laws (map.get cells dataset.header.key) dataset file cell reads short (as_judged Replace is) builds)
 
   pub place-cancel : effect ≡ Cancel → IsLive key (cell_after (map.get cells key) effect held None file)
   place-cancel is =
       moved cells key dataset.header.key effect Cancel held (held_after (map.get cells dataset.header.key) Cancel dataset.header) None file keyed is (with_numbers Cancel is)
       (live-cancel laws (map.get cells dataset.header.key) dataset file live reads short (as_judged Cancel is))
 
-  pub place-extend : ((holding : Holding) → IsLive dataset.header.key holding → IsHolding dataset.header.key holding) → effect ≡ Extend → IsExtension cells key held dataset file
+  pub place-extend : ((holding : Holding) → IsLive dataset.header.key holding →
+      IsHolding dataset.header.key holding) → effect ≡ Extend → IsExtension cells key held dataset file
   place-extend holds is =
       let says = effect_says (held_of (map.get cells dataset.header.key)) dataset Extend (as_judged Extend is) in
       record {

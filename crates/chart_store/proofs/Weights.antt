@@ -1,5 +1,6 @@
 -- The sum of a number of each value of a finite map, when one value is put in.
-use Rattle.std.proofs.Common.{◌≡◌, ℕ, ◌+◌, ◌≤◌, true, false, cond, T, List, [], ◌∷◌, map, sum_by, Option, Some, None, arith, refl, sym, ◌∙◌, ap, subst}
+use Rattle.std.proofs.Common.{◌≡◌, ℕ, ◌+◌, ◌≤◌, true, false, cond, T, List, [], ◌∷◌, map, sum_by, Option, Some, None}
+use Rattle.std.proofs.Common.{arith, refl, sym, ◌∙◌, ap, subst}
 use Rattle.std.specs.declared.cmp.Ordering.{Ordering}
 use Rattle.std.specs.declared.cmp.Ordering.TheVariants.{Less, Equal, Greater}
 use Rattle.std.specs.Ordering.{is_eq, eq_by_cmp}
@@ -19,7 +20,8 @@ abbrev pub weight_found : {X : Type 0} → (X → ℕ) → Option X → ℕ
 weight_found weight None = 0
 weight_found weight (Some x) = weight x
 
-cons : {K X : Type 0} (weight : X → ℕ) (e : K × X) (es : List (K × X)) → weight_of weight (e ∷ es) ≡ weight e.1 + weight_of weight es
+cons : {K X : Type 0} (weight : X → ℕ) (e : K × X) (es : List (K × X)) →
+    weight_of weight (e ∷ es) ≡ weight e.1 + weight_of weight es
 cons weight e es = sum_by-cons weight e.1 (map (λ e. e.1) es)
 
 module _ {K X : Type 0} {R : K → K → Ordering} (total : IsTotalOrder R) where
@@ -48,7 +50,8 @@ module _ {K X : Type 0} {R : K → K → Ordering} (total : IsTotalOrder R) wher
       ∙ weight_of-put weight k v (finite.entries m) (finite.entries_sorted m)
 
 -- no value weighs more than all
-weight_found-le : {K X : Type 0} (R : K → K → Ordering) (weight : X → ℕ) (k : K) (es : List (K × X)) → weight_found weight (find R k es) ≤ weight_of weight es
+weight_found-le : {K X : Type 0} (R : K → K → Ordering) (weight : X → ℕ) (k : K) (es : List (K × X)) →
+    weight_found weight (find R k es) ≤ weight_of weight es
 weight_found-le R weight k [] = omega arith
 weight_found-le R weight k (e ∷ es) =
     elim (eq_by_cmp R k e.0) as (λ b. weight_found weight (cond b (Some e.1) (find R k es)) ≤ weight_of weight (e ∷ es)) [
@@ -56,5 +59,6 @@ weight_found-le R weight k (e ∷ es) =
       | false ↦ omega (arith, cons weight e es, weight_found-le R weight k es)
     ]
 
-pub weight-get : {K X : Type 0} {R : K → K → Ordering} (weight : X → ℕ) (m : FinMap R X) (k : K) → weight_found weight (finite.get m k) ≤ sum_by weight (finite.values m)
+pub weight-get : {K X : Type 0} {R : K → K → Ordering} (weight : X → ℕ) (m : FinMap R X) (k : K) →
+    weight_found weight (finite.get m k) ≤ sum_by weight (finite.values m)
 weight-get {R = R} weight m k = subst (λ o. weight_found weight o ≤ weight_of weight (finite.entries m)) (sym (finite.get-entries m k)) (weight_found-le R weight k (finite.entries m))

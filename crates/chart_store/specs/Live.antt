@@ -3,16 +3,13 @@ use Rattle.std.specs.Prelude.{◌≡◌, ◌≤◌, ℕ, List, fold, Some, IfSom
 use Rattle.std.specs.FinMap as map
 use Rattle.chart_model.specs.State.{StateValue}
 use Rattle.chart_model.specs.declared.state.Holding.{Holding}
-use Rattle.update_sequence.specs.Rebuilt.{held_by, rebuilt}
-use Rattle.update_sequence.specs.Sound.{IsSoundList}
+use Rattle.update_sequence.specs.Sound.{Leaves}
 use Rattle.chart_store.specs.declared.refusal.Refusal.{Refusal}
 use Rattle.chart_store.specs.Loaded.{HoldingsByKey, nothing_held, live_bytes, STORE_LIMIT, Loaded, loaded}
 
 -- the live files of the cell are a sound list, and numbers and chart are those that they leave
-pub record IsLive (key : List ℕ) (here : Holding) : Type 0 where
-  pub sound : IsSoundList key here.files
-  pub held : held_by here.files ≡ Some here.held
-  pub chart : rebuilt here.files ≡ here.chart
+abbrev pub IsLive : List ℕ → Holding → Type 0
+IsLive key here = Leaves key here.files (Some here.held) here.chart
 
 -- each cell that is held is so
 abbrev pub AreLive : HoldingsByKey → Type 0

@@ -1,5 +1,6 @@
 -- The same step by what is held of the cell, which the code looks at: of a live cell it is what its files leave.
-use Rattle.std.specs.Prelude.{◌≡◌, ℕ, false, List, [], ◌∷◌, ◌++◌, IfSome, IsSome, Option, Some, None, unwrap_or, Result, Ok, Err}
+use Rattle.std.specs.Prelude.{◌≡◌, ℕ, false, List, [], ◌∷◌, ◌++◌}
+use Rattle.std.specs.Prelude.{Option, Some, None, IsSome, unwrap_or, Result, Ok, Err}
 use Rattle.std.specs.Option.{option_map, option_and_then}
 use Rattle.std.specs.FinMap as map
 use Rattle.chart_model.specs.Answers.{◌>>=◌, or_fault_as}
@@ -49,11 +50,15 @@ abbrev pub cell_after : Option Holding → Effect → Held → Option CellValue 
 cell_after before effect held chart file =
     record { held = held; files = files_after (files_of before) effect file; chart = chart }
 
+-- the same with the numbers after the file
+abbrev pub cell_by : Option Holding → Effect → Header → Option CellValue → List ℕ → Holding
+cell_by before effect header chart file = cell_after before effect (held_after before effect header) chart file
+
 -- what is held once a data set and its file are put in, as they were judged
 abbrev pub placed : StateValue → DatasetValue → List ℕ → Option Holding → Effect → Result StateValue Refusal
 placed state dataset file before effect = do
   chart ← chart_after (chart_of before) effect dataset
-  store_within (map.insert state.cells dataset.header.key (cell_after before effect (held_after before effect dataset.header) chart file))
+  store_within (map.insert state.cells dataset.header.key (cell_by before effect dataset.header chart file))
 
 -- a data set and its file
 abbrev pub taken : StateValue → DatasetValue → List ℕ → Option Holding → Result Loaded Refusal
@@ -90,7 +95,8 @@ extended_within cells key held dataset file = do
   store_within after
 
 -- a cell with a chart can be extended by an update, and is then one that can be held
-pub record IsExtension (cells : HoldingsByKey) (key : List ℕ) (held : Held) (dataset : DatasetValue) (file : List ℕ) : Type 0 where
+pub record IsExtension (cells : HoldingsByKey) (key : List ℕ) (held : Held) (dataset : DatasetValue) (file : List ℕ)
+    : Type 0 where
   pub stands : dataset.cancels ≡ false
   pub update : dataset.base ≡ false
   pub there : IsSome (chart_of (map.get cells key))

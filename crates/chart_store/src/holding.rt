@@ -1,10 +1,10 @@
 //! Cells put in by their keys.
 
-ghost use Rattle.std.specs.Prelude.{◌≡◌, ◌++◌, ◌∷◌, ◌-◌, [], true, false, length, take, IfSome, IsSome, OnOk, OnErr};
+ghost use Rattle.std.specs.Prelude.{◌≡◌, ◌-◌, true, false, length, take, None, IfSome, IsSome, OnOk, OnErr};
 ghost use Rattle.std.specs.Option.{option_copied};
 ghost use Rattle.std.specs.FinMap as map;
 ghost use Rattle.chart_closure.specs.Closed.{IsClosed};
-ghost use Rattle.chart_store.specs.Loaded.{files_of, files_after};
+ghost use Rattle.update_sequence.specs.declared.effect.Effect.TheVariants.{Replace, Extend};
 ghost use Rattle.chart_store.specs.Taken.{held_of, chart_of, chart_built, cell_after, extended, extended_in, GivesNow};
 
 use crate::fault::SubmitFault;
@@ -42,7 +42,7 @@ fn begin(
     chart: Option<Cell>,
     file: Octets,
 ) -> Result<(), AllocError>
-    ensures ok { OnOk result (cells.new ≡ map.insert cells.old key (record { held = held; files = file ∷ []; chart = chart })) }
+    ensures ok { OnOk result (cells.new ≡ map.insert cells.old key (cell_after None Replace held chart file)) }
     ensures err { OnErr result (cells.new ≡ cells.old) }
 {
     let mut files = FileList::new(alloc);
@@ -60,7 +60,8 @@ fn follow(
     file: Octets,
 ) -> Result<(), AllocError>
     requires { IsSome (map.get cells.old key) }
-    ensures ok { OnOk result (cells.new ≡ map.insert cells.old key (record { held = held; files = files_of (map.get cells.old key) ++ file ∷ []; chart = chart })) }
+    ensures ok { OnOk result (cells.new ≡ map.insert cells.old key
+        (cell_after (map.get cells.old key) Extend held chart file)) }
     ensures err { OnErr result (cells.new ≡ cells.old) }
 {
     // While the cell is edited, one without a file stands in for it.
@@ -90,7 +91,8 @@ pub(crate) fn put_in(
     chart: Option<Cell>,
     file: Octets,
 ) -> Result<(), AllocError>
-    ensures ok { OnOk result (cells.new ≡ map.insert cells.old key (cell_after (map.get cells.old key) effect held chart file)) }
+    ensures ok { OnOk result (cells.new ≡ map.insert cells.old key
+        (cell_after (map.get cells.old key) effect held chart file)) }
     ensures err { OnErr result (cells.new ≡ cells.old) }
 {
     if effect == Effect::Replace || !cells.contains(key) {

@@ -10,7 +10,8 @@ ghost use Rattle.update_sequence.specs.declared.effect.Effect.TheVariants.{Exten
 ghost use Rattle.update_sequence.specs.Built.{built};
 ghost use Rattle.chart_store.specs.Loaded.{nothing_held, files_of, bytes_of, is_full_for, store_within};
 ghost use Rattle.chart_store.specs.Live.{IsLive, AreLive};
-ghost use Rattle.chart_store.specs.Taken.{chart_of, cell_after, replaced_bytes, extended_in, extended_within, IsExtension, GivesNow};
+ghost use Rattle.chart_store.specs.Taken.{chart_of, cell_after, replaced_bytes};
+ghost use Rattle.chart_store.specs.Taken.{extended_in, extended_within, IsExtension, GivesNow};
 
 use crate::fault::SubmitFault;
 use crate::holding::{chart_of, extend_in, put_in};
@@ -88,7 +89,10 @@ fn put(
     file: Octets,
 ) -> Result<(), AllocError>
     requires { IsHolding key (cell_after (map.get state.old.cells key) effect held chart file) }
-    ensures ok { OnOk result (state.new ≡ record { cells = map.insert state.old.cells key (cell_after (map.get state.old.cells key) effect held chart file) }) }
+    ensures ok { OnOk result (state.new ≡ record {
+      cells = map.insert state.old.cells key
+          (cell_after (map.get state.old.cells key) effect held chart file);
+    }) }
     ensures err { OnErr result (state.new ≡ state.old) }
 {
     put_in(alloc, &mut state.cells, key, effect, held, chart, file)?;
@@ -158,7 +162,8 @@ impl LiveCells {
         file: Octets,
     ) -> Result<(), SubmitFault>
         requires { IsLive key (cell_after (map.get self.old.cells key) effect held chart file) }
-        ensures put { GivesNow result self.new (store_within (map.insert self.old.cells key (cell_after (map.get self.old.cells key) effect held chart file))) }
+        ensures put { GivesNow result self.new (store_within (map.insert self.old.cells key
+            (cell_after (map.get self.old.cells key) effect held chart file))) }
         ensures err { OnErr result (self.new ≡ self.old) }
     {
         sound_lists_are_held();

@@ -20,8 +20,8 @@ use chart_ports::Steps;
 use std::alloc::Global;
 use std::sync::ledger::Ledger;
 use update_sequence::{
-    Effect, build, files_are_data_sets, judge, one_file_more, read_data_set, sound_lists_are_held,
-    sound_lists_grow,
+    Effect, accepted_files_follow, build, files_are_data_sets, judge, one_file_more, read_data_set,
+    sound_lists_are_held,
 };
 
 /// The most bytes of a file that is loaded.
@@ -67,12 +67,13 @@ fn place(
     requires live { IfSome (map.get live.old.cells dataset.now.header.key) (IsLive dataset.now.header.key) }
     requires judged { judged (held_of (map.get live.old.cells dataset.now.header.key)) dataset.now ≡ Ok effect }
     requires held { held ≡ held_after (map.get live.old.cells dataset.now.header.key) effect dataset.now.header }
-    ensures placed { GivesNow result live.new (placed live.old dataset.now file (map.get live.old.cells dataset.now.header.key) effect) }
+    ensures placed { GivesNow result live.new
+        (placed live.old dataset.now file (map.get live.old.cells dataset.now.header.key) effect) }
     ensures err { OnErr result (live.new ≡ live.old) }
 {
     files_are_data_sets();
     one_file_more();
-    sound_lists_grow();
+    accepted_files_follow();
     sound_lists_are_held();
     let key = dataset.header.key;
     match effect {
@@ -94,7 +95,8 @@ fn take(
 ) -> Result<Accepted, SubmitFault>
     requires reads { data_set_in file ≡ Ok dataset.now }
     requires short { IsFileLength (length file) }
-    ensures taken { GivesLoaded result live.new (taken live.old dataset.now file (map.get live.old.cells dataset.now.header.key)) }
+    ensures taken { GivesLoaded result live.new
+        (taken live.old dataset.now file (map.get live.old.cells dataset.now.header.key)) }
     ensures err { OnErr result (live.new ≡ live.old) }
     ensures was { AreLive live.old.cells }
 {
@@ -127,9 +129,8 @@ impl LiveCells {
         ensures err { OnErr result (self.new ≡ self.old) }
         ensures at_most { steps.new ≤ steps.old + data_records_in tags_read file }
     {
-        files_are_data_sets();
         one_file_more();
-        sound_lists_grow();
+        accepted_files_follow();
         if file.as_slice().len() as u64 > FILE_LIMIT {
             return Err(SubmitFault::Refused(Refusal::FileLong(FILE_LIMIT)));
         }

@@ -10,26 +10,22 @@ use Rattle.chart_store.proofs.load.place.Goals as goal
 pub build-requires-clause-stands : goal.build-requires-clause-stands
 build-requires-clause-stands c =
     let laws : Laws = record {
-      kept = c.files_are_data_sets.ensures.kept;
       none = c.one_file_more.ensures.none;
-      held = c.one_file_more.ensures.held;
-      chart = c.one_file_more.ensures.chart;
-      first = c.sound_lists_grow.ensures.first;
-      next = c.sound_lists_grow.ensures.next;
+      replaces = c.accepted_files_follow.ensures.replaces;
+      extends = c.accepted_files_follow.ensures.extends;
+      cancels = c.accepted_files_follow.ensures.cancels;
     } in
-    stands_by_base c.args.dataset.now (laws.kept c.args.file c.args.dataset.now c.requires.reads)
+    stands_by_base c.args.dataset.now (c.files_are_data_sets.ensures.kept c.args.file c.args.dataset.now c.requires.reads)
     (base_by laws c.args.live.now.cells c.args.dataset.now.header.key c.args.dataset.now c.args.file c.args.effect c.args.held refl
     c.requires.reads c.requires.short c.requires.live c.requires.judged c.requires.held c.in-Replace.is)
 
 pub build-requires-clause-held : goal.build-requires-clause-held
 build-requires-clause-held c =
     let laws : Laws = record {
-      kept = c.files_are_data_sets.ensures.kept;
       none = c.one_file_more.ensures.none;
-      held = c.one_file_more.ensures.held;
-      chart = c.one_file_more.ensures.chart;
-      first = c.sound_lists_grow.ensures.first;
-      next = c.sound_lists_grow.ensures.next;
+      replaces = c.accepted_files_follow.ensures.replaces;
+      extends = c.accepted_files_follow.ensures.extends;
+      cancels = c.accepted_files_follow.ensures.cancels;
     } in (
       λ _. base_by laws c.args.live.now.cells c.args.dataset.now.header.key c.args.dataset.now c.args.file c.args.effect c.args.held refl
           c.requires.reads c.requires.short c.requires.live c.requires.judged c.requires.held c.in-Replace.is,
@@ -39,12 +35,10 @@ build-requires-clause-held c =
 pub put-requires : goal.put-requires
 put-requires c =
     let laws : Laws = record {
-      kept = c.files_are_data_sets.ensures.kept;
       none = c.one_file_more.ensures.none;
-      held = c.one_file_more.ensures.held;
-      chart = c.one_file_more.ensures.chart;
-      first = c.sound_lists_grow.ensures.first;
-      next = c.sound_lists_grow.ensures.next;
+      replaces = c.accepted_files_follow.ensures.replaces;
+      extends = c.accepted_files_follow.ensures.extends;
+      cancels = c.accepted_files_follow.ensures.cancels;
     } in
     place-replace laws c.args.live.now.cells c.dataset.inside.header.key c.args.dataset.now c.args.file c.args.effect c.args.held
     (ap (λ (d : DatasetValue). d.header.key) c.dataset.view_is)
@@ -53,12 +47,10 @@ put-requires c =
 pub put-requires-in-Cancel : goal.put-requires-in-Cancel
 put-requires-in-Cancel c =
     let laws : Laws = record {
-      kept = c.files_are_data_sets.ensures.kept;
       none = c.one_file_more.ensures.none;
-      held = c.one_file_more.ensures.held;
-      chart = c.one_file_more.ensures.chart;
-      first = c.sound_lists_grow.ensures.first;
-      next = c.sound_lists_grow.ensures.next;
+      replaces = c.accepted_files_follow.ensures.replaces;
+      extends = c.accepted_files_follow.ensures.extends;
+      cancels = c.accepted_files_follow.ensures.cancels;
     } in
     place-cancel laws c.args.live.now.cells c.dataset.inside.header.key c.args.dataset.now c.args.file c.args.effect c.args.held
     (ap (λ (d : DatasetValue). d.header.key) c.dataset.view_is)
@@ -67,12 +59,10 @@ put-requires-in-Cancel c =
 pub extend-requires : goal.extend-requires
 extend-requires c =
     let laws : Laws = record {
-      kept = c.files_are_data_sets.ensures.kept;
       none = c.one_file_more.ensures.none;
-      held = c.one_file_more.ensures.held;
-      chart = c.one_file_more.ensures.chart;
-      first = c.sound_lists_grow.ensures.first;
-      next = c.sound_lists_grow.ensures.next;
+      replaces = c.accepted_files_follow.ensures.replaces;
+      extends = c.accepted_files_follow.ensures.extends;
+      cancels = c.accepted_files_follow.ensures.cancels;
     } in
     place-extend laws c.args.live.now.cells c.dataset.inside.header.key c.args.dataset.now c.args.file c.args.effect c.args.held
     (ap (λ (d : DatasetValue). d.header.key) c.dataset.view_is)

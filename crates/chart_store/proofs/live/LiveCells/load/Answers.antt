@@ -9,12 +9,10 @@ use Rattle.chart_store.proofs.live.LiveCells.load.Goals as goal
 pub returns-clause-loaded : goal.returns-clause-loaded
 returns-clause-loaded g c =
     let laws : Laws = record {
-      kept = c.files_are_data_sets.ensures.kept;
       none = c.one_file_more.ensures.none;
-      held = c.one_file_more.ensures.held;
-      chart = c.one_file_more.ensures.chart;
-      first = c.sound_lists_grow.ensures.first;
-      next = c.sound_lists_grow.ensures.next;
+      replaces = c.accepted_files_follow.ensures.replaces;
+      extends = c.accepted_files_follow.ensures.extends;
+      cancels = c.accepted_files_follow.ensures.cancels;
     } in
     let short : length c.args.file ≤ FILE_LIMIT = subst (λ (l : List ℕ). length l ≤ FILE_LIMIT) c.as_slice.ensures c.if-as_slice-gt-FILE_LIMIT.false in
     let reads : data_set_in c.args.file ≡ Ok c.in_ok-dataset.dataset = ap data_set_in (sym c.as_slice-2.ensures) ∙ c.in_ok-dataset.ensures.exact in
