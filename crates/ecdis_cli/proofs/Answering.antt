@@ -14,13 +14,13 @@ use Rattle.update_sequence.specs.declared.fault.ReadFault.{ReadFault}
 use Rattle.update_sequence.specs.declared.fault.ReadFault.TheVariants as of_read
 use Rattle.update_sequence.specs.declared.fault.BuildFault.{BuildFault}
 use Rattle.update_sequence.specs.declared.fault.BuildFault.TheVariants as of_build
-use Rattle.ecdis_cli.specs.declared.fault.CommandFault.{CommandFault}
-use Rattle.ecdis_cli.specs.declared.fault.CommandFault.TheVariants.{Refused, NoMemory}
-use Rattle.ecdis_cli.specs.declared.general.General.{General}
-use Rattle.ecdis_cli.specs.declared.line.Event.{Event}
-use Rattle.ecdis_cli.specs.declared.refusal.Refusal.{Refusal}
-use Rattle.ecdis_cli.specs.declared.refusal.Refusal.TheVariants.{FileLong, Read, Build}
-use Rattle.ecdis_cli.specs.declared.reply.Reply.TheVariants as replies
+use Rattle.ecdis_cli.specs.declared.session.fault.CommandFault.{CommandFault}
+use Rattle.ecdis_cli.specs.declared.session.fault.CommandFault.TheVariants.{Refused, NoMemory}
+use Rattle.ecdis_cli.specs.declared.session.general.General.{General}
+use Rattle.ecdis_cli.specs.declared.script.event.Event.{Event}
+use Rattle.ecdis_cli.specs.declared.session.refusal.Refusal.{Refusal}
+use Rattle.ecdis_cli.specs.declared.session.refusal.Refusal.TheVariants.{ShelfFault, FileLong, Read, Build}
+use Rattle.ecdis_cli.specs.declared.session.reply.Reply.TheVariants as replies
 use Rattle.ecdis_cli.specs.Commands.{◌>>=◌, or_refused, Gives, fault_of_shelf, fault_of_read, fault_of_build}
 use Rattle.ecdis_cli.specs.Marked.{Marked}
 use Rattle.ecdis_cli.specs.General.{general_in}
@@ -141,3 +141,29 @@ unfolding turn_to
 turn_to-event files state number line failed event spoken is =
     ap (λ (b : Bool). cond b (silent state) (turn_on files state number failed (event_on line))) spoken
     ∙ ap (turn_on files state number failed) is
+
+-- ---- faults of the shelf
+
+-- an answer is no other than this fault
+is_fault : {A : Type 0} (r : Result A CommandFault) (fault other : CommandFault) → IsErrAnd r (λ y. y ≡ fault) → r ≡ Err other → other ≡ fault
+is_fault r fault other stopped is =
+    let p = err_from_is_err_and r stopped in
+    let same : ◌≡◌ {A = CommandFault} other p.0 = let e : Err other ≡ Err p.0 = sym is ∙ p.1 in cc in
+    same ∙ p.2
+
+-- a fetch that gives nothing
+pub fetch-cause : {A : Type 0} (a b : ℕ) (r : Result A CommandFault) (fault : ShelfError) → IsErrAnd r (λ y. y ≡ fault_of_shelf fault)
+    → (IsErrOf {T = Fetched} (Err fault) of_shelf.Failed → Rose a b) → r ≡ Err (Refused ShelfFault) → Rose a b
+fetch-cause a b r of_shelf.Failed stopped cause is = cause refl
+fetch-cause a b r of_shelf.NoMemory stopped cause is = absurd (let e : Refused ShelfFault ≡ NoMemory = is_fault r NoMemory (Refused ShelfFault) stopped is in cc)
+
+-- a file that was fetched, and is none that tells of itself
+pub read-cause : {A X : Type 0} (r : Result A CommandFault) (fault : ReadFault) → IsErrAnd r (λ y. y ≡ fault_of_read fault) → r ≡ Err (Refused ShelfFault) → X
+read-cause r (of_read.File fault) stopped is = absurd (let e : Refused ShelfFault ≡ Refused (Read (of_read.File fault)) = is_fault r _ _ stopped is in cc)
+read-cause r (of_read.Dataset fault) stopped is = absurd (let e : Refused ShelfFault ≡ Refused (Read (of_read.Dataset fault)) = is_fault r _ _ stopped is in cc)
+read-cause r of_read.NoMemory stopped is = absurd (let e : Refused ShelfFault ≡ NoMemory = is_fault r _ _ stopped is in cc)
+
+-- an error that is passed on
+pub passed-cause : {A B : Type 0} (a b : ℕ) (r : Result A CommandFault) (fault : CommandFault) → IsErrAnd r (λ y. y ≡ fault)
+    → (IsErrOf {T = B} (Err fault) (Refused ShelfFault) → Rose a b) → r ≡ Err (Refused ShelfFault) → Rose a b
+passed-cause a b r fault stopped cause is = cause (ap Err (sym (is_fault r fault (Refused ShelfFault) stopped is)))

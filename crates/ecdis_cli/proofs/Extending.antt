@@ -17,10 +17,10 @@ use Rattle.update_sequence.specs.Answers.{GivesBuilt}
 use Rattle.update_sequence.specs.Built.{built}
 use Rattle.update_sequence.specs.declared.effect.Effect.TheVariants.{Extend}
 use Rattle.update_sequence.specs.declared.fault.BuildFault.{BuildFault}
-use Rattle.ecdis_cli.specs.declared.fault.CommandFault.{CommandFault}
-use Rattle.ecdis_cli.specs.declared.fault.CommandFault.TheVariants.{Refused, NoMemory}
-use Rattle.ecdis_cli.specs.declared.refusal.Refusal.{Refusal}
-use Rattle.ecdis_cli.specs.declared.refusal.Refusal.TheVariants.{Build, StoreFull}
+use Rattle.ecdis_cli.specs.declared.session.fault.CommandFault.{CommandFault}
+use Rattle.ecdis_cli.specs.declared.session.fault.CommandFault.TheVariants.{Refused, NoMemory}
+use Rattle.ecdis_cli.specs.declared.session.refusal.Refusal.{Refusal}
+use Rattle.ecdis_cli.specs.declared.session.refusal.Refusal.TheVariants.{Build, StoreFull}
 use Rattle.ecdis_cli.specs.Commands.{◌>>=◌, or_refused, Gives, now, fault_of_build}
 use Rattle.ecdis_cli.specs.Load.{HoldingsByKey, nothing_held, chart_of, chart_after, files_of, extended, extended_in, extended_within, store_within, live_bytes, STORE_LIMIT, IsExtension}
 use Rattle.ecdis_cli.specs.Live.{HasClosedChart, AreClosed, IsLive}

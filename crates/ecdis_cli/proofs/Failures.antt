@@ -1,5 +1,5 @@
 -- Only where a fetch failed is it said that the shelf failed.
-use Rattle.std.proofs.Common.{◌≡◌, ◌≢◌, ℕ, true, false, cond, ◌&&◌, not, List, length, leb, refl, ap}
+use Rattle.std.proofs.Common.{◌≡◌, ◌≢◌, ℕ, true, false, cond, ◌&&◌, not, List, length, leb, refl, sym, ◌∙◌, ap, subst}
 use Rattle.std.specs.Prelude.{Option, Some, None, Result, Ok, Err}
 use Rattle.std.specs.Fmt.{digits}
 use Rattle.std.specs.FinMap as map
@@ -26,20 +26,25 @@ use Rattle.update_sequence.specs.declared.fault.SequenceFault.{SequenceFault}
 use Rattle.update_sequence.specs.declared.fault.SequenceFault.TheVariants as of_sequence
 use Rattle.update_sequence.specs.declared.fault.BuildFault.{BuildFault}
 use Rattle.update_sequence.specs.declared.fault.BuildFault.TheVariants as of_build
-use Rattle.ecdis_cli.specs.declared.general.General.{General}
-use Rattle.ecdis_cli.specs.declared.line.Event.{Event}
-use Rattle.ecdis_cli.specs.declared.line.Event.TheVariants as asks
-use Rattle.ecdis_cli.specs.declared.refusal.Refusal.{Refusal}
-use Rattle.ecdis_cli.specs.declared.refusal.Refusal.TheVariants.{BadLine, NoFile, ShelfFault, FileLong, Read, Sequence, CellsFull, Build, StoreFull}
-use Rattle.ecdis_cli.specs.declared.reply.Reply.{Reply}
-use Rattle.ecdis_cli.specs.declared.reply.Reply.TheVariants.{Refused, Info, Load, Cancel, Cells}
-use Rattle.ecdis_cli.specs.Commands.{◌>>=◌, or_refused}
+use Rattle.ecdis_cli.specs.declared.session.general.General.{General}
+use Rattle.ecdis_cli.specs.declared.script.event.Event.{Event}
+use Rattle.ecdis_cli.specs.declared.script.event.Event.TheVariants as asks
+use Rattle.ecdis_cli.specs.declared.session.refusal.Refusal.{Refusal}
+use Rattle.ecdis_cli.specs.declared.session.refusal.Refusal.TheVariants.{BadLine, NoFile, ShelfFault, FileLong, Read, Sequence, CellsFull, Build, StoreFull}
+use Rattle.ecdis_cli.specs.declared.session.reply.Reply.{Reply}
+use Rattle.ecdis_cli.specs.declared.session.reply.Reply.TheVariants.{Refused, Info, Load, Cancel, Cells}
+use Rattle.ecdis_cli.specs.declared.session.fault.CommandFault.{CommandFault}
+use Rattle.ecdis_cli.specs.declared.session.fault.CommandFault.TheVariants as of_command
+use Rattle.ecdis_cli.specs.declared.session.load.Accepted.{Accepted}
+use Rattle.chart_ports.specs.declared.shelf.Fetched.{Fetched}
+use Rattle.chart_ports.specs.declared.shelf.Fetched.TheVariants.{Bytes, Absent, Long}
+use Rattle.ecdis_cli.specs.Commands.{◌>>=◌, or_refused, Gives}
 use Rattle.ecdis_cli.specs.General.{general_in}
 use Rattle.ecdis_cli.specs.Line.{is_silent}
 use Rattle.ecdis_cli.specs.Event.{event_on}
-use Rattle.ecdis_cli.specs.Fetch.{Files, within_limit, file_or_none, fetched}
+use Rattle.ecdis_cli.specs.Fetch.{Files, FILE_LIMIT, within_limit, file_or_none, file_in, fetched}
 use Rattle.ecdis_cli.specs.Info.{info_of}
-use Rattle.ecdis_cli.specs.Load.{HoldingsByKey, Loaded, held_of, chart_of, chart_after, live_bytes, cells_within, store_within, put, taken, loaded, load_of}
+use Rattle.ecdis_cli.specs.Load.{HoldingsByKey, Loaded, held_of, chart_of, chart_after, live_bytes, cells_within, store_within, put, taken, loaded, load_of, CELLS_LIMIT, STORE_LIMIT, now_loaded, GivesLoaded}
 use Rattle.ecdis_cli.specs.Reply.{printed}
 use Rattle.ecdis_cli.specs.Turn.{Turn, informed, taken_over, turn_of, turn_on, turn_to, said_of, reply_to, silent}
 use Rattle.ecdis_cli.specs.Replies.{is_fetch_failure}
@@ -140,7 +145,7 @@ ok-served : {A : Type 0} (x : A) → Served (Ok x)
 ok-served x = λ e. cc
 
 within_limit-served : (file : List ℕ) → Served (within_limit file)
-within_limit-served file = elim (leb (length file) 8388608) as (λ b. Served (cond b (Ok file) (Err (FileLong 8388608)))) [ true ↦ λ e. cc | false ↦ λ e. cc ]
+within_limit-served file = elim (leb (length file) FILE_LIMIT) as (λ b. Served (cond b (Ok file) (Err (FileLong FILE_LIMIT)))) [ true ↦ λ e. cc | false ↦ λ e. cc ]
 
 file_or_none-served : (name : List ℕ) (file : Option (List ℕ)) → Served (file_or_none name file)
 file_or_none-served name None = λ e. cc
@@ -156,11 +161,11 @@ info_of-served file h = then-served file (λ bytes. or_refused Read (general_in 
 
 cells_within-served : (cells : HoldingsByKey) (key : List ℕ) → Served (cells_within cells key)
 cells_within-served cells key =
-    elim (not (map.contains_key cells key) && leb 32 (map.len cells)) as (λ b. Served {A = Unit {0}} (cond b (Err (CellsFull 32)) (Ok (tt {0})))) [ true ↦ λ e. cc | false ↦ ok-served {A = Unit {0}} (tt {0}) ]
+    elim (not (map.contains_key cells key) && leb CELLS_LIMIT (map.len cells)) as (λ b. Served {A = Unit {0}} (cond b (Err (CellsFull CELLS_LIMIT)) (Ok (tt {0})))) [ true ↦ λ e. cc | false ↦ ok-served {A = Unit {0}} (tt {0}) ]
 
 store_within-served : (cells : HoldingsByKey) → Served (store_within cells)
 store_within-served cells =
-    elim (leb (live_bytes cells) 67108864) as (λ b. Served {A = StateValue} (cond b (Ok (record { cells = cells })) (Err (StoreFull (live_bytes cells))))) [ true ↦ ok-served {A = StateValue} (record { cells = cells }) | false ↦ λ e. cc ]
+    elim (leb (live_bytes cells) STORE_LIMIT) as (λ b. Served {A = StateValue} (cond b (Ok (record { cells = cells })) (Err (StoreFull (live_bytes cells))))) [ true ↦ ok-served {A = StateValue} (record { cells = cells }) | false ↦ λ e. cc ]
 
 some-served : {A : Type 0} (r : Result A Refusal) → Served r → Served (r >>= λ x. Ok (Some x))
 some-served r h = then-served r (λ x. Ok (Some x)) h (λ x e. cc)
@@ -224,3 +229,43 @@ reply_to-not_failed files state number line =
       | true ↦ refl
       | false ↦ turn_on-answers files state number (event_on line)
     ]
+
+-- ---- code
+
+-- an answer that isn't refused for a fault of the shelf
+pub Gives-served : {A : Type 0} (r : Result A CommandFault) (wanted : Result A Refusal) → Served wanted → Gives r wanted → r ≡ Err (of_command.Refused ShelfFault) → {X : Type 0} → X
+Gives-served {A = A} r wanted served h is =
+    let P : Result A CommandFault → Type 0 = λ (s : Result A CommandFault). Gives s wanted in
+    absurd (served (subst P is h))
+
+file_in-served : (name : List ℕ) (fetched' : Fetched) → Served (file_in name fetched')
+file_in-served name (Bytes bytes) = λ e. cc
+file_in-served name Absent = λ e. cc
+file_in-served name Long = λ e. cc
+
+-- a file that a shelf answered
+pub file_in-blameless : (r : Result (List ℕ) CommandFault) (name : List ℕ) (fetched' : Fetched) → Gives r (file_in name fetched') → r ≡ Err (of_command.Refused ShelfFault) → {X : Type 0} → X
+file_in-blameless r name fetched' h is = Gives-served r (file_in name fetched') (file_in-served name fetched') h is
+
+now_loaded-err : (r : Result Accepted CommandFault) (state : StateValue) (fault : CommandFault) → r ≡ Err fault → now_loaded r state ≡ Err fault
+now_loaded-err (Ok cell) state fault is = absurd cc
+now_loaded-err (Err other) state fault is = let same : other ≡ fault = cc in ap Err same
+
+-- a file that was taken over, or not
+pub loaded-blameless : (r : Result Accepted CommandFault) (state state' : StateValue) (file : List ℕ) → GivesLoaded r state' (loaded state file) → r ≡ Err (of_command.Refused ShelfFault) → {X : Type 0} → X
+loaded-blameless r state state' file h is = Gives-served (now_loaded r state') (loaded state file) (loaded-served state file) h (now_loaded-err r state' (of_command.Refused ShelfFault) is)
+
+-- a refusal says that the shelf failed only where it is refused for that
+says-not : (refusal : Refusal) → refusal ≢ ShelfFault → is_fetch_failure (printed (Refused refusal)) ≡ true → {X : Type 0} → X
+says-not refusal h says = absurd (let f : true ≡ false = sym says ∙ refusal-printed refusal h in cc)
+
+pub refused-cause : (refusal : Refusal) (X : Type 0) → (refusal ≡ ShelfFault → X) → is_fetch_failure (printed (Refused refusal)) ≡ true → X
+refused-cause ShelfFault X cause says = cause refl
+refused-cause (BadLine number) X cause says = says-not (BadLine number) (λ e. cc) says
+refused-cause (NoFile name) X cause says = says-not (NoFile name) (λ e. cc) says
+refused-cause (FileLong limit) X cause says = says-not (FileLong limit) (λ e. cc) says
+refused-cause (Read fault) X cause says = says-not (Read fault) (λ e. cc) says
+refused-cause (Sequence fault) X cause says = says-not (Sequence fault) (λ e. cc) says
+refused-cause (CellsFull cells) X cause says = says-not (CellsFull cells) (λ e. cc) says
+refused-cause (Build fault) X cause says = says-not (Build fault) (λ e. cc) says
+refused-cause (StoreFull bytes) X cause says = says-not (StoreFull bytes) (λ e. cc) says

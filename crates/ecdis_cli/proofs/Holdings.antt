@@ -20,7 +20,7 @@ use Rattle.chart_model.proofs.Trees.{entries-empty}
 use Rattle.update_sequence.specs.declared.effect.Effect.{Effect}
 use Rattle.update_sequence.specs.declared.effect.Effect.TheVariants.{Replace, Extend, Cancel}
 use Rattle.ecdis_cli.specs.Load.{HoldingsByKey, files_of, files_after, bytes_of, replaced_bytes, live_bytes, STORE_LIMIT, store_within, nothing_held}
-use Rattle.ecdis_cli.specs.declared.refusal.Refusal.TheVariants.{StoreFull}
+use Rattle.ecdis_cli.specs.declared.session.refusal.Refusal.TheVariants.{StoreFull}
 use Rattle.ecdis_cli.specs.Live.{IsCounted}
 use Rattle.std.proofs.lemmas.Bool.Decides.{nat_tests}
 use Rattle.ecdis_cli.proofs.Weights.{weight_found, weight-insert, weight-get}

@@ -2,6 +2,7 @@ pub mod Texts
 pub mod Lines
 pub mod Failures
 pub mod Steps
+pub mod Blames
 pub mod Runs
 pub mod Answering
 pub mod Weights

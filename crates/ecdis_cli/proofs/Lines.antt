@@ -10,10 +10,10 @@ use Rattle.std.proofs.lemmas.List.{append-nil}
 use Rattle.std.proofs.lemmas.List.Elements.{All-nil, All-cons, All-head, All-tail, All-append}
 use Rattle.std.proofs.lemmas.List.Splits.{slice_split_at, slice_split_none, length-slice_split}
 use Rattle.chart_model.specs.State.{StateValue}
-use Rattle.ecdis_cli.specs.declared.line.Event.{Event}
-use Rattle.ecdis_cli.specs.declared.line.Event.TheVariants.{Info, Load, Cells}
-use Rattle.ecdis_cli.specs.declared.reply.Reply.TheVariants.{Refused}
-use Rattle.ecdis_cli.specs.declared.refusal.Refusal.TheVariants.{BadLine}
+use Rattle.ecdis_cli.specs.declared.script.event.Event.{Event}
+use Rattle.ecdis_cli.specs.declared.script.event.Event.TheVariants.{Info, Load, Cells}
+use Rattle.ecdis_cli.specs.declared.session.reply.Reply.TheVariants.{Refused}
+use Rattle.ecdis_cli.specs.declared.session.refusal.Refusal.TheVariants.{BadLine}
 use Rattle.ecdis_cli.specs.Line.{is_word, is_silent, word_if, word_after}
 use Rattle.ecdis_cli.specs.Event.{event_on}
 use Rattle.ecdis_cli.specs.Fetch.{Files}

@@ -17,12 +17,12 @@ use Rattle.update_sequence.specs.declared.effect.Effect.TheVariants.{Replace, Ex
 use Rattle.update_sequence.specs.declared.fault.SequenceFault.{SequenceFault}
 use Rattle.update_sequence.specs.declared.fault.SequenceFault.TheVariants.{Edition, Gap, Cancelled, StaleBase}
 use Rattle.update_sequence.specs.declared.fault.BuildFault.{BuildFault}
-use Rattle.ecdis_cli.specs.declared.refusal.Refusal.{Refusal}
-use Rattle.ecdis_cli.specs.declared.refusal.Refusal.TheVariants.{Build}
+use Rattle.ecdis_cli.specs.declared.session.refusal.Refusal.{Refusal}
+use Rattle.ecdis_cli.specs.declared.session.refusal.Refusal.TheVariants.{Build}
 use Rattle.ecdis_cli.specs.Commands.{◌>>=◌, or_refused, Gives}
 use Rattle.ecdis_cli.specs.Marked.{Marked}
-use Rattle.ecdis_cli.specs.declared.fault.CommandFault.{CommandFault}
-use Rattle.ecdis_cli.specs.declared.load.Accepted.{Accepted}
+use Rattle.ecdis_cli.specs.declared.session.fault.CommandFault.{CommandFault}
+use Rattle.ecdis_cli.specs.declared.session.load.Accepted.{Accepted}
 use Rattle.chart_model.specs.State.{StateValue}
 use Rattle.std.specs.Result.{IsErrAnd}
 use Rattle.std.proofs.lemmas.Result.{err_from_is_err_and}

@@ -6,10 +6,10 @@ use Rattle.update_sequence.specs.declared.fault.ReadFault.{ReadFault}
 use Rattle.update_sequence.specs.declared.fault.ReadFault.TheVariants as of_read
 use Rattle.update_sequence.specs.declared.fault.BuildFault.{BuildFault}
 use Rattle.update_sequence.specs.declared.fault.BuildFault.TheVariants as of_build
-use Rattle.ecdis_cli.specs.declared.refusal.Refusal.{Refusal}
-use Rattle.ecdis_cli.specs.declared.refusal.Refusal.TheVariants.{ShelfFault, Read, Build}
-use Rattle.ecdis_cli.specs.declared.fault.CommandFault.{CommandFault}
-use Rattle.ecdis_cli.specs.declared.fault.CommandFault.TheVariants.{Refused, NoMemory}
+use Rattle.ecdis_cli.specs.declared.session.refusal.Refusal.{Refusal}
+use Rattle.ecdis_cli.specs.declared.session.refusal.Refusal.TheVariants.{ShelfFault, Read, Build}
+use Rattle.ecdis_cli.specs.declared.session.fault.CommandFault.{CommandFault}
+use Rattle.ecdis_cli.specs.declared.session.fault.CommandFault.TheVariants.{Refused, NoMemory}
 
 infixl 10 ◌>>=◌
 abbrev pub ◌>>=◌ : {A B : Type 0} → Result A Refusal → (A → Result B Refusal) → Result B Refusal

@@ -2,8 +2,8 @@
 use Rattle.std.specs.Prelude.{ℕ, Bool, List, length, nat_le, Option, Some, None, Result, Ok, Err, if◌then◌else◌}
 use Rattle.chart_ports.specs.declared.shelf.Fetched.{Fetched}
 use Rattle.chart_ports.specs.declared.shelf.Fetched.TheVariants.{Bytes, Absent, Long}
-use Rattle.ecdis_cli.specs.declared.refusal.Refusal.{Refusal}
-use Rattle.ecdis_cli.specs.declared.refusal.Refusal.TheVariants.{NoFile, ShelfFault, FileLong}
+use Rattle.ecdis_cli.specs.declared.session.refusal.Refusal.{Refusal}
+use Rattle.ecdis_cli.specs.declared.session.refusal.Refusal.TheVariants.{NoFile, ShelfFault, FileLong}
 
 -- the file under each name
 abbrev pub Files : Type 0

@@ -15,7 +15,7 @@ use Rattle.s57_records.specs.declared.fault.DatasetFault.{DatasetFault}
 use Rattle.s57_records.specs.declared.fault.DatasetFault.TheVariants.{NoGeneral}
 use Rattle.update_sequence.specs.Reading.{fault_of_file, fault_of_records}
 use Rattle.update_sequence.specs.declared.fault.ReadFault.{ReadFault}
-use Rattle.ecdis_cli.specs.declared.general.General.{General}
+use Rattle.ecdis_cli.specs.declared.session.general.General.{General}
 
 -- a data record has a DSID field
 abbrev pub has_dsid : List RawField → Bool

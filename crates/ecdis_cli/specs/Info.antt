@@ -1,8 +1,8 @@
 -- The command `info`.
 use Rattle.std.specs.Prelude.{ℕ, List, Result}
-use Rattle.ecdis_cli.specs.declared.refusal.Refusal.{Refusal}
-use Rattle.ecdis_cli.specs.declared.refusal.Refusal.TheVariants.{Read}
-use Rattle.ecdis_cli.specs.declared.general.General.{General}
+use Rattle.ecdis_cli.specs.declared.session.refusal.Refusal.{Refusal}
+use Rattle.ecdis_cli.specs.declared.session.refusal.Refusal.TheVariants.{Read}
+use Rattle.ecdis_cli.specs.declared.session.general.General.{General}
 use Rattle.ecdis_cli.specs.Commands.{◌>>=◌, or_refused}
 use Rattle.ecdis_cli.specs.General.{general_in}
 

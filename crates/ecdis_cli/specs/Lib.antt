@@ -12,6 +12,9 @@ pub mod Listing
 pub mod Reply
 pub mod Turn
 pub mod Replies
+pub mod Limits
+pub mod World
+pub mod Blamed
 pub mod Progress
 pub mod Standing
 pub mod Run

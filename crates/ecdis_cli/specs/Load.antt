@@ -15,10 +15,10 @@ use Rattle.update_sequence.specs.Built.{built}
 use Rattle.update_sequence.specs.Rebuilt.{numbers_of, cancelled}
 use Rattle.update_sequence.specs.declared.effect.Effect.{Effect}
 use Rattle.update_sequence.specs.declared.effect.Effect.TheVariants.{Replace, Extend, Cancel}
-use Rattle.ecdis_cli.specs.declared.refusal.Refusal.{Refusal}
-use Rattle.ecdis_cli.specs.declared.refusal.Refusal.TheVariants.{Read, Sequence, CellsFull, Build, StoreFull}
-use Rattle.ecdis_cli.specs.declared.fault.CommandFault.{CommandFault}
-use Rattle.ecdis_cli.specs.declared.load.Accepted.{Accepted}
+use Rattle.ecdis_cli.specs.declared.session.refusal.Refusal.{Refusal}
+use Rattle.ecdis_cli.specs.declared.session.refusal.Refusal.TheVariants.{Read, Sequence, CellsFull, Build, StoreFull}
+use Rattle.ecdis_cli.specs.declared.session.fault.CommandFault.{CommandFault}
+use Rattle.ecdis_cli.specs.declared.session.load.Accepted.{Accepted}
 use Rattle.ecdis_cli.specs.Commands.{◌>>=◌, or_refused, Gives, now}
 use Rattle.ecdis_cli.specs.Fetch.{within_limit}
 

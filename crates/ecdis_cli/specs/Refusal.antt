@@ -16,8 +16,8 @@ use Rattle.update_sequence.specs.declared.fault.SequenceFault.{SequenceFault}
 use Rattle.update_sequence.specs.declared.fault.SequenceFault.TheVariants as of_sequence
 use Rattle.update_sequence.specs.declared.fault.BuildFault.{BuildFault}
 use Rattle.update_sequence.specs.declared.fault.BuildFault.TheVariants as of_build
-use Rattle.ecdis_cli.specs.declared.refusal.Refusal.{Refusal}
-use Rattle.ecdis_cli.specs.declared.refusal.Refusal.TheVariants.{BadLine, NoFile, ShelfFault, FileLong, Read, Sequence, CellsFull, Build, StoreFull}
+use Rattle.ecdis_cli.specs.declared.session.refusal.Refusal.{Refusal}
+use Rattle.ecdis_cli.specs.declared.session.refusal.Refusal.TheVariants.{BadLine, NoFile, ShelfFault, FileLong, Read, Sequence, CellsFull, Build, StoreFull}
 
 -- numbers as they are printed
 abbrev pub numbers : List ℕ → List (List ℕ)

@@ -1,8 +1,8 @@
 -- The bytes of a reply.
 use Rattle.std.specs.Prelude.{ℕ, List, [], ◌∷◌, ◌++◌, codes}
 use Rattle.std.specs.Fmt.{decimal}
-use Rattle.ecdis_cli.specs.declared.reply.Reply.{Reply}
-use Rattle.ecdis_cli.specs.declared.reply.Reply.TheVariants.{Refused, Info, Load, Cancel, Cells}
+use Rattle.ecdis_cli.specs.declared.session.reply.Reply.{Reply}
+use Rattle.ecdis_cli.specs.declared.session.reply.Reply.TheVariants.{Refused, Info, Load, Cancel, Cells}
 use Rattle.ecdis_cli.specs.Refusal.{code_of, values_of, after_spaces}
 
 abbrev pub printed : Reply → List ℕ

@@ -1,6 +1,10 @@
 -- Where the reading of a script stands.
-use Rattle.ecdis_cli.specs.declared.reader.Reader.{Reader}
+use Rattle.std.specs.Prelude.{ℕ, List}
+use Rattle.ecdis_cli.specs.declared.run.reader.Reader.{Reader}
+use Rattle.ecdis_cli.specs.World.{world_of}
 use Rattle.ecdis_cli.specs.Progress.{Standing}
 
-abbrev pub standing : Reader → Standing
-standing reader = record { state = reader.cells; number = reader.number; line = reader.line.items }
+-- that of a reader, where so much was said, and the shelf has failed so often
+abbrev pub standing : Reader → List ℕ → ℕ → Standing
+standing reader said faults =
+    record { world = world_of reader.cells said faults; number = reader.number; line = reader.line.items }

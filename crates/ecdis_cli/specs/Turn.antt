@@ -3,15 +3,15 @@ use Rattle.std.specs.Prelude.{◌≡◌, ℕ, Bool, List, [], Option, Some, None
 use Rattle.std.specs.FinMap as map
 use Rattle.chart_model.specs.State.{StateValue}
 use Rattle.chart_model.specs.declared.state.Held.{Held}
-use Rattle.ecdis_cli.specs.declared.line.Event.{Event}
-use Rattle.ecdis_cli.specs.declared.line.Event.TheVariants as asks
-use Rattle.ecdis_cli.specs.declared.general.General.{General}
-use Rattle.ecdis_cli.specs.declared.refusal.Refusal.{Refusal}
-use Rattle.ecdis_cli.specs.declared.refusal.Refusal.TheVariants.{BadLine}
-use Rattle.ecdis_cli.specs.declared.reply.Reply.{Reply}
-use Rattle.ecdis_cli.specs.declared.reply.Reply.TheVariants.{Refused, Info, Load, Cancel, Cells}
-use Rattle.ecdis_cli.specs.declared.fault.CommandFault.{CommandFault}
-use Rattle.ecdis_cli.specs.declared.fault.CommandFault.TheVariants as of_command
+use Rattle.ecdis_cli.specs.declared.script.event.Event.{Event}
+use Rattle.ecdis_cli.specs.declared.script.event.Event.TheVariants as asks
+use Rattle.ecdis_cli.specs.declared.session.general.General.{General}
+use Rattle.ecdis_cli.specs.declared.session.refusal.Refusal.{Refusal}
+use Rattle.ecdis_cli.specs.declared.session.refusal.Refusal.TheVariants.{BadLine}
+use Rattle.ecdis_cli.specs.declared.session.reply.Reply.{Reply}
+use Rattle.ecdis_cli.specs.declared.session.reply.Reply.TheVariants.{Refused, Info, Load, Cancel, Cells}
+use Rattle.ecdis_cli.specs.declared.session.fault.CommandFault.{CommandFault}
+use Rattle.ecdis_cli.specs.declared.session.fault.CommandFault.TheVariants as of_command
 use Rattle.ecdis_cli.specs.Line.{is_silent}
 use Rattle.ecdis_cli.specs.Event.{event_on}
 use Rattle.ecdis_cli.specs.Fetch.{Files, fetched}

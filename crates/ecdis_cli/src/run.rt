@@ -1,11 +1,18 @@
 //! All that the program does.
 
-ghost use Rattle.std.specs.Prelude.{◌≡◌, ◌≢◌, ◌<◌, ◌≤◌, ◌⊎◌, ◌↔◌, [], IsTrue, length};
-ghost use Rattle.chart_ports.specs.Count.{IsSteady, Rose, RoseBy};
-ghost use Rattle.ecdis_cli.specs.Run.{Replied, SCRIPT_LIMIT};
+mod reader;
+mod rounds;
+pub mod status;
 
-use crate::script::run_script;
-use crate::status::Status;
+ghost use Rattle.std.specs.Prelude.{◌≡◌, ◌≢◌, ◌+◌, ◌<◌, ◌≤◌, ◌⊎◌, ◌↔◌, [], IsTrue, length};
+ghost use Rattle.chart_ports.specs.Count.{IsSteady, Rose, RoseBy};
+ghost use Rattle.ecdis_cli.specs.Limits.{SCRIPT_LIMIT};
+ghost use Rattle.ecdis_cli.specs.World.{outside_of};
+ghost use Rattle.ecdis_cli.specs.Blamed.{Blamed};
+ghost use Rattle.ecdis_cli.specs.Run.{Replied};
+
+use crate::run::rounds::run_script;
+use crate::run::status::Status;
 use chart_ports::{Desk, Shelf, Source, Steps};
 use std::alloc::Global;
 use std::sync::ledger::Ledger;
@@ -31,14 +38,17 @@ pub fn run_ecdis<S: Source, L: Shelf, D: Desk, C: Ledger>(
     ensures unsaid { result ≡ Status.Words → desk.new ≡ desk.old }
 
     // What is said is the replies to the lines, or a front of them.
-    ensures output { IsTrue S.tells → IsTrue L.tells → IsTrue D.tells → Replied (S.left script.old) (S.left script.new) (L.files shelf.old) result (D.said desk.old) (D.said desk.new) (L.faults shelf.old) (L.faults shelf.new) }
+    ensures output { IsTrue S.tells → IsTrue L.tells → IsTrue D.tells → Replied (L.files shelf.old) result
+        (outside_of (S.left script.old) (D.said desk.old) (L.faults shelf.old)) (outside_of (S.left script.new) (D.said desk.new) (L.faults shelf.new)) }
+    ensures blamed { IsTrue D.tells → Blamed (D.said desk.old) (D.said desk.new) (L.faults shelf.old) (L.faults shelf.new) }
     ensures done { result ≡ Status.Done → IsTrue (S.is_at_end script.new) }
     ensures read { IsTrue S.tells → result ≡ Status.Done → S.left script.new ≡ [] }
+    ensures short { IsTrue S.tells → result ≡ Status.Done → length (S.left script.old) ≤ SCRIPT_LIMIT }
     ensures same { IsTrue L.tells → L.files shelf.new ≡ L.files shelf.old }
 
     // Each end has its cause. Want of memory alone needs none.
     ensures script_failed { result ≡ Status.ScriptFault → Rose (S.faults script.old) (S.faults script.new) }
-    ensures script_long { result ≡ Status.ScriptLong → RoseBy 16777217 (S.given script.old) (S.given script.new) }
+    ensures script_long { result ≡ Status.ScriptLong → RoseBy (SCRIPT_LIMIT + 1) (S.given script.old) (S.given script.new) }
     ensures script_over { IsTrue S.tells → result ≡ Status.ScriptLong → SCRIPT_LIMIT < length (S.left script.old) }
     ensures desk_failed { result ≡ Status.DeskFault → Rose (D.faults desk.old) (D.faults desk.new) }
     ensures script_later { S.faults script.old ≤ S.faults script.new }

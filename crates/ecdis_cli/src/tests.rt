@@ -1,9 +1,12 @@
 //! The program over devices in memory.
 
+mod files;
+mod loads;
+
 ghost use Rattle.std.specs.Prelude.{◌≡◌, ◌<◌};
 
 use crate::run::run_ecdis;
-use crate::status::Status;
+use crate::run::status::Status;
 use chart_ports::{FailingCalls, FileBytes, MemoryDesk, MemoryShelf, MemorySource, Steps};
 use std::alloc::{AllocError, Global};
 use std::marker::Brand;
@@ -46,28 +49,42 @@ fn failing(alloc: Global, number: u64) -> Result<FailingCalls, AllocError> {
 }
 
 /// The cell with another byte at a place.
-fn changed(alloc: Global, place: usize, byte: u8) -> Result<FileBytes, AllocError> {
+fn changed(alloc: Global, place: usize, byte: u8) -> Result<Vec<u8>, AllocError> {
     let mut bytes = CELL.to_vec(alloc)?;
     if place < bytes.len() {
         bytes[place] = byte;
     }
-    Ok(FileBytes::from_vec(bytes))
+    Ok(bytes)
+}
+
+/// Puts a file of this name on the shelf.
+fn put(
+    alloc: Global,
+    shelf: &mut MemoryShelf,
+    name: &str,
+    bytes: Vec<u8>,
+) -> Result<(), AllocError> {
+    shelf.insert(String::from_str(alloc, name)?, FileBytes::from_vec(bytes))
 }
 
 /// A shelf with the cell, the cell with a fault in its descriptor's labels or in its edition number,
-/// its data descriptive record alone, and an empty file.
+/// its data descriptive record alone, an empty file, and files that can be loaded.
 fn shelf(alloc: Global, fetch: u64) -> Result<MemoryShelf, AllocError> {
     let mut shelf = MemoryShelf::new(alloc, failing(alloc, fetch)?);
-    let cell = FileBytes::from_vec(CELL.to_vec(alloc)?);
-    shelf.insert(String::from_str(alloc, "AA5TEST1.000")?, cell)?;
-    let labels = changed(alloc, 79, b'?')?;
-    shelf.insert(String::from_str(alloc, "LABELS")?, labels)?;
-    let edition = changed(alloc, 257, b'x')?;
-    shelf.insert(String::from_str(alloc, "EDITION")?, edition)?;
-    let alone = FileBytes::from_vec(CELL[..201].to_vec(alloc)?);
-    shelf.insert(String::from_str(alloc, "ALONE")?, alone)?;
-    let empty = FileBytes::from_vec(Vec::new(alloc));
-    shelf.insert(String::from_str(alloc, "EMPTY")?, empty)?;
+    put(alloc, &mut shelf, "AA5TEST1.000", CELL.to_vec(alloc)?)?;
+    put(alloc, &mut shelf, "LABELS", changed(alloc, 79, b'?')?)?;
+    put(alloc, &mut shelf, "EDITION", changed(alloc, 257, b'x')?)?;
+    put(alloc, &mut shelf, "ALONE", CELL[..201].to_vec(alloc)?)?;
+    put(alloc, &mut shelf, "EMPTY", Vec::new(alloc))?;
+    put(alloc, &mut shelf, "T", files::base(alloc)?)?;
+    put(alloc, &mut shelf, "U", files::update(alloc)?)?;
+    put(alloc, &mut shelf, "DELETE", files::deletion(alloc)?)?;
+    put(alloc, &mut shelf, "CANCEL", files::cancellation(alloc)?)?;
+    for last in loads::CELLS {
+        let mut name = String::from_str(alloc, "T")?;
+        name.push(*last as char)?;
+        shelf.insert(name, FileBytes::from_vec(files::base_of(alloc, *last)?))?;
+    }
     Ok(shelf)
 }
 

@@ -1,12 +1,20 @@
 -- A run that doesn't begin says nothing; each other end has its cause.
+use Rattle.std.proofs.Common.{arith}
+use Rattle.ecdis_cli.proofs.Blames.{Blamed-none}
 use Rattle.ecdis_cli.proofs.Runs.{Replied-nothing, complete}
 use Rattle.ecdis_cli.proofs.run.run_ecdis.Goals as goal
 
 pub returns-then-words-ne1-clause-output : goal.returns-then-words-ne1-clause-output
-returns-then-words-ne1-clause-output g c = λ s l d. Replied-nothing _ _ _ _ _ _ (λ e. cc) (λ e. cc) (λ e. cc)
+returns-then-words-ne1-clause-output g c = λ s l d. Replied-nothing _ _ _ _ (λ e. cc) (λ e. cc) (λ e. cc)
+
+pub returns-then-words-ne1-clause-blamed : goal.returns-then-words-ne1-clause-blamed
+returns-then-words-ne1-clause-blamed g c = λ d. Blamed-none _ _ _ (omega arith)
 
 pub returns-in_default-clause-output : goal.returns-in_default-clause-output
-returns-in_default-clause-output g c = λ s l d. Replied-nothing _ _ _ _ _ _ (λ e. cc) (λ e. cc) (λ e. cc)
+returns-in_default-clause-output g c = λ s l d. Replied-nothing _ _ _ _ (λ e. cc) (λ e. cc) (λ e. cc)
+
+pub returns-in_default-clause-blamed : goal.returns-in_default-clause-blamed
+returns-in_default-clause-blamed g c = λ d. Blamed-none _ _ _ (omega arith)
 
 pub returns-clause-complete : goal.returns-clause-complete
 returns-clause-complete g c = λ one s short source desk.

@@ -1,0 +1,70 @@
+//! How a run ends.
+
+ghost use Rattle.std.specs.Prelude.{◌≡◌};
+ghost use Rattle.ecdis_cli.specs.Status.{number_of};
+ghost use Rattle.ecdis_cli.specs.Stop.{status_of};
+
+use crate::session::stop::Stop;
+use std::fmt;
+
+/// How a run ends.
+#[derive(Clone, Copy, Debug, PartialEq, Eq)]
+pub enum Status {
+    /// The script was read to its end and every reply was said.
+    Done,
+    /// The words are not the program's name alone.
+    Words,
+    /// The script could not be read on.
+    ScriptFault,
+    /// The script has more than 16,777,216 bytes.
+    ScriptLong,
+    /// A reply could not be said.
+    DeskFault,
+    /// There was no memory.
+    NoMemory,
+}
+
+impl Status {
+    /// How the run ends in which a line was not answered.
+    pub fn after(stop: Stop) -> Status
+        ensures { result ≡ status_of stop }
+    {
+        match stop {
+            Stop::DeskFault => Status::DeskFault,
+            Stop::NoMemory => Status::NoMemory,
+        }
+    }
+
+    /// The number with which the program ends.
+    pub fn number(self) -> u8
+        ensures { result ≡ number_of self }
+    {
+        match self {
+            Status::Done => 0,
+            Status::Words => 1,
+            Status::ScriptFault => 4,
+            Status::ScriptLong => 5,
+            Status::DeskFault => 6,
+            Status::NoMemory => 7,
+        }
+    }
+}
+
+/// The line for standard error, without its end. It is empty where the run was done.
+impl fmt::Display for Status {
+    ghost use Rattle.std.specs.Prelude.{Some};
+    ghost use Rattle.ecdis_cli.specs.Status.{line_of};
+
+    ghost output = { λ status. Some (line_of status) };
+
+    fn fmt<W: fmt::Write>(&self, f: &mut fmt::Formatter<W>) -> fmt::Result {
+        match self {
+            Status::Done => f.write_str(""),
+            Status::Words => f.write_str("ecdis: words"),
+            Status::ScriptFault => f.write_str("ecdis: script fault"),
+            Status::ScriptLong => f.write_str("ecdis: script long"),
+            Status::DeskFault => f.write_str("ecdis: desk fault"),
+            Status::NoMemory => f.write_str("ecdis: no memory"),
+        }
+    }
+}

@@ -1,0 +1,88 @@
+//! Why a command is not carried out.
+
+ghost use Rattle.std.specs.Prelude.{◌≡◌};
+ghost use Rattle.ecdis_cli.specs.declared.session.fault.CommandFault.TheVariants.{NoMemory};
+
+use crate::session::refusal::Refusal;
+use chart_ports::ShelfError;
+use std::alloc::{AllocError, AllocFailed};
+use update_sequence::{BuildFault, ReadFault, SequenceFault};
+
+/// Why a command is not carried out. What is held stays as it was.
+#[derive(Debug, Drop)]
+pub enum CommandFault {
+    /// It is refused.
+    Refused(Refusal),
+    /// There was no memory.
+    NoMemory,
+}
+
+impl From<AllocError> for CommandFault {
+    ghost from_gives = { λ _ e. e ≡ NoMemory };
+
+    fn from(_: AllocError) -> CommandFault {
+        CommandFault::NoMemory
+    }
+}
+
+impl<T: Drop> From<AllocFailed<T>> for CommandFault {
+    ghost from_gives = { λ _ e. e ≡ NoMemory };
+
+    fn from(_: AllocFailed<T>) -> CommandFault {
+        CommandFault::NoMemory
+    }
+}
+
+impl From<ShelfError> for CommandFault {
+    ghost use Rattle.std.specs.Prelude.{◌≡◌};
+    ghost use Rattle.ecdis_cli.specs.Commands.{fault_of_shelf};
+
+    ghost from_gives = { λ fault e. e ≡ fault_of_shelf fault };
+
+    fn from(fault: ShelfError) -> CommandFault {
+        match fault {
+            ShelfError::Failed => CommandFault::Refused(Refusal::ShelfFault),
+            ShelfError::NoMemory => CommandFault::NoMemory,
+        }
+    }
+}
+
+impl From<ReadFault> for CommandFault {
+    ghost use Rattle.std.specs.Prelude.{◌≡◌};
+    ghost use Rattle.ecdis_cli.specs.Commands.{fault_of_read};
+
+    ghost from_gives = { λ fault e. e ≡ fault_of_read fault };
+
+    fn from(fault: ReadFault) -> CommandFault {
+        match fault {
+            ReadFault::NoMemory => CommandFault::NoMemory,
+            _ => CommandFault::Refused(Refusal::Read(fault)),
+        }
+    }
+}
+
+impl From<SequenceFault> for CommandFault {
+    ghost use Rattle.std.specs.Prelude.{◌≡◌};
+    ghost use Rattle.ecdis_cli.specs.declared.session.fault.CommandFault.TheVariants.{Refused};
+    ghost use Rattle.ecdis_cli.specs.declared.session.refusal.Refusal.TheVariants.{Sequence};
+
+    ghost from_gives = { λ fault e. e ≡ Refused (Sequence fault) };
+
+    fn from(fault: SequenceFault) -> CommandFault {
+        CommandFault::Refused(Refusal::Sequence(fault))
+    }
+}
+
+impl From<BuildFault> for CommandFault {
+    ghost use Rattle.std.specs.Prelude.{◌≡◌};
+    ghost use Rattle.ecdis_cli.specs.Commands.{fault_of_build};
+
+    ghost from_gives = { λ fault e. e ≡ fault_of_build fault };
+
+    fn from(fault: BuildFault) -> CommandFault {
+        match fault {
+            BuildFault::NoMemory => CommandFault::NoMemory,
+            _ => CommandFault::Refused(Refusal::Build(fault)),
+        }
+    }
+}

@@ -1,0 +1,4 @@
+//! The cells that are held.
+
+pub mod holding;
+pub mod live;
