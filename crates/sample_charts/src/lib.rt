@@ -1,23 +1,18 @@
-//! Small charts and changes for tests: nodes, edges and features by a few numbers.
+//! Sample charts, over which shapes, closure and changes are tested across crates.
 //!
-//! The tests here hold what `area_rings`, `chart_closure` and `update_apply` answer on such charts against shapes,
+//! The tests hold what `area_rings`, `chart_closure` and `update_apply` answer on small charts against shapes,
 //! faults and changed records that were worked out by hand. None of these crates has tests of its own, since each
-//! would be proved again for them.
+//! would be proved again for them; this crate is tests alone, and is proved once.
+//!
+//! A chart is rows of a few numbers (`row`), each the insertion of a record (`change`), which are made one after the
+//! other (`charts`). A test is a table of rows, each with what has to be answered.
 #![tactic(auto)]
 
-mod changes;
-mod features;
-mod kind;
-mod points;
+#[cfg(test)]
+mod change;
+#[cfg(test)]
+mod charts;
+#[cfg(test)]
+mod row;
 #[cfg(test)]
 mod tests;
-mod vectors;
-
-pub use changes::{
-    Edit, Instruction, Text, edge_change, edge_coord_edit, edge_insertion, edge_pointer_edit,
-    edge_sounding_edit, feature_deletion, feature_insertion, feature_related_edit,
-    feature_settings,
-};
-pub use features::{feature, put_feature};
-pub use kind::{Primitive, VectorKind};
-pub use vectors::{empty_chart, pointer, put_edge, put_node, put_record, put_soundings};

@@ -1,37 +1,134 @@
-//! What changes make of one record, and why they are refused, worked out by hand.
+//! What changes make of one record, and why they are refused.
 
-mod attributes;
 mod identifiers;
 mod lists;
 mod versions;
 
-use super::edge;
-use crate::{edge_insertion, empty_chart, feature_insertion};
-use chart_model::{Cell, Feature, Foid, Name, Vector};
+use crate::change::{change, text_of};
+use crate::charts::chart;
+use crate::row::{Item, Row, feature, name, vector};
+use chart_model::{AttrMap, Cell, Feature, Name, Vector};
 use std::alloc::Global;
+use std::process::Abort;
 use std::test::Fail;
-use update_apply::apply_record;
+use update_apply::{ChangeFault, apply_record};
 
-const FEATURE: Name = Name { rcnm: 100, rcid: 1 };
-
-const FOID: Foid = Foid {
-    agen: 1,
-    fidn: 1,
-    fids: 1,
-};
-
-/// A chart of the edge 1, which points to the nodes 1, 2 and 3 and has points at the longitudes 1, 2 and 3.
-fn edge_chart(alloc: Global) -> Result<Cell, Fail> {
-    let mut cell = empty_chart(alloc).ok_or("a chart")?;
-    let insertion = edge_insertion(alloc, &[1, 2, 3])?;
-    apply_record(alloc, &mut cell, &insertion).map_err(|_| "an edge")?;
-    Ok(cell)
+/// Items of these numbers.
+macro_rules! items {
+    ($($number:expr),* $(,)?) => {
+        [$((120, $number, 1)),*]
+    };
 }
 
-/// A chart of the feature 1 with the related objects 1, 2 and 3.
-fn feature_chart(alloc: Global) -> Result<Cell, Fail> {
-    let mut cell = empty_chart(alloc).ok_or("a chart")?;
-    let insertion = feature_insertion(alloc, FOID, &[1, 2, 3])?;
-    apply_record(alloc, &mut cell, &insertion).map_err(|_| "a feature")?;
-    Ok(cell)
+use items;
+
+const LIST: [Item; 3] = items![1, 2, 3];
+
+/// The edge 1, with an attribute and three items in each of its lists.
+const EDGE: Row = Row {
+    attrs: &[(7, b'1')],
+    ..vector!(130, 1, LIST, LIST)
+};
+
+/// The feature 1, with the same.
+const FEATURE: Row = Row {
+    attrs: &[(7, b'1')],
+    others: &LIST,
+    ..feature!(2, 1, LIST)
+};
+
+const EDGE_NAME: Name = name!(130, 1);
+
+const FEATURE_NAME: Name = name!(100, 1);
+
+/// A modification of the edge that changes nothing but its version.
+const EDGE_CHANGE: Row = Row {
+    ruin: 3,
+    version: 2,
+    ..vector!(130, 1, [], [])
+};
+
+/// The same of the feature.
+const FEATURE_CHANGE: Row = Row {
+    ruin: 3,
+    version: 2,
+    foid: None,
+    ..feature!(2, 1, [])
+};
+
+/// What a change answers on a chart of one record or of none, and the record afterwards.
+#[derive(Drop)]
+struct Case {
+    before: Option<Row>,
+    change: Row,
+    answer: Result<(), ChangeFault>,
+    after: Option<Row>,
+}
+
+fn has_attrs(attrs: &AttrMap, wanted: &[(u16, u8)]) -> bool {
+    for (code, character) in wanted {
+        match attrs.get(*code) {
+            Some(text) if text.as_slice() == text_of(*character) => {}
+            _ => return false,
+        }
+    }
+    attrs.len() == wanted.len()
+}
+
+fn same_vectors(found: &Vector, wanted: &Vector) -> bool {
+    found.version == wanted.version
+        && found.pointers.as_slice() == wanted.pointers.as_slice()
+        && found.coords.as_slice() == wanted.coords.as_slice()
+}
+
+fn same_features(found: &Feature, wanted: &Feature) -> bool {
+    (found.version, found.prim, found.grup, found.class)
+        == (wanted.version, wanted.prim, wanted.grup, wanted.class)
+        && found.foid == wanted.foid
+        && found.pointers.as_slice() == wanted.pointers.as_slice()
+        && found.related.as_slice() == wanted.related.as_slice()
+}
+
+/// Whether a chart has the record of a row.
+fn has_record(alloc: Global, cell: &Cell, row: &Row) -> Result<bool, Fail> {
+    let wanted = chart(alloc, &[*row])?;
+    let vectors = (cell.vectors.get(row.name), wanted.vectors.get(row.name));
+    let features = (cell.features.get(row.name), wanted.features.get(row.name));
+    Ok(match (vectors, features) {
+        ((Some(found), Some(wanted)), (None, None)) => {
+            same_vectors(found, wanted) && has_attrs(&found.attrs, row.attrs)
+        }
+        ((None, None), (Some(found), Some(wanted))) => {
+            same_features(found, wanted) && has_attrs(&found.attrs, row.attrs)
+        }
+        _ => false,
+    })
+}
+
+/// Whether a chart has the record of a row, or has none.
+fn has_alone(alloc: Global, cell: &Cell, row: &Option<Row>) -> Result<bool, Fail> {
+    match row {
+        Some(row) => has_record(alloc, cell, row),
+        None => Ok(cell.vectors.len() == 0 && cell.features.len() == 0),
+    }
+}
+
+/// The chart of one record or of none.
+fn chart_of(alloc: Global, row: &Option<Row>) -> Result<Cell, Fail> {
+    match row {
+        Some(row) => chart(alloc, &[*row]),
+        None => chart(alloc, &[]),
+    }
+}
+
+/// Holds what a change answers against the case of this number.
+fn hold(rt: &impl Abort, alloc: Global, number: usize, case: &Case) -> Result<(), Fail> {
+    let mut cell = chart_of(alloc, &case.before)?;
+    let change = change(alloc, &case.change)?;
+    assert!(rt;
+        apply_record(alloc, &mut cell, &change) == case.answer,
+        "case {number}"
+    );
+    assert!(rt; has_alone(alloc, &cell, &case.after)?, "case {number}");
+    Ok(())
 }

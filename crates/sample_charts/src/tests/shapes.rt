@@ -1,94 +1,193 @@
-use super::{chart, edge, is_line, node};
-use crate::{Primitive, VectorKind, feature, pointer, put_record, put_soundings};
-use area_rings::{Shape, edge_line, feature_shape, has_line, has_shape};
-use chart_model::Coord;
+//! Lines of edges and shapes of features.
+
+use crate::charts::{chart, put};
+use crate::row::{Row, feature, name, vector};
+use area_rings::{Line, Shape, edge_line, feature_shape, has_line, has_shape, rings};
+use chart_model::{Coord, Name};
+use plane_geometry::Pt;
 use std::test::Fail;
 
-#[test]
-fn lines_of_edges(rt: HostRuntime) -> Result<(), Fail> {
-    let alloc = rt.alloc();
-    let mut cell = chart(alloc)?;
-    let end_first = [pointer(node(2), 2), pointer(node(1), 1)];
-    put_record(alloc, &mut cell, VectorKind::Edge, 8, &end_first, &[[3, 3]])?;
-    let cases: [(u32, bool, &[[i32; 2]]); 6] = [
-        (1, false, &[[0, 0], [5, 1], [10, 0]]),
-        (2, false, &[[10, 0], [10, 10]]),
-        (3, true, &[[10, 10], [1, 10], [0, 9], [0, 0]]),
-        (4, true, &[[5, 5], [6, 6], [6, 5], [5, 5]]),
-        (5, false, &[[5, 5], [5, 5]]),
-        (8, false, &[[0, 0], [3, 3], [10, 0]]),
-    ];
-    for (rcid, reverse, points) in cases {
-        let line = edge_line(alloc, &cell, edge(rcid), reverse)?.ok_or("a line")?;
-        assert!(rt; is_line(&line, points), "edge {rcid}");
-        assert!(rt; has_line(&cell, edge(rcid)), "edge {rcid}");
-    }
-    Ok(())
+/// A triangle whose first side bends at (5, 1), and two loops at (5, 5). The node 9 has no coordinate, and there is no
+/// node 8; the edge 8 has two begin nodes, and the edge 9 names its end node first.
+static CHART: [Row; 16] = [
+    Row {
+        deep: true,
+        ..vector!(110, 1, [], [(2, 3, 0), (4, 5, 0)])
+    },
+    vector!(120, 1, [], [(0, 0, 0)]),
+    vector!(120, 2, [], [(10, 0, 0)]),
+    vector!(120, 3, [], [(10, 10, 0)]),
+    vector!(120, 4, [], [(5, 5, 0)]),
+    vector!(120, 9, [], []),
+    vector!(130, 1, [(120, 1, 1), (120, 2, 2)], [(5, 1, 0)]),
+    vector!(130, 2, [(120, 2, 1), (120, 3, 2)], []),
+    vector!(130, 3, [(120, 1, 1), (120, 3, 2)], [(0, 9, 0), (1, 10, 0)],),
+    vector!(130, 4, [(120, 4, 1), (120, 4, 2)], [(6, 5, 0), (6, 6, 0)]),
+    vector!(130, 5, [(120, 4, 1), (120, 4, 2)], []),
+    vector!(130, 6, [(120, 1, 1), (120, 9, 2)], [(7, 7, 0)]),
+    vector!(130, 7, [(120, 1, 1), (120, 8, 2)], []),
+    vector!(130, 8, [(120, 1, 1), (120, 2, 1)], []),
+    vector!(130, 9, [(120, 2, 2), (120, 1, 1)], [(3, 3, 0)]),
+    vector!(130, 10, [(120, 1, 1), (120, 2, 2), (120, 3, 2)], []),
+];
+
+macro_rules! line {
+    ($(($x:expr, $y:expr)),* $(,)?) => {
+        &[$(Pt { x: $x, y: $y }),*]
+    };
 }
 
-/// A node without a coordinate, a node that isn't there, two begin nodes, no record, no edge.
-#[test]
-fn edges_without_a_line(rt: HostRuntime) -> Result<(), Fail> {
-    let alloc = rt.alloc();
-    let mut cell = chart(alloc)?;
-    let begins = [pointer(node(1), 1), pointer(node(2), 1)];
-    put_record(alloc, &mut cell, VectorKind::Edge, 8, &begins, &[])?;
-    for name in [edge(6), edge(7), edge(8), edge(99), node(1)] {
-        assert!(rt; edge_line(alloc, &cell, name, false)?.is_none(), "{name:?}");
-        assert!(rt; !has_line(&cell, name), "{name:?}");
-    }
-    Ok(())
-}
+/// A record, whether it is taken in reverse, and its line.
+type LineCase = (Name, bool, Option<&'static [Pt]>);
 
-fn are_points(shape: &Option<Shape>, wanted: &[Coord]) -> bool {
-    match shape {
-        Some(Shape::Points(coords)) => coords.as_slice() == wanted,
+static LINES: [LineCase; 12] = [
+    (name!(130, 1), false, Some(line![(0, 0), (5, 1), (10, 0)])),
+    (name!(130, 2), false, Some(line![(10, 0), (10, 10)])),
+    (
+        name!(130, 3),
+        true,
+        Some(line![(10, 10), (1, 10), (0, 9), (0, 0)]),
+    ),
+    (
+        name!(130, 4),
+        true,
+        Some(line![(5, 5), (6, 6), (6, 5), (5, 5)]),
+    ),
+    (name!(130, 5), false, Some(line![(5, 5), (5, 5)])),
+    (name!(130, 9), false, Some(line![(0, 0), (3, 3), (10, 0)])),
+    (name!(130, 6), false, None),
+    (name!(130, 7), false, None),
+    (name!(130, 8), false, None),
+    (name!(130, 10), false, None),
+    (name!(130, 99), false, None),
+    (name!(120, 1), false, None),
+];
+
+fn is_line(line: &Option<Line>, wanted: &Option<&'static [Pt]>) -> bool {
+    match (line, wanted) {
+        (Some(line), Some(points)) => line.as_slice() == *points,
+        (None, None) => true,
         _ => false,
     }
 }
 
-fn coord(x: i32, y: i32, z: Option<i32>) -> Coord {
-    Coord { x, y, z }
-}
-
 #[test]
-fn points_of_nodes(rt: HostRuntime) -> Result<(), Fail> {
+fn lines_of_edges(rt: HostRuntime) -> Result<(), Fail> {
     let alloc = rt.alloc();
-    let mut cell = chart(alloc)?;
-    put_soundings(alloc, &mut cell, 1, &[[2, 3], [4, 5]])?;
-    let soundings = VectorKind::IsolatedNode.name(1);
-    let points = feature(alloc, Primitive::Point, &[(soundings, 255), (node(2), 255)])?;
-    let wanted = [
-        coord(2, 3, Some(500)),
-        coord(4, 5, Some(500)),
-        coord(10, 0, None),
-    ];
-    assert!(rt; are_points(&feature_shape(alloc, &cell, &points)?, &wanted));
+    let cell = chart(alloc, &CHART)?;
+    for (at, (edge, reverse, wanted)) in LINES.iter().enumerate() {
+        let line = edge_line(alloc, &cell, *edge, *reverse)?;
+        assert!(rt; is_line(&line, wanted), "line {at}");
+        assert!(rt; has_line(&cell, *edge) == wanted.is_some(), "line {at}");
+    }
     Ok(())
 }
 
+enum Wanted {
+    Nothing,
+    Bare,
+    Points(&'static [Coord]),
+    Lines(&'static [&'static [Pt]]),
+    Rings(&'static [&'static [Pt]]),
+}
+
+/// Features, with the orientations of their edges, and their shapes.
+static SHAPES: [(Row, Wanted); 12] = [
+    (
+        feature!(1, 1, [(110, 1, 255), (120, 2, 255)]),
+        Wanted::Points(&[
+            Coord {
+                x: 2,
+                y: 3,
+                z: Some(500),
+            },
+            Coord {
+                x: 4,
+                y: 5,
+                z: Some(500),
+            },
+            Coord {
+                x: 10,
+                y: 0,
+                z: None,
+            },
+        ]),
+    ),
+    (feature!(1, 2, [(130, 1, 1)]), Wanted::Nothing),
+    (
+        feature!(2, 3, [(130, 2, 2), (130, 5, 1)]),
+        Wanted::Lines(&[line![(10, 10), (10, 0)], line![(5, 5), (5, 5)]]),
+    ),
+    (feature!(2, 4, [(120, 1, 1)]), Wanted::Nothing),
+    (feature!(2, 5, [(130, 1, 1), (130, 6, 1)]), Wanted::Nothing),
+    (
+        feature!(
+            3,
+            6,
+            [
+                (130, 1, 1),
+                (130, 2, 255),
+                (130, 3, 2),
+                (130, 5, 1),
+                (130, 4, 2),
+            ],
+        ),
+        Wanted::Rings(&[
+            line![(0, 0), (5, 1), (10, 0), (10, 10), (1, 10), (0, 9)],
+            line![(5, 5)],
+            line![(5, 5), (6, 6), (6, 5)],
+        ]),
+    ),
+    // No pointer, an unfinished ring, a broken chain, an edge without a line, no edge.
+    (feature!(3, 7, []), Wanted::Nothing),
+    (feature!(3, 8, [(130, 1, 1), (130, 2, 1)]), Wanted::Nothing),
+    (
+        feature!(3, 9, [(130, 1, 1), (130, 2, 1), (130, 3, 1)]),
+        Wanted::Nothing,
+    ),
+    (feature!(3, 10, [(130, 4, 1), (130, 6, 1)]), Wanted::Nothing),
+    (feature!(3, 11, [(120, 1, 1)]), Wanted::Nothing),
+    (feature!(255, 12, [(130, 99, 1)]), Wanted::Bare),
+];
+
+fn are_lines(lines: &[Line], wanted: &[&[Pt]]) -> bool {
+    for (at, points) in wanted.iter().enumerate() {
+        if at >= lines.len() || lines[at].as_slice() != *points {
+            return false;
+        }
+    }
+    lines.len() == wanted.len()
+}
+
+fn is_shape(shape: &Option<Shape>, wanted: &Wanted) -> bool {
+    match (shape, wanted) {
+        (None, Wanted::Nothing) => true,
+        (Some(Shape::Bare), Wanted::Bare) => true,
+        (Some(Shape::Points(coords)), Wanted::Points(points)) => coords.as_slice() == *points,
+        (Some(Shape::Lines(lines)), Wanted::Lines(wanted)) => are_lines(lines.as_slice(), wanted),
+        (Some(Shape::Rings(rings)), Wanted::Rings(wanted)) => are_lines(rings.as_slice(), wanted),
+        _ => false,
+    }
+}
+
 #[test]
-fn shapes_by_primitive(rt: HostRuntime) -> Result<(), Fail> {
+fn shapes_of_features(rt: HostRuntime) -> Result<(), Fail> {
     let alloc = rt.alloc();
-    let cell = chart(alloc)?;
-    let cases = [
-        (Primitive::Point, node(1), true),
-        (Primitive::Point, edge(1), false),
-        (Primitive::Line, edge(1), true),
-        (Primitive::Line, node(1), false),
-        (Primitive::Area, edge(4), true),
-        (Primitive::Area, node(1), false),
-        (Primitive::Bare, edge(99), true),
-    ];
-    for (primitive, target, wanted) in cases {
-        let feature = feature(alloc, primitive, &[(target, 1)])?;
-        let shape = feature_shape(alloc, &cell, &feature)?;
-        assert_eq!(rt; shape.is_some(), wanted, "{primitive:?} {target:?}");
-        assert_eq!(rt;
-            has_shape(&cell, &feature),
-            wanted,
-            "{primitive:?} {target:?}"
+    let mut cell = chart(alloc, &CHART)?;
+    for (row, wanted) in &SHAPES {
+        put(alloc, &mut cell, &[*row])?;
+        let number = row.name.rcid;
+        let feature = cell.features.get(row.name).ok_or("a feature")?;
+        let shape = feature_shape(alloc, &cell, feature)?;
+        assert!(rt; is_shape(&shape, wanted), "feature {number}");
+        assert!(rt;
+            has_shape(&cell, feature) == shape.is_some(),
+            "feature {number}"
         );
+        if row.prim == 3 {
+            let rings = rings(alloc, &cell, feature)?.map(Shape::Rings);
+            assert!(rt; is_shape(&rings, wanted), "feature {number}");
+        }
     }
     Ok(())
 }

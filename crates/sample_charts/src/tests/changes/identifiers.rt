@@ -1,80 +1,170 @@
-use super::{FEATURE, FOID, feature_chart};
-use crate::{feature_deletion, feature_related_edit};
-use chart_model::{Cell, Foid};
+//! Names, identifiers and soundings.
+
+use super::{
+    Case, EDGE, EDGE_CHANGE, EDGE_NAME, FEATURE, FEATURE_CHANGE, FEATURE_NAME, hold, items,
+};
+use crate::row::{FOID, Row};
+use chart_model::Foid;
 use std::test::Fail;
-use update_apply::{ChangeFault, apply_record};
+use update_apply::ChangeFault;
 
-/// Identifiers that differ from the one that is kept in one part each.
-fn others() -> [Foid; 3] {
-    [
-        Foid {
-            agen: 2,
-            fidn: 1,
-            fids: 1,
-        },
-        Foid {
-            agen: 1,
-            fidn: 2,
-            fids: 1,
-        },
-        Foid {
-            agen: 1,
-            fidn: 1,
-            fids: 2,
-        },
-    ]
+/// A change of a record that is refused.
+macro_rules! refused {
+    ($record:expr, $change:expr, $fault:expr $(,)?) => {
+        Case {
+            before: Some($record),
+            change: $change,
+            answer: Err($fault),
+            after: Some($record),
+        }
+    };
 }
 
-fn version_of(cell: &Cell) -> Option<u16> {
-    match cell.features.get(FEATURE) {
-        Some(feature) => Some(feature.version),
-        None => None,
-    }
+/// A change of no record.
+macro_rules! of_none {
+    ($ruin:expr $(,)?) => {
+        Case {
+            before: None,
+            change: Row {
+                ruin: $ruin,
+                version: 1,
+                ..EDGE_CHANGE
+            },
+            answer: Err(ChangeFault::Absent { name: EDGE_NAME }),
+            after: None,
+        }
+    };
 }
+
+macro_rules! made {
+    ($before:expr, $change:expr, $after:expr $(,)?) => {
+        Case {
+            before: Some($before),
+            change: $change,
+            answer: Ok(()),
+            after: $after,
+        }
+    };
+}
+
+/// A change of the feature with this identifier.
+macro_rules! with_foid {
+    ($ruin:expr, $foid:expr $(,)?) => {
+        Row {
+            ruin: $ruin,
+            foid: $foid,
+            ..FEATURE_CHANGE
+        }
+    };
+}
+
+/// A change of the feature with an identifier that differs from the kept one.
+macro_rules! of_another {
+    ($ruin:expr, $given:expr $(,)?) => {
+        refused!(
+            FEATURE,
+            with_foid!($ruin, Some($given)),
+            ChangeFault::Foid {
+                name: FEATURE_NAME,
+                kept: FOID,
+                given: $given,
+            }
+        )
+    };
+}
+
+/// Soundings that are put in, or taken out, at a place of the edge's coordinates.
+macro_rules! soundings {
+    ($edit:expr, $given:expr $(,)?) => {
+        Row {
+            other_edit: Some($edit),
+            others: &$given,
+            deep: true,
+            ..EDGE_CHANGE
+        }
+    };
+}
+
+const PRESENT: ChangeFault = ChangeFault::Present { name: EDGE_NAME };
+
+const MIXED: ChangeFault = ChangeFault::Mixed { name: EDGE_NAME };
+
+const OTHER_AGENCY: Foid = Foid { agen: 2, ..FOID };
+
+const OTHER_NUMBER: Foid = Foid { fidn: 2, ..FOID };
+
+const OTHER_PART: Foid = Foid { fids: 2, ..FOID };
+
+const EDGE_AFTER: Row = Row { version: 2, ..EDGE };
+
+const FEATURE_AFTER: Row = Row {
+    version: 2,
+    ..FEATURE
+};
+
+static CASES: [Case; 21] = [
+    // A record that is there, and one that isn't.
+    refused!(EDGE, EDGE, PRESENT),
+    refused!(EDGE, Row { version: 2, ..EDGE }, PRESENT),
+    of_none!(2),
+    of_none!(3),
+    // A refused change keeps the attributes.
+    refused!(
+        EDGE,
+        Row {
+            version: 1,
+            attrs: &[(7, 0x7F)],
+            ..EDGE_CHANGE
+        },
+        ChangeFault::Version {
+            name: EDGE_NAME,
+            kept: 1,
+            given: 1,
+        },
+    ),
+    // The identifier may be given, and is then the kept one.
+    made!(FEATURE, with_foid!(3, None), Some(FEATURE_AFTER)),
+    made!(FEATURE, with_foid!(3, Some(FOID)), Some(FEATURE_AFTER)),
+    made!(FEATURE, with_foid!(2, None), None),
+    made!(FEATURE, with_foid!(2, Some(FOID)), None),
+    of_another!(3, OTHER_AGENCY),
+    of_another!(3, OTHER_NUMBER),
+    of_another!(3, OTHER_PART),
+    of_another!(2, OTHER_AGENCY),
+    of_another!(2, OTHER_NUMBER),
+    of_another!(2, OTHER_PART),
+    // Soundings among points are refused, also in the place of all of them, but not where none are put in.
+    refused!(EDGE, soundings!((1, 4, 1), items![9]), MIXED),
+    refused!(EDGE, soundings!((3, 1, 3), items![7, 8, 9]), MIXED,),
+    made!(EDGE, soundings!((1, 4, 0), []), Some(EDGE_AFTER)),
+    made!(EDGE, soundings!((2, 1, 0), items![9]), Some(EDGE_AFTER)),
+    made!(
+        Row {
+            others: &[],
+            ..EDGE
+        },
+        soundings!((1, 1, 2), items![8, 9]),
+        Some(Row {
+            others: &items![8, 9],
+            deep: true,
+            ..EDGE_AFTER
+        }),
+    ),
+    // Points among soundings.
+    refused!(
+        Row { deep: true, ..EDGE },
+        Row {
+            deep: false,
+            ..soundings!((1, 4, 1), items![9])
+        },
+        MIXED,
+    ),
+];
 
 #[test]
-fn modifications_of_a_feature(rt: HostRuntime) -> Result<(), Fail> {
-    let alloc = rt.alloc();
-    for foid in [None, Some(FOID)] {
-        let mut cell = feature_chart(alloc)?;
-        let change = feature_related_edit(alloc, foid, None, &[])?;
-        assert_eq!(rt; apply_record(alloc, &mut cell, &change), Ok(()));
-        let feature = cell.features.get(FEATURE).ok_or("a feature")?;
-        assert_eq!(rt;
-            (feature.version, feature.foid, feature.class),
-            (2, FOID, 42)
-        );
-    }
-    Ok(())
-}
-
-#[test]
-fn deletions_of_a_feature(rt: HostRuntime) -> Result<(), Fail> {
-    let alloc = rt.alloc();
-    for foid in [None, Some(FOID)] {
-        let mut cell = feature_chart(alloc)?;
-        let change = feature_deletion(alloc, foid)?;
-        assert_eq!(rt; apply_record(alloc, &mut cell, &change), Ok(()));
-        assert_eq!(rt; version_of(&cell), None);
-    }
-    Ok(())
-}
-
-#[test]
-fn changes_of_another_object(rt: HostRuntime) -> Result<(), Fail> {
-    let alloc = rt.alloc();
-    let mut cell = feature_chart(alloc)?;
-    for given in others() {
-        let fault = ChangeFault::Foid {
-            name: FEATURE,
-            kept: FOID,
-            given,
-        };
-        let change = feature_related_edit(alloc, Some(given), None, &[])?;
-        assert_eq!(rt; apply_record(alloc, &mut cell, &change), Err(fault));
-        let deletion = feature_deletion(alloc, Some(given))?;
-        assert_eq!(rt; apply_record(alloc, &mut cell, &deletion), Err(fault));
-        assert_eq!(rt; version_of(&cell), Some(1));
+fn records_and_identifiers(rt: HostRuntime) -> Result<(), Fail> {
+    for (number, case) in CASES.iter().enumerate() {
+        hold(&rt, rt.alloc(), number, case)?;
     }
     Ok(())
 }

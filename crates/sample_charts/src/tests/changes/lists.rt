@@ -1,198 +1,164 @@
-use super::super::edge;
-use super::{FEATURE, edge_chart, feature_chart};
-use crate::{
-    Edit, Instruction, edge_coord_edit, edge_pointer_edit, edge_sounding_edit, empty_chart,
-    feature_related_edit, put_edge,
-};
-use chart_model::{Cell, Name};
+//! Edits of lists.
+
+use super::{Case, EDGE, EDGE_CHANGE, FEATURE, FEATURE_CHANGE, FEATURE_NAME, hold, items};
+use crate::row::{Edit, Item, Row};
+use chart_model::Name;
 use std::test::Fail;
-use update_apply::{ChangeFault, apply_record};
+use update_apply::ChangeFault;
 
 /// Edits of the list 1, 2, 3 with the items that are given, and what they make of it.
-fn edits() -> [(Edit, &'static [u8], &'static [u8]); 15] {
+static EDITS: [(Edit, &'static [Item], &'static [Item]); 15] = [
+    ((1, 1, 1), &items![9], &items![9, 1, 2, 3]),
+    ((1, 3, 2), &items![8, 9], &items![1, 2, 8, 9, 3]),
+    ((1, 4, 1), &items![9], &items![1, 2, 3, 9]),
+    ((1, 1, 0), &[], &items![1, 2, 3]),
+    ((1, 4, 0), &[], &items![1, 2, 3]),
+    ((2, 1, 1), &[], &items![2, 3]),
+    ((2, 3, 1), &items![9, 9], &items![1, 2]),
+    ((2, 1, 3), &[], &[]),
+    ((2, 1, 0), &[], &items![1, 2, 3]),
+    ((2, 4, 0), &[], &items![1, 2, 3]),
+    ((3, 1, 1), &items![9], &items![9, 2, 3]),
+    ((3, 3, 1), &items![9], &items![1, 2, 9]),
+    ((3, 1, 3), &items![7, 8, 9], &items![7, 8, 9]),
+    ((3, 1, 0), &[], &items![1, 2, 3]),
+    ((3, 4, 0), &[], &items![1, 2, 3]),
+];
+
+/// Why an edit of a list of three items is refused.
+enum Refusal {
+    NoControl,
+    Count(u16, usize),
+    Index(u16),
+}
+
+/// Edits that the list 1, 2, 3 refuses, with the items that are given, and why.
+static REFUSED: [(Option<Edit>, &'static [Item], Refusal); 15] = [
+    (None, &items![9], Refusal::NoControl),
+    (Some((1, 0, 1)), &items![9], Refusal::Index(0)),
+    (Some((1, 5, 1)), &items![9], Refusal::Index(5)),
+    (Some((1, 5, 0)), &[], Refusal::Index(5)),
+    (Some((1, 9, 2)), &items![9], Refusal::Count(2, 1)),
+    (Some((2, 0, 1)), &[], Refusal::Index(0)),
+    (Some((2, 3, 2)), &[], Refusal::Index(3)),
+    (Some((2, 4, 1)), &[], Refusal::Index(4)),
+    (Some((2, 5, 0)), &[], Refusal::Index(5)),
+    (Some((3, 0, 1)), &items![9], Refusal::Index(0)),
+    (Some((3, 3, 2)), &items![8, 9], Refusal::Index(3)),
+    (Some((3, 4, 1)), &items![9], Refusal::Index(4)),
+    (Some((3, 5, 0)), &[], Refusal::Index(5)),
+    (Some((3, 65_535, 1)), &items![9], Refusal::Index(65_535)),
+    (Some((3, 1, 0)), &items![9], Refusal::Count(0, 1)),
+];
+
+fn fault(name: Name, refusal: &Refusal) -> ChangeFault {
+    match refusal {
+        Refusal::NoControl => ChangeFault::NoControl { name },
+        Refusal::Count(stated, found) => ChangeFault::Count {
+            name,
+            stated: *stated,
+            found: *found,
+        },
+        Refusal::Index(index) => ChangeFault::Index {
+            name,
+            length: 3,
+            index: *index,
+        },
+    }
+}
+
+/// The edits of each of the lists of the two records.
+fn edits(edit: Option<Edit>, given: &'static [Item]) -> [Row; 4] {
+    let edge_pointers = Row {
+        pointer_edit: edit,
+        pointers: given,
+        ..EDGE_CHANGE
+    };
+    let coordinates = Row {
+        other_edit: edit,
+        others: given,
+        ..EDGE_CHANGE
+    };
+    let feature_pointers = Row {
+        pointer_edit: edit,
+        pointers: given,
+        ..FEATURE_CHANGE
+    };
+    let related = Row {
+        other_edit: edit,
+        others: given,
+        ..FEATURE_CHANGE
+    };
+    [edge_pointers, coordinates, feature_pointers, related]
+}
+
+/// The records with another list in the place of each of theirs.
+fn edited(list: &'static [Item]) -> [Row; 4] {
+    let edge = Row { version: 2, ..EDGE };
+    let feature = Row {
+        version: 2,
+        ..FEATURE
+    };
     [
-        ((Instruction::Insert, 1, 1), &[9], &[9, 1, 2, 3]),
-        ((Instruction::Insert, 3, 2), &[8, 9], &[1, 2, 8, 9, 3]),
-        ((Instruction::Insert, 4, 1), &[9], &[1, 2, 3, 9]),
-        ((Instruction::Insert, 1, 0), &[], &[1, 2, 3]),
-        ((Instruction::Insert, 4, 0), &[], &[1, 2, 3]),
-        ((Instruction::Delete, 1, 1), &[], &[2, 3]),
-        ((Instruction::Delete, 3, 1), &[9, 9], &[1, 2]),
-        ((Instruction::Delete, 1, 3), &[], &[]),
-        ((Instruction::Delete, 1, 0), &[], &[1, 2, 3]),
-        ((Instruction::Delete, 4, 0), &[], &[1, 2, 3]),
-        ((Instruction::Modify, 1, 1), &[9], &[9, 2, 3]),
-        ((Instruction::Modify, 3, 1), &[9], &[1, 2, 9]),
-        ((Instruction::Modify, 1, 3), &[7, 8, 9], &[7, 8, 9]),
-        ((Instruction::Modify, 1, 0), &[], &[1, 2, 3]),
-        ((Instruction::Modify, 4, 0), &[], &[1, 2, 3]),
+        Row {
+            pointers: list,
+            ..edge
+        },
+        Row {
+            others: list,
+            ..edge
+        },
+        Row {
+            pointers: list,
+            ..feature
+        },
+        Row {
+            others: list,
+            ..feature
+        },
     ]
 }
 
-/// Edits that a list of three items refuses, with the items that are given, and why.
-fn refused(name: Name) -> [(Option<Edit>, &'static [u8], ChangeFault); 15] {
-    let index = |index| ChangeFault::Index {
-        name,
-        length: 3,
-        index,
-    };
-    let count = |stated, found| ChangeFault::Count {
-        name,
-        stated,
-        found,
-    };
-    [
-        (None, &[9], ChangeFault::NoControl { name }),
-        (Some((Instruction::Insert, 0, 1)), &[9], index(0)),
-        (Some((Instruction::Insert, 5, 1)), &[9], index(5)),
-        (Some((Instruction::Insert, 5, 0)), &[], index(5)),
-        (Some((Instruction::Insert, 9, 2)), &[9], count(2, 1)),
-        (Some((Instruction::Delete, 0, 1)), &[], index(0)),
-        (Some((Instruction::Delete, 3, 2)), &[], index(3)),
-        (Some((Instruction::Delete, 4, 1)), &[], index(4)),
-        (Some((Instruction::Delete, 5, 0)), &[], index(5)),
-        (Some((Instruction::Modify, 0, 1)), &[9], index(0)),
-        (Some((Instruction::Modify, 3, 2)), &[8, 9], index(3)),
-        (Some((Instruction::Modify, 4, 1)), &[9], index(4)),
-        (Some((Instruction::Modify, 5, 0)), &[], index(5)),
-        (Some((Instruction::Modify, 65_535, 1)), &[9], index(65_535)),
-        (Some((Instruction::Modify, 1, 0)), &[9], count(0, 1)),
-    ]
-}
-
-fn points_to(cell: &Cell, numbers: &[u8]) -> bool {
-    let Some(edge) = cell.vectors.get(edge(1)) else {
-        return false;
-    };
-    let pointers = edge.pointers.as_slice();
-    let same = pointers.iter().zip(numbers).all(|(pointer, number)| pointer.target.rcid
-        == u32::from(*number));
-    pointers.len() == numbers.len() && same
+/// The record that a change is of.
+fn before(change: &Row) -> Row {
+    if change.name == FEATURE_NAME {
+        FEATURE
+    } else {
+        EDGE
+    }
 }
 
 #[test]
-fn pointers_edited(rt: HostRuntime) -> Result<(), Fail> {
-    let alloc = rt.alloc();
-    for (edit, given, after) in edits() {
-        let mut cell = edge_chart(alloc)?;
-        let change = edge_pointer_edit(alloc, Some(edit), given)?;
-        assert_eq!(rt; apply_record(alloc, &mut cell, &change), Ok(()));
-        assert!(rt; points_to(&cell, after), "{edit:?}");
+fn lists_edited(rt: HostRuntime) -> Result<(), Fail> {
+    for (number, (edit, given, after)) in EDITS.iter().enumerate() {
+        let changes = edits(Some(*edit), given);
+        let afters = edited(after);
+        for list in 0..4 {
+            let case = Case {
+                before: Some(before(&changes[list])),
+                change: changes[list],
+                answer: Ok(()),
+                after: Some(afters[list]),
+            };
+            hold(&rt, rt.alloc(), number, &case)?;
+        }
     }
     Ok(())
 }
 
 #[test]
-fn pointers_kept(rt: HostRuntime) -> Result<(), Fail> {
-    let alloc = rt.alloc();
-    let mut cell = edge_chart(alloc)?;
-    for (edit, given, fault) in refused(edge(1)) {
-        let change = edge_pointer_edit(alloc, edit, given)?;
-        assert_eq!(rt; apply_record(alloc, &mut cell, &change), Err(fault));
-        assert!(rt; points_to(&cell, &[1, 2, 3]), "{edit:?}");
-    }
-    Ok(())
-}
-
-fn runs_over(cell: &Cell, numbers: &[u8]) -> bool {
-    let Some(edge) = cell.vectors.get(edge(1)) else {
-        return false;
-    };
-    let coords = edge.coords.as_slice();
-    let same = coords
-        .iter()
-        .zip(numbers)
-        .all(|(coord, number)| coord.x == i32::from(*number));
-    coords.len() == numbers.len() && same
-}
-
-#[test]
-fn coordinates_edited(rt: HostRuntime) -> Result<(), Fail> {
-    let alloc = rt.alloc();
-    for (edit, given, after) in edits() {
-        let mut cell = edge_chart(alloc)?;
-        let change = edge_coord_edit(alloc, Some(edit), given)?;
-        assert_eq!(rt; apply_record(alloc, &mut cell, &change), Ok(()));
-        assert!(rt; runs_over(&cell, after), "{edit:?}");
-    }
-    Ok(())
-}
-
-#[test]
-fn coordinates_kept(rt: HostRuntime) -> Result<(), Fail> {
-    let alloc = rt.alloc();
-    let mut cell = edge_chart(alloc)?;
-    for (edit, given, fault) in refused(edge(1)) {
-        let change = edge_coord_edit(alloc, edit, given)?;
-        assert_eq!(rt; apply_record(alloc, &mut cell, &change), Err(fault));
-        assert!(rt; runs_over(&cell, &[1, 2, 3]), "{edit:?}");
-    }
-    Ok(())
-}
-
-/// Soundings among points are refused, also in the place of all of them, but not where none are put in.
-#[test]
-fn soundings_among_points(rt: HostRuntime) -> Result<(), Fail> {
-    let alloc = rt.alloc();
-    let mixed = Err(ChangeFault::Mixed { name: edge(1) });
-    let cases: [(Edit, &[u8], Result<(), ChangeFault>); 4] = [
-        ((Instruction::Insert, 4, 1), &[9], mixed),
-        ((Instruction::Modify, 1, 3), &[7, 8, 9], mixed),
-        ((Instruction::Insert, 4, 0), &[], Ok(())),
-        ((Instruction::Delete, 1, 0), &[9], Ok(())),
-    ];
-    for (edit, given, answer) in cases {
-        let mut cell = edge_chart(alloc)?;
-        let change = edge_sounding_edit(alloc, Some(edit), given)?;
-        assert_eq!(rt; apply_record(alloc, &mut cell, &change), answer);
-        assert!(rt; runs_over(&cell, &[1, 2, 3]), "{edit:?}");
-    }
-    Ok(())
-}
-
-#[test]
-fn soundings_among_none(rt: HostRuntime) -> Result<(), Fail> {
-    let alloc = rt.alloc();
-    let mut cell = empty_chart(alloc).ok_or("a chart")?;
-    put_edge(alloc, &mut cell, 1, [1, 2], &[])?;
-    let change = edge_sounding_edit(alloc, Some((Instruction::Insert, 1, 2)), &[8, 9])?;
-    assert_eq!(rt; apply_record(alloc, &mut cell, &change), Ok(()));
-    assert!(rt; runs_over(&cell, &[8, 9]));
-    Ok(())
-}
-
-fn relates_to(cell: &Cell, numbers: &[u8]) -> bool {
-    let Some(feature) = cell.features.get(FEATURE) else {
-        return false;
-    };
-    let related = feature.related.as_slice();
-    let same = related
-        .iter()
-        .zip(numbers)
-        .all(|(object, number)| object.foid.fidn == u32::from(*number));
-    related.len() == numbers.len() && same
-}
-
-#[test]
-fn related_objects_edited(rt: HostRuntime) -> Result<(), Fail> {
-    let alloc = rt.alloc();
-    for (edit, given, after) in edits() {
-        let mut cell = feature_chart(alloc)?;
-        let change = feature_related_edit(alloc, None, Some(edit), given)?;
-        assert_eq!(rt; apply_record(alloc, &mut cell, &change), Ok(()));
-        assert!(rt; relates_to(&cell, after), "{edit:?}");
-    }
-    Ok(())
-}
-
-#[test]
-fn related_objects_kept(rt: HostRuntime) -> Result<(), Fail> {
-    let alloc = rt.alloc();
-    let mut cell = feature_chart(alloc)?;
-    for (edit, given, fault) in refused(FEATURE) {
-        let change = feature_related_edit(alloc, None, edit, given)?;
-        assert_eq!(rt; apply_record(alloc, &mut cell, &change), Err(fault));
-        assert!(rt; relates_to(&cell, &[1, 2, 3]), "{edit:?}");
+fn lists_kept(rt: HostRuntime) -> Result<(), Fail> {
+    for (number, (edit, given, refusal)) in REFUSED.iter().enumerate() {
+        for change in edits(*edit, given) {
+            let kept = before(&change);
+            let case = Case {
+                before: Some(kept),
+                change,
+                answer: Err(fault(kept.name, refusal)),
+                after: Some(kept),
+            };
+            hold(&rt, rt.alloc(), number, &case)?;
+        }
     }
     Ok(())
 }

@@ -1,90 +1,98 @@
-use super::super::edge;
-use super::edge_chart;
-use crate::{Instruction, edge_change, empty_chart};
-use chart_model::Cell;
+//! Versions and attributes.
+
+use super::{Case, EDGE, EDGE_CHANGE, EDGE_NAME, FEATURE, FEATURE_CHANGE, hold};
+use crate::row::Row;
 use std::test::Fail;
-use update_apply::{ChangeFault, apply_record};
+use update_apply::ChangeFault;
 
-fn version_of(cell: &Cell) -> Option<u16> {
-    match cell.vectors.get(edge(1)) {
-        Some(edge) => Some(edge.version),
-        None => None,
+/// The version that is kept, an instruction, the version that is given, and the version afterwards, where the change is
+/// made. A modification has the kept version and 1, which is kept from then on, and none follows 65,535; a deletion has
+/// that, or the kept one.
+static VERSIONS: [(u16, u8, u16, Result<Option<u16>, ()>); 12] = [
+    (1, 3, 2, Ok(Some(2))),
+    (65_534, 3, 65_535, Ok(Some(65_535))),
+    (1, 2, 1, Ok(None)),
+    (1, 2, 2, Ok(None)),
+    (65_535, 2, 65_535, Ok(None)),
+    (1, 3, 1, Err(())),
+    (1, 3, 3, Err(())),
+    (65_535, 3, 65_535, Err(())),
+    (65_535, 3, 0, Err(())),
+    (1, 2, 0, Err(())),
+    (1, 2, 3, Err(())),
+    (65_535, 2, 0, Err(())),
+];
+
+fn edge_of(version: u16) -> Row {
+    Row { version, ..EDGE }
+}
+
+fn version_case(kept: u16, ruin: u8, given: u16, after: &Result<Option<u16>, ()>) -> Case {
+    let before = Some(edge_of(kept));
+    let change = Row {
+        ruin,
+        version: given,
+        ..EDGE_CHANGE
+    };
+    let (answer, after) = match after {
+        Ok(Some(version)) => (Ok(()), Some(edge_of(*version))),
+        Ok(None) => (Ok(()), None),
+        Err(()) => {
+            let name = EDGE_NAME;
+            (Err(ChangeFault::Version { name, kept, given }), before)
+        }
+    };
+    Case {
+        before,
+        change,
+        answer,
+        after,
     }
 }
 
-/// A modification has the kept version and 1, which is kept from then on; a deletion that, or the kept one.
-#[test]
-fn versions_that_follow(rt: HostRuntime) -> Result<(), Fail> {
-    let alloc = rt.alloc();
-    let cases = [
-        (1, Instruction::Modify, 2, Some(2)),
-        (65_534, Instruction::Modify, 65_535, Some(65_535)),
-        (1, Instruction::Delete, 1, None),
-        (1, Instruction::Delete, 2, None),
-        (65_535, Instruction::Delete, 65_535, None),
-    ];
-    for (kept, instruction, given, after) in cases {
-        let mut cell = empty_chart(alloc).ok_or("a chart")?;
-        let insertion = edge_change(alloc, Instruction::Insert, kept, &[])?;
-        assert_eq!(rt; apply_record(alloc, &mut cell, &insertion), Ok(()));
-        let change = edge_change(alloc, instruction, given, &[])?;
-        assert_eq!(rt; apply_record(alloc, &mut cell, &change), Ok(()));
-        assert_eq!(rt; version_of(&cell), after, "{kept} {instruction:?} {given}");
-    }
-    Ok(())
-}
+/// Settings of attributes, and the attributes afterwards, where 7 is there before. The last character removes one.
+static SETTINGS: [(&'static [(u16, u8)], &'static [(u16, u8)]); 7] = [
+    (&[], &[(7, b'1')]),
+    (&[(7, b'2')], &[(7, b'2')]),
+    (&[(7, b'2'), (7, 0)], &[(7, 0)]),
+    (&[(7, 0), (7, b'2')], &[(7, b'2')]),
+    (&[(7, b'2'), (7, 0x7F)], &[]),
+    (&[(7, 0x7F), (7, b'2')], &[(7, b'2')]),
+    (
+        &[(6, 0x7F), (8, 0), (65_535, b'2')],
+        &[(7, b'1'), (8, 0), (65_535, b'2')],
+    ),
+];
 
-/// No version follows 65,535 in a modification.
-#[test]
-fn versions_that_do_not_follow(rt: HostRuntime) -> Result<(), Fail> {
-    let alloc = rt.alloc();
-    let cases = [
-        (1, Instruction::Modify, 1),
-        (1, Instruction::Modify, 3),
-        (65_535, Instruction::Modify, 65_535),
-        (65_535, Instruction::Modify, 0),
-        (1, Instruction::Delete, 0),
-        (1, Instruction::Delete, 3),
-        (65_535, Instruction::Delete, 0),
-    ];
-    for (kept, instruction, given) in cases {
-        let mut cell = empty_chart(alloc).ok_or("a chart")?;
-        let insertion = edge_change(alloc, Instruction::Insert, kept, &[])?;
-        assert_eq!(rt; apply_record(alloc, &mut cell, &insertion), Ok(()));
-        let change = edge_change(alloc, instruction, given, &[])?;
-        let fault = ChangeFault::Version {
-            name: edge(1),
-            kept,
-            given,
-        };
-        assert_eq!(rt; apply_record(alloc, &mut cell, &change), Err(fault));
-        assert_eq!(rt; version_of(&cell), Some(kept));
+fn setting_case(
+    before: Row,
+    change: Row,
+    attrs: &'static [(u16, u8)],
+    after: &'static [(u16, u8)],
+) -> Case {
+    Case {
+        before: Some(before),
+        change: Row { attrs, ..change },
+        answer: Ok(()),
+        after: Some(Row {
+            version: 2,
+            attrs: after,
+            ..before
+        }),
     }
-    Ok(())
 }
 
 #[test]
-fn insertion_of_a_present_record(rt: HostRuntime) -> Result<(), Fail> {
-    let alloc = rt.alloc();
-    let mut cell = edge_chart(alloc)?;
-    let fault = ChangeFault::Present { name: edge(1) };
-    for version in [1, 2] {
-        let change = edge_change(alloc, Instruction::Insert, version, &[])?;
-        assert_eq!(rt; apply_record(alloc, &mut cell, &change), Err(fault));
-        assert_eq!(rt; version_of(&cell), Some(1));
+fn versions_and_attributes(rt: HostRuntime) -> Result<(), Fail> {
+    for (number, (kept, ruin, given, after)) in VERSIONS.iter().enumerate() {
+        let case = version_case(*kept, *ruin, *given, after);
+        hold(&rt, rt.alloc(), number, &case)?;
     }
-    Ok(())
-}
-
-#[test]
-fn changes_of_an_absent_record(rt: HostRuntime) -> Result<(), Fail> {
-    let alloc = rt.alloc();
-    let mut cell = empty_chart(alloc).ok_or("a chart")?;
-    let fault = ChangeFault::Absent { name: edge(1) };
-    for instruction in [Instruction::Delete, Instruction::Modify] {
-        let change = edge_change(alloc, instruction, 1, &[])?;
-        assert_eq!(rt; apply_record(alloc, &mut cell, &change), Err(fault));
-        assert_eq!(rt; version_of(&cell), None);
+    for (number, (settings, after)) in SETTINGS.iter().enumerate() {
+        let case = setting_case(EDGE, EDGE_CHANGE, settings, after);
+        hold(&rt, rt.alloc(), number, &case)?;
+        let case = setting_case(FEATURE, FEATURE_CHANGE, settings, after);
+        hold(&rt, rt.alloc(), number, &case)?;
     }
     Ok(())
 }

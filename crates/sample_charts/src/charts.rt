@@ -1,0 +1,36 @@
+//! Charts of rows.
+
+use crate::change::change;
+use crate::row::Row;
+use chart_model::{Cell, Header, Key};
+use std::alloc::Global;
+use std::test::Fail;
+use update_apply::apply_record;
+
+/// Makes the changes of rows to a chart.
+pub fn put(alloc: Global, cell: &mut Cell, rows: &[Row]) -> Result<(), Fail> {
+    for row in rows {
+        apply_record(alloc, cell, &change(alloc, row)?)?;
+    }
+    Ok(())
+}
+
+/// A chart without a record.
+fn empty_chart(alloc: Global) -> Result<Cell, Fail> {
+    let header = Header {
+        key: Key::from_bytes(b"AA5TEST1").ok_or("a key")?,
+        edition: 1,
+        update: 0,
+        issued: *b"20260101",
+        agency: 1,
+        scale: 50_000,
+    };
+    Ok(Cell::new(alloc, header))
+}
+
+/// The chart of the rows, which are insertions.
+pub fn chart(alloc: Global, rows: &[Row]) -> Result<Cell, Fail> {
+    let mut cell = empty_chart(alloc)?;
+    put(alloc, &mut cell, rows)?;
+    Ok(cell)
+}
