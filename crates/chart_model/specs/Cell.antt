@@ -24,7 +24,8 @@ pub record CellValue : Type 0 where
 abbrev pub cell_code : Coded CellValue
 cell_code =
     code_by (Header × (map.FinMap name_cmp Vector × map.FinMap name_cmp Feature))
-    (coded× header.the_row.coded (coded× (map.code name_code vector.the_row.coded) (map.code name_code feature.the_row.coded)))
+    (coded× header.the_row.coded
+    (coded× (map.code name_code vector.the_row.coded) (map.code name_code feature.the_row.coded)))
     (λ cell. (cell.header, (cell.vectors, cell.features)))
     (λ fields. record { header = fields.0; vectors = fields.1.0; features = fields.1.1 })
     (λ _. refl)

@@ -12,7 +12,9 @@ name_cmp x y = ordering_then (nat_cmp x.rcnm y.rcnm) (nat_cmp x.rcid y.rcid)
 
 -- a name is stored as the pair of its fields
 abbrev pub name_code : Coded Name
-name_code = code_by (ℕ × ℕ) (coded× coded_ℕ coded_ℕ) (λ name. (name.rcnm, name.rcid)) (λ pair. record { rcnm = pair.0; rcid = pair.1 }) (λ _. refl)
+name_code =
+    code_by (ℕ × ℕ) (coded× coded_ℕ coded_ℕ)
+    (λ name. (name.rcnm, name.rcid)) (λ pair. record { rcnm = pair.0; rcid = pair.1 }) (λ _. refl)
 
 -- the value under a name edited, where there is one
 abbrev pub edited_at : {K V : Type 0} {R : K → K → Ordering} → (V → V) → map.FinMap R V → K → Option V → map.FinMap R V

@@ -14,7 +14,9 @@ page_cmp x y = ordering_then (nat_cmp x.rcnm y.rcnm) (nat_cmp x.number y.number)
 
 -- a page's name is stored as the pair of its fields
 abbrev pub page_code : Coded PageName
-page_code = code_by (ℕ × ℕ) (coded× coded_ℕ coded_ℕ) (λ page. (page.rcnm, page.number)) (λ pair. record { rcnm = pair.0; number = pair.1 }) (λ _. refl)
+page_code =
+    code_by (ℕ × ℕ) (coded× coded_ℕ coded_ℕ)
+    (λ page. (page.rcnm, page.number)) (λ pair. record { rcnm = pair.0; number = pair.1 }) (λ _. refl)
 
 -- the page on which a record stands
 abbrev pub page_of : Name → PageName

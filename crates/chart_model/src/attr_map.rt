@@ -51,7 +51,8 @@ fn place_of(attrs: &[Attr], code: u16) -> Result<usize, usize>
     requires { AreRising attrs.now }
     ensures bound { IsSearchInRange result (length attrs.now) }
     ensures found { IfOk result (HoldsAt (λ attr. nat_cmp attr.code code ≡ Equal) attrs.now) }
-    ensures parted { IfErr result (IsPartitionPoint (λ attr. nat_cmp attr.code code ≡ Less) (λ attr. nat_cmp attr.code code ≡ Greater) attrs.now) }
+    ensures parted { IfErr result
+        (IsPartitionPoint (λ attr. nat_cmp attr.code code ≡ Less) (λ attr. nat_cmp attr.code code ≡ Greater) attrs.now) }
 {
     attrs.binary_search_by_key(&code, |attr| attr.code)
 }
@@ -122,7 +123,8 @@ fn step(attrs: &mut Vec<Attr>, kept: &mut VecDeque<Attr>, given: &mut VecDeque<A
     requires kept { AreRising kept.old.items }
     requires room { vec_len attrs.old + deque_len kept.old + deque_len given.old ≤ vec_capacity attrs.old }
     requires some { 0 < deque_len kept.old + deque_len given.old }
-    ensures map { merged (attrs_of attrs.new.items) kept.new.items given.new.items ≡ merged (attrs_of attrs.old.items) kept.old.items given.old.items }
+    ensures map { merged (attrs_of attrs.new.items) kept.new.items given.new.items
+        ≡ merged (attrs_of attrs.old.items) kept.old.items given.old.items }
     ensures rising { AreRising attrs.new.items }
     ensures kept { AreRising kept.new.items }
     ensures room { vec_len attrs.new + deque_len kept.new + deque_len given.new ≤ vec_capacity attrs.new }

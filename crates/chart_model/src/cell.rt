@@ -94,7 +94,8 @@ impl Model for Cell {
 
     ghost view = { λ cell. record { header = cell.header; vectors = cell.vectors; features = cell.features } };
 
-    ghost invariant = { λ cell. IsCell (record { header = cell.header; vectors = cell.vectors; features = cell.features }) };
+    ghost invariant = { λ cell. IsCell
+        (record { header = cell.header; vectors = cell.vectors; features = cell.features }) };
 }
 
 impl Cell {

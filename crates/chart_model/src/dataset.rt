@@ -38,7 +38,17 @@ impl Model for Dataset {
 
     ghost Value = { DatasetValue };
 
-    ghost view = { λ dataset. record { header = dataset.header; base = dataset.base; cancels = dataset.cancels; changes = dataset.changes } };
+    ghost view = { λ dataset. record {
+      header = dataset.header;
+      base = dataset.base;
+      cancels = dataset.cancels;
+      changes = dataset.changes;
+    } };
 
-    ghost invariant = { λ dataset. IsDataset (record { header = dataset.header; base = dataset.base; cancels = dataset.cancels; changes = dataset.changes }) };
+    ghost invariant = { λ dataset. IsDataset (record {
+      header = dataset.header;
+      base = dataset.base;
+      cancels = dataset.cancels;
+      changes = dataset.changes;
+    }) };
 }

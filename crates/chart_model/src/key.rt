@@ -37,7 +37,10 @@ impl Model for Key {
 
     ghost inverse = { λ bytes. record { cells = stored bytes; len = length bytes } };
 
-    ghost inverse_ok = { λ key h i. record { cells = stored-taken key.cells key.len h i; len = length-taken key.cells key.len h i } };
+    ghost inverse_ok = { λ key h i. record {
+      cells = stored-taken key.cells key.len h i;
+      len = length-taken key.cells key.len h i;
+    } };
 }
 
 /// Whether each byte is a visible ASCII character.

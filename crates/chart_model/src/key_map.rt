@@ -87,7 +87,8 @@ impl<V: Drop> KeyMap<V> {
     /// So a value is edited without a copy: taken out against an empty one, edited, and put back.
     pub fn swap(&mut self, key: Key, value: &mut V)
         ensures value { value.new ≡ unwrap_or (map.get self.old key) value.old }
-        ensures map { self.new ≡ (if map.contains_key self.old key then map.insert self.old key value.old else self.old) }
+        ensures map { self.new
+            ≡ (if map.contains_key self.old key then map.insert self.old key value.old else self.old) }
     {
         if let Some(held) = self.tree.get_mut(&key) {
             mem::swap(held, value);

@@ -32,6 +32,7 @@ pub use drawing::{Block, Geom, Item, ItemList, PanelKey, Target};
 pub use key::{Key, keys_are_tested};
 pub use key_map::KeyMap;
 pub use name::{Foid, Name};
+pub use name_iter::NameIter;
 pub use name_map::{Edit, NameMap};
 pub use octets::Octets;
 pub use record::{Attr, AttrList, Coord, Coords, Pointer, Pointers, Related, RelatedList};

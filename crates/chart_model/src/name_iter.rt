@@ -39,7 +39,7 @@ impl<'a, V> Model for NameIter<'a, V> {
 
 impl<'a, V: Drop> NameIter<'a, V> {
     /// A walk over pages, each with a record at least.
-    pub fn over(pages: Iter<'a, PageName, Rc<Page<V>>>) -> NameIter<'a, V>
+    pub(crate) fn over(pages: Iter<'a, PageName, Rc<Page<V>>>) -> NameIter<'a, V>
         requires { AreFull (held pages) }
         ensures { result ≡ flatten (held pages.entry) }
     {

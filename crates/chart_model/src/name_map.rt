@@ -138,9 +138,11 @@ impl<V: Drop> NameMap<V> {
         self.get(name).is_some()
     }
 
-    /// The number of entries with a value under that name too.
+    /// The number of entries with a value under that name too. One that doesn't fit is want of memory: there
+    /// are fewer names.
     fn count_with(&self, name: Name) -> Result<usize, AllocError>
-        ensures { IfOk result (λ count. count ≡ (if map.contains_key self.now name then map.len self.now else map.len self.now + 1)) }
+        ensures { IfOk result (λ count. count
+            ≡ (if map.contains_key self.now name then map.len self.now else map.len self.now + 1)) }
     {
         if self.contains(name) {
             return Ok(self.count);

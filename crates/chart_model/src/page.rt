@@ -38,7 +38,8 @@ fn place_of<V>(entries: &[(Name, V)], name: Name) -> Result<usize, usize>
     requires { T (map.is_sorted name_cmp entries.now) }
     ensures bound { IsSearchInRange result (length entries.now) }
     ensures found { IfOk result (HoldsAt (λ entry. name_cmp entry.0 name ≡ Equal) entries.now) }
-    ensures parted { IfErr result (IsPartitionPoint (λ entry. name_cmp entry.0 name ≡ Less) (λ entry. name_cmp entry.0 name ≡ Greater) entries.now) }
+    ensures parted { IfErr result
+        (IsPartitionPoint (λ entry. name_cmp entry.0 name ≡ Less) (λ entry. name_cmp entry.0 name ≡ Greater) entries.now) }
 {
     entries.binary_search_by_key(&name, |entry| entry.0)
 }

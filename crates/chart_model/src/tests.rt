@@ -1,3 +1,5 @@
+mod copies;
+
 use super::*;
 use std::alloc::{AllocError, Global};
 use std::test::Fail;
@@ -84,6 +86,53 @@ fn values_edited_and_removed(rt: HostRuntime) -> Result<(), Fail> {
     Ok(())
 }
 
+/// Whether a map has these numbers and values, in the order of its names, and no more.
+fn has(names: &NameMap<u8>, rows: &[(u32, u8)]) -> bool {
+    names.len() == rows.len()
+        && names.iter().zip(rows).all(|((name, value), row)| name.rcid == row.0 && *value == row.1)
+}
+
+#[test]
+fn copies_change_alone(rt: HostRuntime) -> Result<(), Fail> {
+    let mut names = NameMap::new(rt.alloc());
+    for (rcid, value) in [(16, 6), (7, 1), (8, 2), (9, 3), (15, 4), (0, 0)] {
+        names.insert(Name { rcnm: 110, rcid }, value)?;
+    }
+    let mut copy = names.clone()?;
+    for rcid in [7, 8, 16] {
+        copy.remove(Name { rcnm: 110, rcid })?;
+    }
+    copy.insert(
+        Name {
+            rcnm: 110,
+            rcid: 10,
+        },
+        5,
+    )?;
+    copy.insert(Name { rcnm: 110, rcid: 0 }, 7)?;
+    copy.edit(Name { rcnm: 110, rcid: 9 }, Exchange(8))?;
+    assert!(rt; has(&copy, &[(0, 7), (9, 8), (10, 5), (15, 4)]));
+    assert!(rt; has(&names, &[(0, 0), (7, 1), (8, 2), (9, 3), (15, 4), (16, 6)]));
+    Ok(())
+}
+
+#[test]
+fn pages_come_and_go(rt: HostRuntime) -> Result<(), Fail> {
+    let mut names = NameMap::new(rt.alloc());
+    for (rcid, value) in [(7, 1), (8, 2), (9, 3)] {
+        names.insert(Name { rcnm: 110, rcid }, value)?;
+    }
+    names.remove(Name { rcnm: 110, rcid: 7 })?;
+    names.remove(Name { rcnm: 110, rcid: 7 })?;
+    assert!(rt; has(&names, &[(8, 2), (9, 3)]));
+    names.remove(Name { rcnm: 110, rcid: 9 })?;
+    names.remove(Name { rcnm: 110, rcid: 8 })?;
+    assert!(rt; has(&names, &[]));
+    names.insert(Name { rcnm: 110, rcid: 8 }, 4)?;
+    assert!(rt; has(&names, &[(8, 4)]));
+    Ok(())
+}
+
 /// Attributes of codes and texts.
 fn settings(alloc: Global, rows: &[(u16, &[u8])]) -> Result<Vec<Attr>, AllocError> {
     let mut settings = Vec::new(alloc);
@@ -119,20 +168,45 @@ fn attributes_set_in_turn(rt: HostRuntime) -> Result<(), Fail> {
     Ok(())
 }
 
+/// Sets or removes attributes by a call for each.
+fn set_in_turn(
+    alloc: Global,
+    attrs: &mut AttrMap,
+    rows: &[(u16, &[u8])],
+) -> Result<(), AllocError> {
+    for (code, text) in rows {
+        if *text == b"\x7F".as_slice() {
+            let _ = attrs.remove(*code);
+        } else {
+            attrs.set(*code, Octets::from_vec(Vec::from_slice(alloc, text)?))?;
+        }
+    }
+    Ok(())
+}
+
 #[test]
-fn a_copied_cell(rt: HostRuntime) -> Result<(), Fail> {
-    let header = Header {
-        key: Key::from_bytes(b"AA5TEST1").ok_or("a key")?,
-        edition: 1,
-        update: 0,
-        issued: *b"20260101",
-        agency: 1,
-        scale: 50_000,
-    };
-    let copy = Cell::new(rt.alloc(), header).copy(rt.alloc())?;
-    assert_eq!(rt;
-        (copy.header.scale, copy.vectors.len(), copy.features.len()),
-        (50_000, 0, 0)
-    );
+fn settings_merge_as_in_turn(rt: HostRuntime) -> Result<(), Fail> {
+    let kept: [(u16, &[u8]); 4] = [(2, b"a"), (5, b"b"), (9, b"c"), (200, b"d")];
+    let rows: [(u16, &[u8]); 9] = [
+        (300, b"1"),
+        (9, b"\x7F"),
+        (5, b"2"),
+        (7, b"3"),
+        (7, b"\x7F"),
+        (5, b"4"),
+        (1, b"\x7F"),
+        (1, b""),
+        (2, b"\x7F"),
+    ];
+    let (mut all, mut each) = (AttrMap::new(rt.alloc()), AttrMap::new(rt.alloc()));
+    set_in_turn(rt.alloc(), &mut all, &kept)?;
+    set_in_turn(rt.alloc(), &mut each, &kept)?;
+    all.set_all(rt.alloc(), settings(rt.alloc(), &rows)?.as_slice())?;
+    set_in_turn(rt.alloc(), &mut each, &rows)?;
+    assert_eq!(rt; (all.len(), each.len()), (4, 4));
+    for (attr, wanted) in all.as_slice().iter().zip(each.as_slice()) {
+        assert_eq!(rt; attr.code, wanted.code);
+        assert_eq!(rt; attr.value.as_slice(), wanted.value.as_slice());
+    }
     Ok(())
 }
