@@ -15,9 +15,8 @@ bad row label = BadValue row.number label
 
 -- want of memory tells nothing
 abbrev pub told : FieldFault → Option FieldFault
-told (MissingField number tag) = Some (MissingField number tag)
-told (BadValue number label) = Some (BadValue number label)
 told NoMemory = None
+told fault = Some fault
 
 abbrev pub Fails : {X : Type 0} → FieldFault → Result X FieldFault → Type 0
 Fails fault wanted = answers.FailsBy told fault wanted

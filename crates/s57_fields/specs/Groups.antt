@@ -80,8 +80,8 @@ abbrev pub fault_in : {A : Type 0} → Result A FieldFault → Option FieldFault
 fault_in (Ok x) = None
 fault_in (Err fault) = Some fault
 
--- A record without the field has the empty list. Where it has the field, the fault is that of the first label of the
--- row with one.
+-- A record without the field has the empty list. Where it has the field, but the file no descriptor of it, the row is
+-- missing. Else the fault is that of the first label of the row with one, and there is none where no label has one.
 pub record FaultIsFirst
     {A : Type 0}
     (faults : Layout → RowValues → List (List Value) → List (Option FieldFault))

@@ -2,15 +2,12 @@
 use Rattle.std.specs.Prelude.{Option, Some, None, Result}
 use Rattle.chart_model.specs.Answers as answers
 use Rattle.s57_records.specs.declared.fault.DatasetFault.{DatasetFault}
-use Rattle.s57_records.specs.declared.fault.DatasetFault.TheVariants.{NoGeneral, MissingField, Value, Profile, NoMemory}
+use Rattle.s57_records.specs.declared.fault.DatasetFault.TheVariants.{NoMemory}
 
 -- want of memory tells nothing
 abbrev pub told : DatasetFault → Option DatasetFault
-told NoGeneral = Some NoGeneral
-told (MissingField number tag) = Some (MissingField number tag)
-told (Value number label) = Some (Value number label)
-told (Profile label) = Some (Profile label)
 told NoMemory = None
+told fault = Some fault
 
 abbrev pub Fails : {X : Type 0} → DatasetFault → Result X DatasetFault → Type 0
 Fails fault wanted = answers.FailsBy told fault wanted
