@@ -1,5 +1,5 @@
 -- What a file leaves that is taken over.
-use Rattle.std.proofs.Common.{◌≡◌, ◌⊎◌, inl, inr, ℕ, ◌+◌, ◌==◌, Bool, true, false, cond, not, if◌then◌else◌, List, [], ◌∷◌, ◌++◌, Option, Some, None, Result, Ok, Err, refl, sym, ◌∙◌, ap}
+use Rattle.std.proofs.Common.{◌≡◌, ◌⊎◌, inl, inr, ℕ, ◌+◌, ◌==◌, Bool, true, false, cond, not, if◌then◌else◌, List, [], ◌∷◌, ◌++◌, Option, Some, None, Result, Ok, Err, refl, sym, ◌∙◌, ap, subst}
 use Rattle.std.specs.Option.{option_map, option_and_then}
 use Rattle.std.specs.Result.{IsOk, is_ok, result_ok}
 use Rattle.std.proofs.lemmas.Bool.{true≢false}
@@ -166,3 +166,11 @@ module _
           numbers = held_more files file ∙ held-read (held_by files) file dataset is.reads ∙ held-is (held_by files) dataset true kind.1;
           builds = chart_more files file ∙ chart-read (rebuilt files) file dataset is.reads ∙ chart-is (rebuilt files) dataset true kind.1;
         }
+
+-- the same of files, numbers and a chart that are equal
+pub leaves-as : (key : List ℕ) (files after : List (List ℕ)) (held now : Option Held) (chart left : Option CellValue) → Leaves key files held chart → after ≡ files → now ≡ held → left ≡ chart → Leaves key after now left
+leaves-as key files after held now chart left is files_are held_are chart_are = record {
+  sound = subst (IsSoundList key) (sym files_are) is.sound;
+  numbers = ap held_by files_are ∙ is.numbers ∙ sym held_are;
+  builds = ap rebuilt files_are ∙ is.builds ∙ sym chart_are;
+}

@@ -189,36 +189,40 @@ fn chart(alloc: Global) -> Result<Cell, Fail> {
     Ok(cell)
 }
 
-/// Whether the items of each list have these numbers.
-fn have(cell: &Cell, numbers: &[u8]) -> bool {
-    let Some(edge) = cell.vectors.get(EDGE_NAME) else {
-        return false;
-    };
-    let Some(feature) = cell.features.get(FEATURE_NAME) else {
-        return false;
-    };
-    let pointing = edge.pointers.as_slice();
-    let places = edge.coords.as_slice();
-    let showing = feature.pointers.as_slice();
-    let related = feature.related.as_slice();
-    let lengths = [pointing.len(), places.len(), showing.len(), related.len()];
-    lengths == [numbers.len(); 4]
-        && pointing
-            .iter()
-            .zip(numbers)
-            .all(|(item, number)| item.target.rcid == u32::from(*number))
-        && places
-            .iter()
-            .zip(numbers)
-            .all(|(item, number)| item.x == i32::from(*number))
-        && showing
-            .iter()
-            .zip(numbers)
-            .all(|(item, number)| item.target.rcid == u32::from(*number))
-        && related
-            .iter()
-            .zip(numbers)
-            .all(|(item, number)| item.foid.fidn == u32::from(*number))
+/// How many items a list has, and the number of the second.
+type Looked = (usize, u32);
+
+fn looked_pointers(pointers: &[Pointer]) -> Looked {
+    match pointers.get(1) {
+        Some(pointer) => (pointers.len(), pointer.target.rcid),
+        None => (pointers.len(), 0),
+    }
+}
+
+fn looked_points(coords: &[Coord]) -> Looked {
+    match coords.get(1) {
+        Some(coord) => (coords.len(), coord.x.unsigned_abs()),
+        None => (coords.len(), 0),
+    }
+}
+
+fn looked_related(related: &[Related]) -> Looked {
+    match related.get(1) {
+        Some(object) => (related.len(), object.foid.fidn),
+        None => (related.len(), 0),
+    }
+}
+
+/// What is looked at of each list.
+fn looked(cell: &Cell) -> Option<[Looked; 4]> {
+    let edge = cell.vectors.get(EDGE_NAME)?;
+    let feature = cell.features.get(FEATURE_NAME)?;
+    Some([
+        looked_pointers(edge.pointers.as_slice()),
+        looked_points(edge.coords.as_slice()),
+        looked_pointers(feature.pointers.as_slice()),
+        looked_related(feature.related.as_slice()),
+    ])
 }
 
 /// Edits the second item of each list.
@@ -251,14 +255,14 @@ fn edited(alloc: Global, instruction: u8, numbers: &[u8]) -> Result<Cell, Fail> 
 
 #[test]
 fn each_list_is_edited(rt: HostRuntime) -> Result<(), Fail> {
-    let table: [(u8, &[u8], &[u8]); 3] = [
-        (INSERT, &[9], &[1, 9, 2, 3]),
-        (DELETE, &[], &[1, 3]),
-        (MODIFY, &[9], &[1, 9, 3]),
+    let table: [(u8, &[u8], Looked); 3] = [
+        (INSERT, &[9], (4, 9)),
+        (DELETE, &[], (2, 3)),
+        (MODIFY, &[9], (3, 9)),
     ];
     for (instruction, numbers, wanted) in table {
         let cell = edited(rt.alloc(), instruction, numbers)?;
-        assert!(rt; have(&cell, wanted), "{instruction}");
+        assert_eq!(rt; looked(&cell), Some([wanted; 4]), "{instruction}");
     }
     Ok(())
 }

@@ -52,20 +52,24 @@ fn first<C: Ledger>(
 {
     accepted_files_follow();
     let dataset = read_data_set(alloc, bytes.as_slice(), steps)?;
-    if !is_of(key, bytes.as_slice(), &dataset) || dataset.cancels || !dataset.base {
-        return Err("it is a base file".into());
+    if !is_of(key, bytes.as_slice(), &dataset) {
+        return Err("it is of another cell".into());
     }
-    let Effect::Replace = judge(None, &dataset)? else {
-        return Err("it stands alone".into());
-    };
+    if dataset.cancels || !dataset.base {
+        return Err("it is no base file".into());
+    }
+    let effect = judge(None, &dataset)?;
     let cell = build(alloc, None, &dataset)?;
     let mut files = FileList::new(alloc);
     files.push(Octets::from_vec(bytes))?;
-    Ok(Taken {
-        files,
-        held: numbers_of(&dataset.header),
-        chart: Some(cell),
-    })
+    match effect {
+        Effect::Replace => Ok(Taken {
+            files,
+            held: numbers_of(&dataset.header),
+            chart: Some(cell),
+        }),
+        _ => Err("it doesn't stand alone".into()),
+    }
 }
 
 /// Takes over an update.
