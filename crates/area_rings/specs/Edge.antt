@@ -6,12 +6,13 @@ use Rattle.chart_model.specs.declared.record.Coord.{Coord}
 use Rattle.chart_model.specs.declared.record.Pointer.{Pointer}
 use Rattle.chart_model.specs.declared.cell.Vector.{Vector}
 use Rattle.chart_model.specs.Cell.{CellValue}
+use Rattle.chart_model.specs.Codes.{ISOLATED_NODE, CONNECTED_NODE, EDGE, BEGIN_NODE, END_NODE, REVERSE}
 use Rattle.plane_geometry.specs.declared.point.Pt.{Pt}
 use Rattle.area_rings.specs.Choice.{◌>>=◌}
 
 -- an isolated node or a connected node
 abbrev pub is_node : Name → Bool
-is_node name = (name.rcnm == 110) || (name.rcnm == 120)
+is_node name = (name.rcnm == ISOLATED_NODE) || (name.rcnm == CONNECTED_NODE)
 
 -- the node of that name
 abbrev pub node_of : CellValue → Name → Option Vector
@@ -29,7 +30,7 @@ place_of cell name = do
 
 -- two pointers are to a begin node and to an end node
 abbrev pub begins_and_ends : Pointer → Pointer → Bool
-begins_and_ends p q = (p.topi == 1) && (q.topi == 2)
+begins_and_ends p q = (p.topi == BEGIN_NODE) && (q.topi == END_NODE)
 
 -- the begin node and the end node, where there is one pointer to each and no other
 unfoldable pub ends_of : List Pointer → Option (Name × Name)
@@ -47,7 +48,7 @@ pub record EdgeValue : Type 0 where
 -- an edge from its begin node by its own points to its end node
 unfoldable pub edge_of : CellValue → Name → Option EdgeValue
 edge_of cell name =
-    if name.rcnm == 130 then (do
+    if name.rcnm == EDGE then (do
       edge ← finite.get cell.vectors name
       ends ← ends_of edge.pointers
       begin ← place_of cell ends.0
@@ -63,6 +64,6 @@ turned reversed edge =
 abbrev pub line_of : CellValue → Name → Bool → Option (List Pt)
 line_of cell name reversed = option_map (λ edge. (turned reversed edge).points) (edge_of cell name)
 
--- the edge that a pointer gives: orientation 2 is reverse
+-- the edge that a pointer gives, in reverse where its orientation says so
 abbrev pub edge_along : CellValue → Pointer → Option EdgeValue
-edge_along cell pointer = option_map (turned (pointer.ornt == 2)) (edge_of cell pointer.target)
+edge_along cell pointer = option_map (turned (pointer.ornt == REVERSE)) (edge_of cell pointer.target)

@@ -6,6 +6,7 @@ use Rattle.chart_model.specs.declared.record.Coord.{Coord}
 use Rattle.chart_model.specs.declared.record.Pointer.{Pointer}
 use Rattle.chart_model.specs.declared.cell.Feature.{Feature}
 use Rattle.chart_model.specs.Cell.{CellValue}
+use Rattle.chart_model.specs.Codes.{POINT, LINE, AREA, NO_PRIMITIVE, REVERSE}
 use Rattle.plane_geometry.specs.declared.point.Pt.{Pt}
 use Rattle.area_rings.specs.declared.shape.Shape.{Shape}
 use Rattle.area_rings.specs.declared.shape.Shape.TheVariants.{Points, Lines, Rings, Bare}
@@ -26,12 +27,12 @@ points_of cell pointers =
 
 -- the line of each edge that is pointed to
 abbrev pub lines_of : CellValue → List Pointer → Option (List (List Pt))
-lines_of cell pointers = each (λ pointer. line_of cell pointer.target (pointer.ornt == 2)) pointers
+lines_of cell pointers = each (λ pointer. line_of cell pointer.target (pointer.ornt == REVERSE)) pointers
 
 -- the shape of a point, a line, an area or an object without one
 unfoldable pub shape_of : CellValue → Feature → Option Shape
 shape_of cell feature =
-    if feature.prim == 1 then option_map Points (points_of cell feature.pointers) else (
-    if feature.prim == 2 then option_map Lines (lines_of cell feature.pointers) else (
-    if feature.prim == 3 then option_map Rings (rings_of cell feature.pointers) else (
-    if feature.prim == 255 then Some Bare else None)))
+    if feature.prim == POINT then option_map Points (points_of cell feature.pointers) else (
+    if feature.prim == LINE then option_map Lines (lines_of cell feature.pointers) else (
+    if feature.prim == AREA then option_map Rings (rings_of cell feature.pointers) else (
+    if feature.prim == NO_PRIMITIVE then Some Bare else None)))

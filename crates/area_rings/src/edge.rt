@@ -5,19 +5,9 @@ ghost use Rattle.std.specs.Option.{option_copied, option_map};
 ghost use Rattle.area_rings.specs.Edge.{is_node, node_of, point_of, place_of, begins_and_ends, ends_of, edge_of, turned};
 ghost use Rattle.area_rings.specs.Direction.{value_of};
 
+use chart_model::codes::{BEGIN_NODE, CONNECTED_NODE, EDGE, END_NODE, ISOLATED_NODE};
 use chart_model::{Cell, Coord, Name, Pointer, Vector};
 use plane_geometry::Pt;
-
-const ISOLATED_NODE: u8 = 110;
-
-const CONNECTED_NODE: u8 = 120;
-
-const EDGE: u8 = 130;
-
-/// The topology of a pointer to an edge's begin node, and of one to its end node.
-const BEGIN: u8 = 1;
-
-const END: u8 = 2;
 
 /// An edge on the way from one of its nodes to the other.
 #[derive(Clone, Copy)]
@@ -67,7 +57,7 @@ fn place(cell: &Cell, name: Name) -> Option<Pt>
 fn begins_and_ends(begin: &Pointer, end: &Pointer) -> bool
     ensures { result ≡ begins_and_ends begin.now end.now }
 {
-    begin.topi == BEGIN && end.topi == END
+    begin.topi == BEGIN_NODE && end.topi == END_NODE
 }
 
 /// The begin node and the end node that an edge's pointers name.

@@ -7,6 +7,7 @@ ghost use Rattle.area_rings.specs.Rings.{but_last};
 ghost use Rattle.area_rings.specs.Shape.{line_of, lines_of};
 
 use crate::edge::{DirectedEdge, edge, point};
+use chart_model::codes::REVERSE;
 use chart_model::{Cell, Coord, Name, Pointer, Sequence};
 use plane_geometry::Pt;
 use std::alloc::{AllocError, Global};
@@ -16,9 +17,6 @@ pub type Line = Sequence<Pt>;
 
 /// Lines in the order of a feature's pointers.
 pub type LineList = Sequence<Line>;
-
-/// The orientation of a pointer that takes its edge from the end node to the begin node.
-pub(crate) const REVERSE: u8 = 2;
 
 /// Adds the points of coordinates.
 fn push_forward(points: &mut Vec<Pt>, coords: &[Coord]) -> Result<(), AllocError>

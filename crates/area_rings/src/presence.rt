@@ -5,9 +5,8 @@ ghost use Rattle.area_rings.specs.Shape.{line_of, rings_of, shape_of};
 ghost use Rattle.area_rings.specs.Edge.{node_of, edge_of};
 
 use crate::edge::{edge, node};
-use crate::line::REVERSE;
-use crate::shape::{AREA, BARE, LINE, POINT};
 use crate::trace::follow;
+use chart_model::codes::{AREA, LINE, NO_PRIMITIVE, POINT, REVERSE};
 use chart_model::{Cell, Feature, Name, Pointer};
 
 /// Whether each of the pointers is to a node.
@@ -64,6 +63,6 @@ pub fn has_shape(cell: &Cell, feature: &Feature) -> bool
         POINT => all_nodes(cell, pointers),
         LINE => all_lines(cell, pointers),
         AREA => all_rings(cell, pointers),
-        prim => prim == BARE,
+        prim => prim == NO_PRIMITIVE,
     }
 }

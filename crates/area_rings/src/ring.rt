@@ -4,8 +4,9 @@ ghost use Rattle.std.specs.Prelude.{◌≡◌, ◌++◌, ◌∷◌, [], if◌the
 ghost use Rattle.area_rings.specs.Shape.{rings_of};
 
 use crate::edge::edge;
-use crate::line::{REVERSE, push_way};
+use crate::line::push_way;
 use crate::trace::follow;
+use chart_model::codes::REVERSE;
 use chart_model::{Cell, Feature, Sequence};
 use plane_geometry::{Pt, Ring};
 use std::alloc::{AllocError, Global};

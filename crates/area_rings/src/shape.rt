@@ -6,17 +6,9 @@ ghost use Rattle.area_rings.specs.Shape.{points_of, shape_of};
 use crate::edge::node;
 use crate::line::{LineList, lines};
 use crate::ring::{RingList, rings};
+use chart_model::codes::{AREA, LINE, NO_PRIMITIVE, POINT};
 use chart_model::{Cell, Coords, Feature, Pointer, Sequence};
 use std::alloc::{AllocError, Global};
-
-/// The geometric primitives.
-pub(crate) const POINT: u8 = 1;
-
-pub(crate) const LINE: u8 = 2;
-
-pub(crate) const AREA: u8 = 3;
-
-pub(crate) const BARE: u8 = 255;
 
 /// The shape of a feature.
 #[derive(Debug, Drop)]
@@ -45,7 +37,7 @@ fn points(alloc: Global, cell: &Cell, pointers: &[Pointer]) -> Result<Option<Coo
     Ok(Some(Sequence::from_vec(coords)))
 }
 
-/// The shape of a feature by its primitive: 1 a point, 2 a line, 3 an area, 255 none. `None` where one
+/// The shape of a feature by its primitive: a point, a line, an area, or none of these. `None` where one
 /// of its pointers is to no node, or to no edge with a line; and for an area without rings.
 pub fn feature_shape(
     alloc: Global,
@@ -59,7 +51,7 @@ pub fn feature_shape(
         POINT => Ok(points(alloc, cell, pointers)?.map(Shape::Points)),
         LINE => Ok(lines(alloc, cell, pointers)?.map(Shape::Lines)),
         AREA => Ok(rings(alloc, cell, feature)?.map(Shape::Rings)),
-        BARE => Ok(Some(Shape::Bare)),
+        NO_PRIMITIVE => Ok(Some(Shape::Bare)),
         _ => Ok(None),
     }
 }

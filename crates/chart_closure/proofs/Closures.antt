@@ -11,7 +11,8 @@ use Rattle.chart_model.specs.Cell.{CellValue, IsCell}
 use Rattle.chart_model.specs.Record.{IsVectorName, IsFeatureName}
 use Rattle.chart_model.specs.Names.{name_cmp}
 use Rattle.chart_closure.specs.declared.fault.ClosureFault.{ClosureFault}
-use Rattle.chart_closure.specs.Closed.{first_of, vector_fault, feature_fault, fault_at, IsClosed, IsLeastFault, closure_fault}
+use Rattle.chart_model.specs.Answers.{first_of}
+use Rattle.chart_closure.specs.Closed.{vector_fault, feature_fault, fault_at, IsClosed, IsLeastFault, closure_fault}
 use Rattle.chart_closure.proofs.Least.{first_of-append, fault_in, first_fault, no_fault, IsLeastOf, least_fault, found_of}
 
 -- the fault of a name, in the two lists of records

@@ -13,7 +13,8 @@ use Rattle.area_rings.specs.Shape.{line_of, shape_of}
 use Rattle.area_rings.specs.Kept.{KeepsVectors}
 use Rattle.chart_closure.specs.declared.fault.ClosureFault.{ClosureFault}
 use Rattle.chart_closure.specs.declared.fault.ClosureFault.TheVariants.{Dangling, EdgeNodes, RingOpen, WrongPointer}
-use Rattle.chart_closure.specs.Closed.{when, first_of, has_record, absent_target, vector_fault, feature_fault, fault_at, IsClosed}
+use Rattle.chart_model.specs.Answers.{when, first_of}
+use Rattle.chart_closure.specs.Closed.{has_record, absent_target, vector_fault, feature_fault, fault_at, IsClosed}
 use Rattle.chart_closure.specs.Kept.{KeepsRecords, HasSame}
 use Rattle.chart_closure.proofs.Faults.{points_rightly, lacks_line, shows_rightly, lacks_rings, vector_sound, feature_sound}
 

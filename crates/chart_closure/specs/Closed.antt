@@ -1,5 +1,5 @@
 -- Closed charts.
-use Rattle.std.specs.Prelude.{◌≡◌, ◌≢◌, ℕ, Bool, true, false, not, ◌&&◌, ◌||◌, ◌==◌, if◌then◌else◌, List, [], ◌∷◌, ◌++◌, map, Option, Some, None, option_map, option_and_then, is_none, IsSome, IsNone}
+use Rattle.std.specs.Prelude.{◌≡◌, ◌≢◌, ℕ, Bool, true, false, not, ◌&&◌, ◌||◌, ◌==◌, if◌then◌else◌, List, [], ◌∷◌, ◌++◌, map, Option, Some, option_map, option_and_then, is_none, IsSome, IsNone}
 use Rattle.std.specs.List.{find, list_all}
 use Rattle.std.specs.FinMap as finite
 use Rattle.std.specs.declared.cmp.Ordering.TheVariants.{Greater}
@@ -7,22 +7,14 @@ use Rattle.chart_model.specs.declared.name.Name.{Name}
 use Rattle.chart_model.specs.declared.record.Pointer.{Pointer}
 use Rattle.chart_model.specs.declared.cell.Vector.{Vector}
 use Rattle.chart_model.specs.declared.cell.Feature.{Feature}
+use Rattle.chart_model.specs.Answers.{when, first_of}
 use Rattle.chart_model.specs.Cell.{CellValue}
+use Rattle.chart_model.specs.Codes.{CONNECTED_NODE, EDGE, POINT, LINE, AREA}
 use Rattle.chart_model.specs.Names.{name_cmp}
 use Rattle.area_rings.specs.Edge.{is_node}
 use Rattle.area_rings.specs.Shape.{line_of, shape_of}
 use Rattle.chart_closure.specs.declared.fault.ClosureFault.{ClosureFault}
 use Rattle.chart_closure.specs.declared.fault.ClosureFault.TheVariants.{Dangling, EdgeNodes, RingOpen, WrongPointer}
-
--- a fault where it is so
-abbrev pub when : Bool → ClosureFault → Option ClosureFault
-when so fault = if so then Some fault else None
-
--- the first of the faults that are there
-abbrev pub first_of : List (Option ClosureFault) → Option ClosureFault
-first_of [] = None
-first_of (None ∷ rest) = first_of rest
-first_of (Some fault ∷ rest) = Some fault
 
 -- the cell has a record of that name
 abbrev pub has_record : CellValue → Name → Bool
@@ -34,13 +26,13 @@ absent_target cell pointers = find (λ target. not (has_record cell target)) (ma
 
 -- an edge points to connected nodes, and a node to nothing
 abbrev pub may_point : Name → Name → Bool
-may_point name target = (name.rcnm == 130) && (target.rcnm == 120)
+may_point name target = (name.rcnm == EDGE) && (target.rcnm == CONNECTED_NODE)
 
 -- a point feature points to nodes, a line feature or an area to edges, any other to whatever it will
 abbrev pub may_show : ℕ → Name → Bool
 may_show prim target =
-    if prim == 1 then is_node target else (
-    if (prim == 2) || (prim == 3) then target.rcnm == 130 else true)
+    if prim == POINT then is_node target else (
+    if (prim == LINE) || (prim == AREA) then target.rcnm == EDGE else true)
 
 -- the fault of a vector record; an edge that points rightly has no line where it hasn't one begin node
 -- and one end node and no other pointer, or one of them has no coordinate
@@ -48,14 +40,14 @@ unfoldable pub vector_fault : CellValue → Name → Vector → Option ClosureFa
 vector_fault cell name vector = first_of (
     option_map (Dangling name) (absent_target cell vector.pointers) ∷
     when (not (list_all (λ pointer. may_point name pointer.target) vector.pointers)) (WrongPointer name) ∷
-    when ((name.rcnm == 130) && is_none (line_of cell name false)) (EdgeNodes name) ∷ [])
+    when ((name.rcnm == EDGE) && is_none (line_of cell name false)) (EdgeNodes name) ∷ [])
 
 -- the fault of a feature
 unfoldable pub feature_fault : CellValue → Name → Feature → Option ClosureFault
 feature_fault cell name feature = first_of (
     option_map (Dangling name) (absent_target cell feature.pointers) ∷
     when (not (list_all (λ pointer. may_show feature.prim pointer.target) feature.pointers)) (WrongPointer name) ∷
-    when ((feature.prim == 3) && is_none (shape_of cell feature)) (RingOpen name) ∷ [])
+    when ((feature.prim == AREA) && is_none (shape_of cell feature)) (RingOpen name) ∷ [])
 
 -- the fault of the record of that name
 unfoldable pub fault_at : CellValue → Name → Option ClosureFault

@@ -3,27 +3,27 @@
 ghost use Rattle.std.specs.Prelude.{◌≡◌, ◌↔◌, ◌==◌, ◌&&◌, false, is_none, map, option_and_then, IsOk, IfErr};
 ghost use Rattle.std.specs.Result.{result_err};
 ghost use Rattle.std.specs.FinMap as finite;
+ghost use Rattle.chart_model.specs.Answers.{first_of};
 ghost use Rattle.chart_model.specs.Cell.{IsCell};
 ghost use Rattle.area_rings.specs.Shape.{line_of, shape_of};
-ghost use Rattle.chart_closure.specs.Closed.{first_of, vector_fault, feature_fault, fault_at, closure_fault, IsClosed, IsLeastFault};
+ghost use Rattle.chart_closure.specs.Closed.{vector_fault, feature_fault, fault_at, closure_fault, IsClosed, IsLeastFault};
 
 use crate::fault::ClosureFault;
-use crate::pointers::{EDGE, first_absent, points_rightly, shows_rightly};
+use crate::pointers::{first_absent, points_rightly, shows_rightly};
 use area_rings::{has_line, has_shape};
+use chart_model::codes::{AREA, EDGE};
 use chart_model::{Cell, Feature, Name, Vector};
-
-const AREA: u8 = 3;
 
 /// Whether the record is an edge without a line.
 fn lacks_line(cell: &Cell, name: Name) -> bool
-    ensures { result ≡ ((name.rcnm == 130) && is_none (line_of cell.now name false)) }
+    ensures { result ≡ ((name.rcnm == EDGE) && is_none (line_of cell.now name false)) }
 {
     name.rcnm == EDGE && !has_line(cell, name)
 }
 
 /// Whether the feature is an area without a shape.
 fn lacks_rings(cell: &Cell, feature: &Feature) -> bool
-    ensures { result ≡ ((feature.now.prim == 3) && is_none (shape_of cell.now feature.now)) }
+    ensures { result ≡ ((feature.now.prim == AREA) && is_none (shape_of cell.now feature.now)) }
 {
     feature.prim == AREA && !has_shape(cell, feature)
 }

@@ -4,19 +4,8 @@ ghost use Rattle.std.specs.Prelude.{◌≡◌};
 ghost use Rattle.std.specs.List.{list_all};
 ghost use Rattle.chart_closure.specs.Closed.{has_record, absent_target, may_point, may_show};
 
+use chart_model::codes::{AREA, CONNECTED_NODE, EDGE, ISOLATED_NODE, LINE, POINT};
 use chart_model::{Cell, Name, Pointer};
-
-const POINT: u8 = 1;
-
-const LINE: u8 = 2;
-
-const AREA: u8 = 3;
-
-const ISOLATED_NODE: u8 = 110;
-
-const CONNECTED_NODE: u8 = 120;
-
-pub(crate) const EDGE: u8 = 130;
 
 /// Whether the cell has a record of that name.
 fn is_in(cell: &Cell, name: Name) -> bool

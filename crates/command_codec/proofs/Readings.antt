@@ -1,22 +1,22 @@
 -- What is read of the bytes behind the first.
-use Rattle.std.proofs.Common.{◌≡◌, ℕ, ◌+◌, ◌-◌, ◌*◌, ◌<◌, ◌≤◌, ◌&&◌, true, false, List, [], ◌∷◌, length, get_or, take, drop, Option, Some, None, IfSome, IfNone, refl, sym, arith, length-drop}
+use Rattle.std.proofs.Common.{◌≡◌, ℕ, ◌+◌, ◌-◌, ◌*◌, ◌<◌, ◌≤◌, List, [], ◌∷◌, length, get_or, take, drop, Option, Some, None, IfSome, IfNone, refl, sym, arith, length-drop}
 use Rattle.std.proofs.Math.Bool.{and-false}
 use Rattle.std.proofs.lemmas.List.{take_rest}
 use Rattle.chart_model.specs.Key.{IsKey}
 use Rattle.chart_model.specs.declared.command.Command.{Command}
 use Rattle.chart_model.specs.declared.command.Command.TheVariants.{Load, Rollback, Drop}
 use Rattle.command_codec.specs.Spelling.{Spells}
-use Rattle.command_codec.specs.Reading.{are_bytes, is_key, load_in, rollback_in, drop_in, command_in}
-use Rattle.command_codec.proofs.ByteTests.{Decides-key, no_key, are_four}
+use Rattle.command_codec.specs.Reading.{load_in, rollback_in, drop_in, command_in}
+use Rattle.command_codec.proofs.ByteTests.{KeysAreTested, no_key, are_four}
 use Rattle.command_codec.proofs.Spellings.{found, given}
 
 -- ---- a key
 
-pub drop_read : (rest key : List ℕ) → IsKey rest → key ≡ rest → Some (Drop key) ≡ drop_in rest
-drop_read rest key is same = rw (same, (Decides-key rest).1 is) refl
+pub drop_read : KeysAreTested → (rest key : List ℕ) → IsKey rest → key ≡ rest → Some (Drop key) ≡ drop_in rest
+drop_read tested rest key is same = rw (same, (tested rest).1 is) refl
 
-pub drop_missed : (rest : List ℕ) → ¬ IsKey rest → None ≡ drop_in rest
-drop_missed rest not_key = rw (no_key rest not_key) refl
+pub drop_missed : KeysAreTested → (rest : List ℕ) → ¬ IsKey rest → None ≡ drop_in rest
+drop_missed tested rest not_key = rw (no_key tested rest not_key) refl
 
 -- ---- a number and a key
 
@@ -24,25 +24,25 @@ drop_missed rest not_key = rw (no_key rest not_key) refl
 abbrev pub behind_four : List ℕ → List ℕ
 behind_four rest = take (length rest - 4) (drop 4 rest)
 
-pub rollback_read : (rest key : List ℕ) (n : ℕ) → 4 ≤ length rest → ((i : ℕ) → get_or rest i 0 < 256) → IsKey (behind_four rest) → key ≡ behind_four rest → n ≡ get_or rest 0 0 * 16777216 + get_or rest 1 0 * 65536 + get_or rest 2 0 * 256 + get_or rest 3 0 → Some (Rollback key n) ≡ rollback_in rest
-rollback_read [] key n long small is same number = absurd (omega arith)
-rollback_read (a ∷ []) key n long small is same number = absurd (omega arith)
-rollback_read (a ∷ b ∷ []) key n long small is same number = absurd (omega arith)
-rollback_read (a ∷ b ∷ c ∷ []) key n long small is same number = absurd (omega arith)
-rollback_read (a ∷ b ∷ c ∷ d ∷ rest) key n long small is same number =
+pub rollback_read : KeysAreTested → (rest key : List ℕ) (n : ℕ) → 4 ≤ length rest → ((i : ℕ) → get_or rest i 0 < 256) → IsKey (behind_four rest) → key ≡ behind_four rest → n ≡ get_or rest 0 0 * 16777216 + get_or rest 1 0 * 65536 + get_or rest 2 0 * 256 + get_or rest 3 0 → Some (Rollback key n) ≡ rollback_in rest
+rollback_read tested [] key n long small is same number = absurd (omega arith)
+rollback_read tested (a ∷ []) key n long small is same number = absurd (omega arith)
+rollback_read tested (a ∷ b ∷ []) key n long small is same number = absurd (omega arith)
+rollback_read tested (a ∷ b ∷ c ∷ []) key n long small is same number = absurd (omega arith)
+rollback_read tested (a ∷ b ∷ c ∷ d ∷ rest) key n long small is same number =
     let whole = take_rest (a ∷ b ∷ c ∷ d ∷ rest) 4 in
     let key_of_rest : IsKey rest = rw whole at is in
     let same_key : key ≡ rest = rw whole at same in
-    rw (same_key, number, are_four a b c d (small 0) (small 1) (small 2) (small 3), (Decides-key rest).1 key_of_rest) refl
+    rw (same_key, number, are_four a b c d (small 0) (small 1) (small 2) (small 3), (tested rest).1 key_of_rest) refl
 
-no_rollback : (rest : List ℕ) → ¬ IsKey (drop 4 rest) → None ≡ rollback_in rest
-no_rollback rest not_key = rw (no_key (drop 4 rest) not_key, and-false) refl
+no_rollback : KeysAreTested → (rest : List ℕ) → ¬ IsKey (drop 4 rest) → None ≡ rollback_in rest
+no_rollback tested rest not_key = rw (no_key tested (drop 4 rest) not_key, and-false) refl
 
-pub rollback_missed : (rest : List ℕ) → ¬ IsKey (behind_four rest) → None ≡ rollback_in rest
-rollback_missed rest not_key = no_rollback rest (rw (take_rest rest 4) at not_key)
+pub rollback_missed : KeysAreTested → (rest : List ℕ) → ¬ IsKey (behind_four rest) → None ≡ rollback_in rest
+rollback_missed tested rest not_key = no_rollback tested rest (rw (take_rest rest 4) at not_key)
 
-pub rollback_short : (rest : List ℕ) → length rest < 4 → None ≡ rollback_in rest
-rollback_short rest short = no_rollback rest (λ key. omega (arith, key.nonempty, length-drop 4 rest))
+pub rollback_short : KeysAreTested → (rest : List ℕ) → length rest < 4 → None ≡ rollback_in rest
+rollback_short tested rest short = no_rollback tested rest (λ key. omega (arith, key.nonempty, length-drop 4 rest))
 
 -- ---- a file
 
@@ -53,10 +53,10 @@ loaded_first (x ∷ rest) file long first read = let whole = take_rest (x ∷ re
 
 -- ---- the whole
 
-pub spelled_where_read : (bytes : List ℕ) (option : Option Command) → option ≡ command_in bytes → IfSome option (Spells bytes)
-spelled_where_read bytes (Some command) is = found bytes command (sym is)
-spelled_where_read bytes None is = tt
+pub spelled_where_read : KeysAreTested → (bytes : List ℕ) (option : Option Command) → option ≡ command_in bytes → IfSome option (Spells bytes)
+spelled_where_read tested bytes (Some command) is = found tested bytes command (sym is)
+spelled_where_read tested bytes None is = tt
 
-pub none_where_none : (bytes : List ℕ) (option : Option Command) → option ≡ command_in bytes → IfNone option ((command : Command) → ¬ Spells bytes command)
-none_where_none bytes (Some command) is = tt
-none_where_none bytes None is = λ command spells. let read = given bytes command spells in absurd (cc)
+pub none_where_none : KeysAreTested → (bytes : List ℕ) (option : Option Command) → option ≡ command_in bytes → IfNone option ((command : Command) → ¬ Spells bytes command)
+none_where_none tested bytes (Some command) is = tt
+none_where_none tested bytes None is = λ command spells. let read = given tested bytes command spells in absurd (cc)

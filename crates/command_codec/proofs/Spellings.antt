@@ -1,15 +1,15 @@
 -- The function gives the command that bytes spell.
-use Rattle.std.proofs.Common.{◌≡◌, ℕ, ◌+◌, ◌<◌, ◌≤◌, ◌^◌, Bool, true, false, cond, nat_eq, nat_le, ◌&&◌, ◌⊎◌, inl, inr, List, [], ◌∷◌, ◌++◌, length, take, drop, Option, Some, None, refl, sym, ap, ◌∙◌, subst, arith, take-append-drop, length-take-le, length-drop}
+use Rattle.std.proofs.Common.{◌≡◌, ℕ, ◌<◌, ◌≤◌, ◌^◌, Bool, true, false, cond, nat_eq, nat_le, ◌&&◌, inl, inr, List, [], ◌∷◌, ◌++◌, length, take, drop, Some, None, refl, sym, ap, ◌∙◌, subst, arith, take-append-drop, length-take-le, length-drop}
 use Rattle.std.specs.Int.{w32, to_be_bytes, from_be_bytes}
-use Rattle.std.proofs.lemmas.Bool.{leb-true, le-leb, and_parts, and_from}
+use Rattle.std.proofs.lemmas.Bool.{leb-true, le-leb, and_parts}
 use Rattle.std.proofs.lemmas.Bool.Decides.{eqb_tells}
 use Rattle.std.proofs.lemmas.Nat.{be_bytes_4, from_be_bytes-to_be_bytes_4}
-use Rattle.chart_model.specs.Key.{IsKey}
+use Rattle.chart_model.specs.Key.{IsKey, is_key}
 use Rattle.chart_model.specs.declared.command.Command.{Command}
 use Rattle.chart_model.specs.declared.command.Command.TheVariants.{Load, Rollback, Drop}
 use Rattle.command_codec.specs.Spelling.{Spells}
-use Rattle.command_codec.specs.Reading.{are_bytes, is_key, load_in, rollback_in, drop_in, command_in}
-use Rattle.command_codec.proofs.ByteTests.{Decides-key, small_bytes, are_written}
+use Rattle.command_codec.specs.Reading.{are_bytes, load_in, rollback_in, drop_in, command_in}
+use Rattle.command_codec.proofs.ByteTests.{KeysAreTested, small_bytes, are_written}
 
 -- what is given where a test holds alone
 given_where : (b : Bool) (x y : Command) → cond b (Some x) None ≡ Some y → (b ≡ true) × (x ≡ y)
@@ -23,10 +23,10 @@ load_found rest command e =
     let given = given_where (nat_le (length rest) 8388608) (Load rest) command e in
     subst (λ (c : Command). Spells (1 ∷ rest) c) given.1 (record { spelled = refl; limit = leb-true _ _ given.0; named = tt })
 
-drop_found : (rest : List ℕ) (command : Command) → drop_in rest ≡ Some command → Spells (3 ∷ rest) command
-drop_found rest command e =
+drop_found : KeysAreTested → (rest : List ℕ) (command : Command) → drop_in rest ≡ Some command → Spells (3 ∷ rest) command
+drop_found tested rest command e =
     let given = given_where (is_key rest) (Drop rest) command e in
-    subst (λ (c : Command). Spells (3 ∷ rest) c) given.1 (record { spelled = refl; limit = tt; named = (Decides-key rest).0 given.0 })
+    subst (λ (c : Command). Spells (3 ∷ rest) c) given.1 (record { spelled = refl; limit = tt; named = (tested rest).0 given.0 })
 
 -- the number of four bytes, written again
 written_again : (rest : List ℕ) → are_bytes (take 4 rest) ≡ true → 4 ≤ length rest → to_be_bytes w32 (from_be_bytes w32 (take 4 rest)) ++ drop 4 rest ≡ rest
@@ -39,11 +39,11 @@ number_fits bytes are =
     let small = small_bytes bytes are in
     omega (arith, small 0, small 1, small 2, small 3)
 
-rollback_found : (rest : List ℕ) (command : Command) → rollback_in rest ≡ Some command → Spells (2 ∷ rest) command
-rollback_found rest command e =
+rollback_found : KeysAreTested → (rest : List ℕ) (command : Command) → rollback_in rest ≡ Some command → Spells (2 ∷ rest) command
+rollback_found tested rest command e =
     let given = given_where (are_bytes (take 4 rest) && is_key (drop 4 rest)) _ command e in
     let parts = and_parts (are_bytes (take 4 rest)) (is_key (drop 4 rest)) given.0 in
-    let key : IsKey (drop 4 rest) = (Decides-key (drop 4 rest)).0 parts.1 in
+    let key : IsKey (drop 4 rest) = (tested (drop 4 rest)).0 parts.1 in
     let long : 4 ≤ length rest = omega (arith, key.nonempty, length-drop 4 rest) in
     subst (λ (c : Command). Spells (2 ∷ rest) c) given.1 (record {
       spelled = ap (λ (l : List ℕ). 2 ∷ l) (sym (written_again rest parts.0 long));
@@ -51,37 +51,34 @@ rollback_found rest command e =
       named = (key, number_fits (take 4 rest) parts.0);
     })
 
-third_found : (first : ℕ) (rest : List ℕ) (command : Command) → cond (nat_eq first 3) (drop_in rest) None ≡ Some command → Spells (first ∷ rest) command
-third_found first rest command e =
+third_found : KeysAreTested → (first : ℕ) (rest : List ℕ) (command : Command) → cond (nat_eq first 3) (drop_in rest) None ≡ Some command → Spells (first ∷ rest) command
+third_found tested first rest command e =
     elim (eqb_tells first 3) [
-      | inl h ↦ rw h.1 (drop_found rest command (rw h.0 at e))
+      | inl h ↦ rw h.1 (drop_found tested rest command (rw h.0 at e))
       | inr h ↦ let none = rw h.0 at e in absurd (cc)
     ]
 
-second_found : (first : ℕ) (rest : List ℕ) (command : Command) → cond (nat_eq first 2) (rollback_in rest) (cond (nat_eq first 3) (drop_in rest) None) ≡ Some command → Spells (first ∷ rest) command
-second_found first rest command e =
+second_found : KeysAreTested → (first : ℕ) (rest : List ℕ) (command : Command) → cond (nat_eq first 2) (rollback_in rest) (cond (nat_eq first 3) (drop_in rest) None) ≡ Some command → Spells (first ∷ rest) command
+second_found tested first rest command e =
     elim (eqb_tells first 2) [
-      | inl h ↦ rw h.1 (rollback_found rest command (rw h.0 at e))
-      | inr h ↦ third_found first rest command (rw h.0 at e)
+      | inl h ↦ rw h.1 (rollback_found tested rest command (rw h.0 at e))
+      | inr h ↦ third_found tested first rest command (rw h.0 at e)
     ]
 
-pub found : (bytes : List ℕ) (command : Command) → command_in bytes ≡ Some command → Spells bytes command
+pub found : KeysAreTested → (bytes : List ℕ) (command : Command) → command_in bytes ≡ Some command → Spells bytes command
 unfolding command_in
-found [] command e = absurd (cc)
-found (first ∷ rest) command e =
+found tested [] command e = absurd (cc)
+found tested (first ∷ rest) command e =
     elim (eqb_tells first 1) [
       | inl h ↦ rw h.1 (load_found rest command (rw h.0 at e))
-      | inr h ↦ second_found first rest command (rw h.0 at e)
+      | inr h ↦ second_found tested first rest command (rw h.0 at e)
     ]
 
 -- ---- what is spelled is given
 
-key_is : (key : List ℕ) → IsKey key → is_key key ≡ true
-key_is key is = (Decides-key key).1 is
-
-pub given : (bytes : List ℕ) (command : Command) → Spells bytes command → command_in bytes ≡ Some command
+pub given : KeysAreTested → (bytes : List ℕ) (command : Command) → Spells bytes command → command_in bytes ≡ Some command
 unfolding command_in
-given bytes (Load file) spells = rw (spells.spelled, le-leb _ _ spells.limit) refl
-given bytes (Rollback key update) spells =
-    rw (spells.spelled, are_written update, key_is key spells.named.0, from_be_bytes-to_be_bytes_4 update spells.named.1) refl
-given bytes (Drop key) spells = rw (spells.spelled, key_is key spells.named) refl
+given tested bytes (Load file) spells = rw (spells.spelled, le-leb _ _ spells.limit) refl
+given tested bytes (Rollback key update) spells =
+    rw (spells.spelled, are_written update, (tested key).1 spells.named.0, from_be_bytes-to_be_bytes_4 update spells.named.1) refl
+given tested bytes (Drop key) spells = rw (spells.spelled, (tested key).1 spells.named) refl

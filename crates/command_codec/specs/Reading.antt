@@ -2,6 +2,7 @@
 use Rattle.std.specs.Prelude.{ℕ, ◌&&◌, ◌==◌, Bool, nat_lt, nat_le, if◌then◌else◌, List, [], ◌∷◌, length, take, drop, Option, Some, None}
 use Rattle.std.specs.Int.{w32, from_be_bytes}
 use Rattle.std.specs.List.{list_all}
+use Rattle.chart_model.specs.Key.{is_key}
 use Rattle.chart_model.specs.declared.command.Command.{Command}
 use Rattle.chart_model.specs.declared.command.Command.TheVariants.{Load, Rollback, Drop}
 
@@ -9,17 +10,16 @@ use Rattle.chart_model.specs.declared.command.Command.TheVariants.{Load, Rollbac
 unfoldable pub are_bytes : List ℕ → Bool
 are_bytes numbers = list_all (λ number. nat_lt number 256) numbers
 
--- whether the bytes are a key: 1 to 32 of them, each a visible ASCII character
-unfoldable pub is_key : List ℕ → Bool
-is_key bytes = nat_le 1 (length bytes) && (nat_le (length bytes) 32 && list_all (λ byte. nat_le 33 byte && nat_le byte 126) bytes)
-
 -- a file, of at most 8,388,608 bytes
 abbrev pub load_in : List ℕ → Option Command
 load_in rest = if nat_le (length rest) 8388608 then Some (Load rest) else None
 
 -- an update's number in four bytes, and a key behind them
 abbrev pub rollback_in : List ℕ → Option Command
-rollback_in rest = if are_bytes (take 4 rest) && is_key (drop 4 rest) then Some (Rollback (drop 4 rest) (from_be_bytes w32 (take 4 rest))) else None
+rollback_in rest =
+    if are_bytes (take 4 rest) && is_key (drop 4 rest)
+    then Some (Rollback (drop 4 rest) (from_be_bytes w32 (take 4 rest)))
+    else None
 
 -- a key
 abbrev pub drop_in : List ℕ → Option Command

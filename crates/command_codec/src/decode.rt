@@ -7,7 +7,7 @@ ghost use Rattle.command_codec.specs.Spelling.{Spells};
 ghost use Rattle.command_codec.specs.Reading.{load_in, rollback_in, drop_in, command_in};
 
 use crate::first_byte::{DROPS, LOADS, ROLLS_BACK};
-use chart_model::{Command, Key, Octets};
+use chart_model::{Command, Key, Octets, keys_are_tested};
 use std::alloc::{AllocError, Global};
 
 /// The most bytes of a file.
@@ -29,6 +29,7 @@ fn load_of(alloc: Global, rest: &[u8]) -> Result<Option<Command>, AllocError>
 fn rollback_of(rest: &[u8]) -> Option<Command>
     ensures { result ≡ rollback_in rest.now }
 {
+    keys_are_tested();
     let [a, b, c, d, key @ ..] = rest else {
         return None;
     };
@@ -40,6 +41,7 @@ fn rollback_of(rest: &[u8]) -> Option<Command>
 fn drop_of(rest: &[u8]) -> Option<Command>
     ensures { result ≡ drop_in rest.now }
 {
+    keys_are_tested();
     let key = Key::from_bytes(rest)?;
     Some(Command::Drop(key))
 }
@@ -68,5 +70,6 @@ pub fn decode_command(alloc: Global, bytes: &[u8]) -> Result<Option<Command>, Al
     ensures memory { IfErr result (λ _. (file : List ℕ) × Spells bytes.now (Load file)) }
     ensures function { IfOk result (λ found. found ≡ command_in bytes.now) }
 {
+    keys_are_tested();
     read(alloc, bytes)
 }

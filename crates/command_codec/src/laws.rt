@@ -5,11 +5,15 @@ ghost use Rattle.chart_model.specs.declared.command.Command.{Command};
 ghost use Rattle.command_codec.specs.Spelling.{Spells};
 ghost use Rattle.command_codec.specs.Reading.{command_in};
 
+use chart_model::keys_are_tested;
+
 /// The function that definitions cite gives the command that bytes spell.
 pub fn commands_are_spelled()
     ensures { (bytes : List ℕ) (command : Command) →
         (command_in bytes ≡ Some command) ↔ Spells bytes command }
-{}
+{
+    keys_are_tested();
+}
 
 /// A command has one spelling at most, and bytes spell one command at most.
 pub fn spelled_once()
