@@ -61,17 +61,23 @@ fault_is refusal (Err fault) x e = absurd cc
 
 pub within-short : (file : List ℕ) → length file ≤ FILE_LIMIT → within_limit file ≡ Ok file
 within-short file short =
-    ap (λ (b : Bool). cond b (Ok file) (Err (FileLong FILE_LIMIT))) (let yes : leb (length file) FILE_LIMIT ≡ true = grind (arith, nat_tests) in yes)
+    ap (λ (b : Bool). cond b (Ok file) (Err (FileLong FILE_LIMIT)))
+    (let fits : leb (length file) FILE_LIMIT ≡ true = grind (arith, nat_tests) in fits)
 
 pub within-long : (file : List ℕ) → FILE_LIMIT < length file → within_limit file ≡ Err (FileLong FILE_LIMIT)
 within-long file long =
-    ap (λ (b : Bool). cond b (Ok file) (Err (FileLong FILE_LIMIT))) (let no : leb (length file) FILE_LIMIT ≡ false = grind (arith, nat_tests) in no)
+    ap (λ (b : Bool). cond b (Ok file) (Err (FileLong FILE_LIMIT)))
+    (let passes : leb (length file) FILE_LIMIT ≡ false = grind (arith, nat_tests) in passes)
 
 within-is : (file bytes : List ℕ) → within_limit file ≡ Ok bytes → (file ≡ bytes) × (length file ≤ FILE_LIMIT)
 within-is file bytes e =
     elim (cases_Bool (leb (length file) FILE_LIMIT)) [
-      | inl is_so ↦ (ok_is (sym (ap (λ (b : Bool). cond b (Ok file) (Err (FileLong FILE_LIMIT))) is_so) ∙ e), grind (arith, nat_tests, is_so))
-      | inr is_not ↦ absurd (let f = sym (ap (λ (b : Bool). cond b (Ok file) (Err (FileLong FILE_LIMIT))) is_not) ∙ e in cc)
+      | inl is_so ↦ (
+        ok_is (sym (ap (λ (b : Bool). cond b (Ok file) (Err (FileLong FILE_LIMIT))) is_so) ∙ e),
+        grind (arith, nat_tests, is_so),
+      )
+      | inr is_not ↦ absurd (let f = sym (ap (λ (b : Bool). cond b (Ok file) (Err (FileLong FILE_LIMIT))) is_not) ∙ e
+          in cc)
     ]
 
 store_within-is : (cells : HoldingsByKey) (after : StateValue) → store_within cells ≡ Ok after →
@@ -89,8 +95,11 @@ put-is : (state : StateValue) (key : List ℕ) (here : Holding) (done : Loaded) 
     (key ≡ done.key) × (map.insert state.cells key here ≡ done.state.cells)
 put-is state key here done e =
     let b = bound_is (store_within (map.insert state.cells key here)) _ done e in
-    let same = ok_is b.2 in
-    (ap (λ (d : Loaded). d.key) same, ap (λ (s : StateValue). s.cells) (store_within-is (map.insert state.cells key here) b.0 b.1 ∙ ap (λ (d : Loaded). d.state) same))
+    let same = ok_is b.2 in (
+      ap (λ (d : Loaded). d.key) same,
+      ap (λ (s : StateValue). s.cells)
+          (store_within-is (map.insert state.cells key here) b.0 b.1 ∙ ap (λ (d : Loaded). d.state) same),
+    )
 
 -- a file that was accepted is a data set, and its cell alone is put in
 pub record IsLoaded (state : StateValue) (file : List ℕ) (done : Loaded) : Type 0 where
@@ -118,10 +127,13 @@ pub record IsPut (state : StateValue) (dataset : DatasetValue) (done : Loaded) :
   pub keyed : dataset.header.key ≡ done.key
   pub cells : map.insert state.cells dataset.header.key here ≡ done.state.cells
 
-pub accepted-is : (state : StateValue) (dataset : DatasetValue) (file : List ℕ) (files : List (List ℕ)) (done : Loaded) → accepted state dataset file files ≡ Ok done → IsPut state dataset done
+pub accepted-is : (state : StateValue) (dataset : DatasetValue) (file : List ℕ) (files : List (List ℕ))
+    (done : Loaded) → accepted state dataset file files ≡ Ok done → IsPut state dataset done
 accepted-is state dataset file files done e =
-    judging (or_fault_as refusal_of_sequence (judged (held_by files) dataset)) (cells_within state.cells dataset.header.key)
-    (λ effect. or_refused refusal_of_build (buildable files effect dataset)) (λ effect. holding_of (files_after files effect file) dataset.header) e
+    judging (or_fault_as refusal_of_sequence (judged (held_by files) dataset))
+    (cells_within state.cells dataset.header.key)
+    (λ effect. or_refused refusal_of_build (buildable files effect dataset))
+    (λ effect. holding_of (files_after files effect file) dataset.header) e
   where
     key : List ℕ
     key = dataset.header.key
@@ -135,7 +147,8 @@ accepted-is state dataset file files done e =
 
     judging : (r : Result Effect Refusal) (room : Result (Unit {0}) Refusal) (builds : Effect →
         Result (Unit {0}) Refusal) (here : Effect → Holding) →
-        (r >>= λ effect. room >>= λ _. builds effect >>= λ _. put state key (here effect)) ≡ Ok done → IsPut state dataset done
+        (r >>= λ effect. room >>= λ _. builds effect >>= λ _. put state key (here effect)) ≡ Ok done → IsPut state
+        dataset done
     judging (Ok effect) (Ok done') builds here e = building (builds effect) (here effect) e
     judging (Ok effect) (Err refusal) builds here e = absurd cc
     judging (Err refusal) room builds here e = absurd cc
@@ -143,7 +156,10 @@ accepted-is state dataset file files done e =
 -- ---- another key
 
 apart : (q key : List ℕ) → q ≢ key → eq_by_cmp key_cmp q key ≡ false
-apart q key other = elim (cases_Bool (eq_by_cmp key_cmp q key)) [ inl is_so ↦ absurd (other (key_cmp-IsAntisymmetric q key (tied (key_cmp q key) is_so))) | inr is_not ↦ is_not ]
+apart q key other = elim (cases_Bool (eq_by_cmp key_cmp q key)) [
+  | inl is_so ↦ absurd (other (key_cmp-IsAntisymmetric q key (tied (key_cmp q key) is_so)))
+  | inr is_not ↦ is_not
+]
   where
     tied : (r : Ordering) → is_eq r ≡ true → r ≡ Equal
     tied Less e = absurd (let f : false ≡ true = e in cc)
@@ -157,7 +173,8 @@ loaded-alone state file done key e other =
     let p = accepted-is state l.dataset file _ done l.accepts in
     ap (λ (m : HoldingsByKey). map.get m key) (sym p.cells)
     ∙ map.get-insert key_cmp-total state.cells l.dataset.header.key p.here key
-    ∙ ap (λ (b : Bool). cond b (Some p.here) (map.get state.cells key)) (apart key l.dataset.header.key (λ same. other (same ∙ p.keyed)))
+    ∙ ap (λ (b : Bool). cond b (Some p.here) (map.get state.cells key))
+    (apart key l.dataset.header.key (λ same. other (same ∙ p.keyed)))
 
 -- ---- the step by whole files
 
@@ -166,36 +183,47 @@ pub loaded-reads : (state : StateValue) (file : List ℕ) (dataset : DatasetValu
     loaded state file ≡ accepted state dataset file (files_of (map.get state.cells dataset.header.key))
 unfolding loaded
 loaded-reads state file dataset short reads =
-    ap (λ (r : Result (List ℕ) Refusal). r >>= λ bytes. or_refused refusal_of_read (data_set_in bytes) >>= λ ds. accepted state ds bytes (files_of (map.get state.cells ds.header.key))) (within-short file short)
-    ∙ ap (λ (r : Result DatasetValue ReadFault). or_refused refusal_of_read r >>= λ ds. accepted state ds file (files_of (map.get state.cells ds.header.key))) reads
+    ap (λ (r : Result (List ℕ) Refusal). r >>= λ bytes. or_refused refusal_of_read (data_set_in bytes) >>= λ ds.
+    accepted state ds bytes (files_of (map.get state.cells ds.header.key))) (within-short file short)
+    ∙ ap (λ (r : Result DatasetValue ReadFault). or_refused refusal_of_read r >>= λ ds. accepted state ds file
+    (files_of (map.get state.cells ds.header.key))) reads
 
 module _ (laws : Laws) where
-  next-live : (before : Option Holding) (dataset : DatasetValue) (file : List ℕ) (effect : Effect) (chart : Option CellValue) → WasLive dataset.header.key before → data_set_in file ≡ Ok dataset →
+  next-live : (before : Option Holding) (dataset : DatasetValue) (file : List ℕ) (effect : Effect)
+      (chart : Option CellValue) → WasLive dataset.header.key before → data_set_in file ≡ Ok dataset →
       IsFileLength (length file) → judged (held_of before) dataset ≡ Ok effect →
       chart_after (chart_of before) effect dataset ≡ Ok chart →
       IsLive dataset.header.key (cell_after before effect (held_after before effect dataset.header) chart file)
   next-live before dataset file Replace chart h reads short judges e =
       let b = bound_is (or_refused refusal_of_build (built None dataset)) _ chart e in
-      subst (λ (c : Option CellValue). IsLive dataset.header.key (cell_after before Replace (held_after before Replace dataset.header) c file)) (ok_is b.2)
-      (live-replace laws before dataset file b.0 reads short judges (refused_is refusal_of_build (built None dataset) b.0 b.1))
+      subst (λ (c : Option CellValue). IsLive dataset.header.key (cell_after before Replace
+      (held_after before Replace dataset.header) c file)) (ok_is b.2)
+      (live-replace laws before dataset file b.0 reads short judges (refused_is refusal_of_build (built None dataset)
+      b.0 b.1))
   next-live before dataset file Extend chart h reads short judges e =
       let b = bound_is (or_refused refusal_of_build (built (chart_of before) dataset)) _ chart e in
-      subst (λ (c : Option CellValue). IsLive dataset.header.key (cell_after before Extend (held_after before Extend dataset.header) c file)) (ok_is b.2)
-      (live-extend laws before dataset file b.0 h reads short judges (refused_is refusal_of_build (built (chart_of before) dataset) b.0 b.1))
+      subst (λ (c : Option CellValue). IsLive dataset.header.key (cell_after before Extend
+      (held_after before Extend dataset.header) c file)) (ok_is b.2)
+      (live-extend laws before dataset file b.0 h reads short judges (refused_is refusal_of_build
+      (built (chart_of before) dataset) b.0 b.1))
   next-live before dataset file Cancel chart h reads short judges e =
-      subst (λ (c : Option CellValue). IsLive dataset.header.key (cell_after before Cancel (held_after before Cancel dataset.header) c file)) (ok_is e)
+      subst (λ (c : Option CellValue). IsLive dataset.header.key (cell_after before Cancel
+      (held_after before Cancel dataset.header) c file)) (ok_is e)
       (live-cancel laws before dataset file h reads short judges)
 
-  taken-live : (state : StateValue) (dataset : DatasetValue) (file : List ℕ) (before : Option Holding) (done : Loaded) → AreLive state.cells → WasLive dataset.header.key before → data_set_in file ≡ Ok dataset →
+  taken-live : (state : StateValue) (dataset : DatasetValue) (file : List ℕ) (before : Option Holding)
+      (done : Loaded) → AreLive state.cells → WasLive dataset.header.key before → data_set_in file ≡ Ok dataset →
       IsFileLength (length file) → taken state dataset file before ≡ Ok done → AreLive done.state.cells
   taken-live state dataset file before done live h reads short e =
       let j = bound_is (or_fault_as refusal_of_sequence (judged (held_of before) dataset)) _ done e in
       let w = bound_is (cells_within state.cells dataset.header.key) _ done j.2 in
       let p = bound_is (placed state dataset file before j.0) _ done w.2 in
       let c = bound_is (chart_after (chart_of before) j.0 dataset) _ p.0 p.1 in
-      subst AreLive (ap (λ (s : StateValue). s.cells) (store_within-is _ p.0 c.2) ∙ ap (λ (d : Loaded). d.state.cells) (ok_is p.2))
+      subst AreLive
+      (ap (λ (s : StateValue). s.cells) (store_within-is _ p.0 c.2) ∙ ap (λ (d : Loaded). d.state.cells) (ok_is p.2))
       (AreLive-insert state.cells dataset.header.key _ live
-      (next-live before dataset file j.0 c.0 h reads short (fault_is refusal_of_sequence (judged (held_of before) dataset) j.0 j.1) c.1))
+      (next-live before dataset file j.0 c.0 h reads short (fault_is refusal_of_sequence
+      (judged (held_of before) dataset) j.0 j.1) c.1))
 
   -- a file that is accepted keeps all cells what their files leave
   pub loaded-live : (state : StateValue) (file : List ℕ) (done : Loaded) → AreLive state.cells →
@@ -229,4 +257,5 @@ module _ (laws : Laws) where
       loaded state file ≡ taken state dataset file (map.get state.cells dataset.header.key)
   loaded-taken state file dataset live short reads =
       loaded-reads state file dataset short reads
-      ∙ accepted-taken laws state dataset file (map.get state.cells dataset.header.key) (live dataset.header.key) reads short
+      ∙ accepted-taken laws state dataset file (map.get state.cells dataset.header.key) (live dataset.header.key)
+      reads short

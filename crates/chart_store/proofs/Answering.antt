@@ -34,13 +34,16 @@ Fails-told (Some refusal) wanted h = h
 
 pub Fails-read : {A : Type 0} (fault : ReadFault) (wanted : Result A ReadFault) → GivesRead (Err fault) wanted →
     Fails (fault_of (refusal_of_read fault)) (or_refused refusal_of_read wanted)
-Fails-read (of_read.File fault) wanted h = Fails-told (refusal_of_file fault) (or_refused refusal_of_read wanted) (ap (or_refused refusal_of_read) h)
-Fails-read (of_read.Dataset fault) wanted h = Fails-told (refusal_of_records fault) (or_refused refusal_of_read wanted) (ap (or_refused refusal_of_read) h)
+Fails-read (of_read.File fault) wanted h =
+    Fails-told (refusal_of_file fault) (or_refused refusal_of_read wanted) (ap (or_refused refusal_of_read) h)
+Fails-read (of_read.Dataset fault) wanted h =
+    Fails-told (refusal_of_records fault) (or_refused refusal_of_read wanted) (ap (or_refused refusal_of_read) h)
 Fails-read of_read.NoMemory wanted h = tt
 
 pub Fails-build : {A : Type 0} (fault : BuildFault) (wanted : Result A BuildFault) →
     GivesBuilt (Err fault) wanted → Fails (fault_of (refusal_of_build fault)) (or_refused refusal_of_build wanted)
-Fails-build (of_build.Change fault) wanted h = Fails-told (refusal_of_change fault) (or_refused refusal_of_build wanted) (ap (or_refused refusal_of_build) h)
+Fails-build (of_build.Change fault) wanted h =
+    Fails-told (refusal_of_change fault) (or_refused refusal_of_build wanted) (ap (or_refused refusal_of_build) h)
 Fails-build (of_build.Closure fault) wanted h = ap (or_refused refusal_of_build) h
 Fails-build of_build.NoMemory wanted h = tt
 

@@ -50,7 +50,8 @@ base_says : (held : Option Held) (dataset : DatasetValue) (effect : Effect) → 
     judged_base held dataset.header ≡ Ok effect → Says held dataset effect
 base_says None dataset effect base e = subst (Says None dataset) (ok_is e) base
 base_says (Some here) dataset effect base e =
-    elim (chosen (is_older dataset.header here) (Err (StaleBase here.edition here.update dataset.header.edition dataset.header.update)) (Ok Replace) (Ok effect) e) [
+    elim (chosen (is_older dataset.header here) (Err
+    (StaleBase here.edition here.update dataset.header.edition dataset.header.update)) (Ok Replace) (Ok effect) e) [
       | inl h ↦ absurd (let f = h.1 in cc)
       | inr h ↦ subst (Says (Some here) dataset) (ok_is h.1) base
     ]
@@ -63,14 +64,18 @@ update_says (Some here) dataset effect base e =
       | inl h ↦ absurd (let f = h.1 in cc)
       | inr h ↦
           elim (chosen dataset.cancels (Ok Cancel) _ (Ok effect) h.1) [
-            | inl k ↦ subst (Says (Some here) dataset) (ok_is k.1) (record { update = base; cancels = k.0; here = here; is = refl })
+            | inl k ↦ subst (Says (Some here) dataset) (ok_is k.1) (record
+                { update = base; cancels = k.0; here = here; is = refl })
             | inr k ↦
-                elim (chosen (not (eqb dataset.header.edition here.edition)) (Err (Edition here.edition dataset.header.edition)) _ (Ok effect) k.1) [
+                elim (chosen (not (eqb dataset.header.edition here.edition))
+                (Err (Edition here.edition dataset.header.edition)) _ (Ok effect) k.1) [
                   | inl l ↦ absurd (let f = l.1 in cc)
                   | inr l ↦
-                      elim (chosen (not (eqb dataset.header.update (here.update + 1))) (Err (Gap (here.update + 1) dataset.header.update)) (Ok Extend) (Ok effect) l.1) [
+                      elim (chosen (not (eqb dataset.header.update (here.update + 1)))
+                      (Err (Gap (here.update + 1) dataset.header.update)) (Ok Extend) (Ok effect) l.1) [
                         | inl m ↦ absurd (let f = m.1 in cc)
-                        | inr m ↦ subst (Says (Some here) dataset) (ok_is m.1) (record { update = base; stands = k.0; here = here; is = refl; lives = h.0 })
+                        | inr m ↦ subst (Says (Some here) dataset) (ok_is m.1)
+                            (record { update = base; stands = k.0; here = here; is = refl; lives = h.0 })
                       ]
                 ]
           ]
@@ -80,7 +85,8 @@ pub effect_says : (held : Option Held) (dataset : DatasetValue) (effect : Effect
     judged held dataset ≡ Ok effect → Says held dataset effect
 unfolding judged
 effect_says held dataset effect e =
-    elim (chosen dataset.base (judged_base held dataset.header) (judged_update held dataset.header dataset.cancels) (Ok effect) e) [
+    elim (chosen dataset.base (judged_base held dataset.header) (judged_update held dataset.header dataset.cancels)
+    (Ok effect) e) [
       | inl h ↦ base_says held dataset effect h.0 h.1
       | inr h ↦ update_says held dataset effect h.0 h.1
     ]

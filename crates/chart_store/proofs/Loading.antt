@@ -43,7 +43,11 @@ WasLive key before = IfSome before (IsLive key)
 pub live-holding : (key : List ℕ) (here : Holding) (header : Header) → IsLive key here →
     holding_of here.files header ≡ here
 live-holding key here header h =
-    ap (λ (held : Option Held). record { held = unwrap_or held (numbers_of header); files = here.files; chart = rebuilt here.files }) h.numbers
+    ap (λ (held : Option Held). record {
+      held = unwrap_or held (numbers_of header);
+      files = here.files;
+      chart = rebuilt here.files;
+    }) h.numbers
     ∙ ap (λ (chart : Option CellValue). record { held = here.held; files = here.files; chart = chart }) h.builds
 
 -- the laws of whole files
@@ -82,27 +86,39 @@ module _ (laws : Laws) where
       judged (held_of before) dataset ≡ Ok Replace → built None dataset ≡ Ok cell →
       IsLive dataset.header.key (cell_after before Replace (numbers_of dataset.header) (Some cell) file)
   live-replace before dataset file cell reads short judges builds =
-      let l = laws.replaces dataset.header.key file dataset (held_of before) (file_of file dataset reads short) judges (ap is_ok builds) in
-      record { sound = l.sound; numbers = l.numbers; builds = l.builds ∙ ap (λ (r : Result CellValue BuildFault). result_ok r) builds }
+      let l = laws.replaces dataset.header.key file dataset (held_of before) (file_of file dataset reads short)
+      judges (ap is_ok builds) in
+      record {
+        sound = l.sound;
+        numbers = l.numbers;
+        builds = l.builds ∙ ap (λ (r : Result CellValue BuildFault). result_ok r) builds;
+      }
 
   -- an update
   pub live-extend : (before : Option Holding) (dataset : DatasetValue) (file : List ℕ) (cell : CellValue) →
       WasLive dataset.header.key before → data_set_in file ≡ Ok dataset → IsFileLength (length file) →
       judged (held_of before) dataset ≡ Ok Extend → built (chart_of before) dataset ≡ Ok cell →
       IsLive dataset.header.key (cell_after before Extend (numbers_of dataset.header) (Some cell) file)
-  live-extend None dataset file cell h reads short judges builds = absurd (let says = effect_says None dataset Extend judges in let none = says.is in cc)
+  live-extend None dataset file cell h reads short judges builds =
+      absurd (let says = effect_says None dataset Extend judges in let none = says.is in cc)
   live-extend (Some here) dataset file cell h reads short judges builds =
-      let made : built (rebuilt here.files) dataset ≡ Ok cell = ap (λ (c : Option CellValue). built c dataset) h.builds ∙ builds in
+      let made : built (rebuilt here.files) dataset ≡ Ok cell =
+      ap (λ (c : Option CellValue). built c dataset) h.builds ∙ builds in
       let l = laws.extends dataset.header.key here.files file dataset h.sound (file_of file dataset reads short)
       (ap (λ (n : Option Held). judged n dataset) h.numbers ∙ judges) (ap is_ok made) in
-      record { sound = l.sound; numbers = l.numbers; builds = l.builds ∙ ap (λ (r : Result CellValue BuildFault). result_ok r) made }
+      record {
+        sound = l.sound;
+        numbers = l.numbers;
+        builds = l.builds ∙ ap (λ (r : Result CellValue BuildFault). result_ok r) made;
+      }
 
   -- an update that cancels
   pub live-cancel : (before : Option Holding) (dataset : DatasetValue) (file : List ℕ) →
       WasLive dataset.header.key before → data_set_in file ≡ Ok dataset → IsFileLength (length file) →
       judged (held_of before) dataset ≡ Ok Cancel →
       IsLive dataset.header.key (cell_after before Cancel (held_after before Cancel dataset.header) None file)
-  live-cancel None dataset file h reads short judges = absurd (let says = effect_says None dataset Cancel judges in let none = says.is in cc)
+  live-cancel None dataset file h reads short judges =
+      absurd (let says = effect_says None dataset Cancel judges in let none = says.is in cc)
   live-cancel (Some here) dataset file h reads short judges =
       let l = laws.cancels dataset.header.key here.files file dataset h.sound (file_of file dataset reads short)
       (ap (λ (n : Option Held). judged n dataset) h.numbers ∙ judges) in
@@ -110,41 +126,56 @@ module _ (laws : Laws) where
 
   -- ---- the step by what is held is the step by whole files
 
-  built-taken : (state : StateValue) (dataset : DatasetValue) (file : List ℕ) (before : Option Holding) (effect : Effect) → WasLive dataset.header.key before → data_set_in file ≡ Ok dataset →
+  built-taken : (state : StateValue) (dataset : DatasetValue) (file : List ℕ) (before : Option Holding)
+      (effect : Effect) → WasLive dataset.header.key before → data_set_in file ≡ Ok dataset →
       IsFileLength (length file) → judged (held_of before) dataset ≡ Ok effect →
-      (or_refused refusal_of_build (buildable (files_of before) effect dataset) >>= λ _. put state dataset.header.key (holding_of (files_after (files_of before) effect file) dataset.header))
-      ≡ (placed state dataset file before effect >>= λ after. Ok (record { key = dataset.header.key; held = held_after before effect dataset.header; state = after }))
+      (or_refused refusal_of_build (buildable (files_of before) effect dataset) >>= λ _. put state dataset.header.key
+      (holding_of (files_after (files_of before) effect file) dataset.header))
+      ≡ (placed state dataset file before effect >>= λ after. Ok (record
+      { key = dataset.header.key; held = held_after before effect dataset.header; state = after }))
   built-taken state dataset file before Replace h reads short judges = go (built None dataset) refl
     where
       go : (r : Result CellValue BuildFault) → built None dataset ≡ r →
-          (or_refused refusal_of_build (r >>= λ chart. Ok (tt {0})) >>= λ _. put state dataset.header.key (holding_of (files_after (files_of before) Replace file) dataset.header))
-          ≡ (((or_refused refusal_of_build r >>= λ after. Ok (Some after)) >>= λ chart. store_within (map.insert state.cells dataset.header.key (cell_after before Replace (numbers_of dataset.header) chart file)))
+          (or_refused refusal_of_build (r >>= λ chart. Ok (tt {0})) >>= λ _. put state dataset.header.key
+          (holding_of (files_after (files_of before) Replace file) dataset.header))
+          ≡ (((or_refused refusal_of_build r >>= λ after. Ok (Some after)) >>= λ chart. store_within
+          (map.insert state.cells dataset.header.key (cell_after before Replace (numbers_of dataset.header) chart
+          file)))
           >>= λ after. Ok (record { key = dataset.header.key; held = numbers_of dataset.header; state = after }))
       go (Ok cell) builds =
           ap (put state dataset.header.key)
-          (live-holding dataset.header.key _ dataset.header (live-replace before dataset file cell reads short judges builds))
+          (live-holding dataset.header.key _ dataset.header (live-replace before dataset file cell reads short judges
+          builds))
       go (Err fault) builds = refl
   built-taken state dataset file before Extend h reads short judges =
-      ap (λ (c : Option CellValue). or_refused refusal_of_build (built c dataset >>= λ chart. Ok (tt {0})) >>= λ _. put state dataset.header.key (holding_of (files_after (files_of before) Extend file) dataset.header))
+      ap (λ (c : Option CellValue). or_refused refusal_of_build (built c dataset >>= λ chart. Ok (tt {0})) >>= λ _.
+      put state dataset.header.key (holding_of (files_after (files_of before) Extend file) dataset.header))
       (chart-before dataset.header.key before h)
       ∙ go (built (chart_of before) dataset) refl
     where
       go : (r : Result CellValue BuildFault) → built (chart_of before) dataset ≡ r →
-          (or_refused refusal_of_build (r >>= λ chart. Ok (tt {0})) >>= λ _. put state dataset.header.key (holding_of (files_after (files_of before) Extend file) dataset.header))
-          ≡ (((or_refused refusal_of_build r >>= λ after. Ok (Some after)) >>= λ chart. store_within (map.insert state.cells dataset.header.key (cell_after before Extend (numbers_of dataset.header) chart file)))
+          (or_refused refusal_of_build (r >>= λ chart. Ok (tt {0})) >>= λ _. put state dataset.header.key
+          (holding_of (files_after (files_of before) Extend file) dataset.header))
+          ≡ (((or_refused refusal_of_build r >>= λ after. Ok (Some after)) >>= λ chart. store_within
+          (map.insert state.cells dataset.header.key (cell_after before Extend (numbers_of dataset.header) chart
+          file)))
           >>= λ after. Ok (record { key = dataset.header.key; held = numbers_of dataset.header; state = after }))
       go (Ok cell) builds =
-          ap (put state dataset.header.key) (live-holding dataset.header.key _ dataset.header (live-extend before dataset file cell h reads short judges builds))
+          ap (put state dataset.header.key) (live-holding dataset.header.key _ dataset.header
+          (live-extend before dataset file cell h reads short judges builds))
       go (Err fault) builds = refl
   built-taken state dataset file before Cancel h reads short judges =
-      ap (put state dataset.header.key) (live-holding dataset.header.key _ dataset.header (live-cancel before dataset file h reads short judges))
+      ap (put state dataset.header.key) (live-holding dataset.header.key _ dataset.header
+      (live-cancel before dataset file h reads short judges))
 
   pub accepted-taken : (state : StateValue) (dataset : DatasetValue) (file : List ℕ) (before : Option Holding) →
       WasLive dataset.header.key before → data_set_in file ≡ Ok dataset →
       IsFileLength (length file) → accepted state dataset file (files_of before) ≡ taken state dataset file before
   accepted-taken state dataset file before h reads short =
-      ap (λ (n : Option Held). or_fault_as refusal_of_sequence (judged n dataset) >>= λ effect. cells_within state.cells dataset.header.key >>= λ _.
-      or_refused refusal_of_build (buildable (files_of before) effect dataset) >>= λ _. put state dataset.header.key (holding_of (files_after (files_of before) effect file) dataset.header))
+      ap (λ (n : Option Held). or_fault_as refusal_of_sequence (judged n dataset) >>= λ effect. cells_within
+      state.cells dataset.header.key >>= λ _.
+      or_refused refusal_of_build (buildable (files_of before) effect dataset) >>= λ _. put state dataset.header.key
+      (holding_of (files_after (files_of before) effect file) dataset.header))
       (held-before dataset.header.key before h)
       ∙ go (judged (held_of before) dataset) refl
     where
@@ -153,8 +184,11 @@ module _ (laws : Laws) where
 
       go : (r : Result Effect SequenceFault) → judged (held_of before) dataset ≡ r →
           (or_fault_as refusal_of_sequence r >>= λ effect. cells_within state.cells dataset.header.key >>= λ _.
-          or_refused refusal_of_build (buildable (files_of before) effect dataset) >>= λ _. put state dataset.header.key (holding_of (files_after (files_of before) effect file) dataset.header))
+          or_refused refusal_of_build (buildable (files_of before) effect dataset) >>= λ _. put state
+          dataset.header.key (holding_of (files_after (files_of before) effect file) dataset.header))
           ≡ (or_fault_as refusal_of_sequence r >>= λ effect. cells_within state.cells dataset.header.key >>= λ _.
-          placed state dataset file before effect >>= λ after. Ok (record { key = dataset.header.key; held = held_after before effect dataset.header; state = after }))
-      go (Ok effect) judges = room (cells_within state.cells dataset.header.key) _ _ (built-taken state dataset file before effect h reads short judges)
+          placed state dataset file before effect >>= λ after. Ok (record
+          { key = dataset.header.key; held = held_after before effect dataset.header; state = after }))
+      go (Ok effect) judges = room (cells_within state.cells dataset.header.key) _ _
+          (built-taken state dataset file before effect h reads short judges)
       go (Err fault) judges = refl

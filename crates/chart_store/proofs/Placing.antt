@@ -21,8 +21,10 @@ use Rattle.chart_store.specs.Taken.{held_of, chart_of, held_after, cell_after, I
 use Rattle.chart_store.proofs.Judging.{effect_says}
 use Rattle.chart_store.proofs.Loading.{Laws, WasLive, live-replace, live-extend, live-cancel}
 
-moved : (cells : HoldingsByKey) (key k : List ℕ) (effect e : Effect) (held h : Held) (chart : Option CellValue) (file : List ℕ) → key ≡ k → effect ≡ e → held ≡ h →
-    IsLive k (cell_after (map.get cells k) e h chart file) → IsLive key (cell_after (map.get cells key) effect held chart file)
+moved : (cells : HoldingsByKey) (key k : List ℕ) (effect e : Effect) (held h : Held) (chart : Option CellValue)
+    (file : List ℕ) → key ≡ k → effect ≡ e → held ≡ h →
+    IsLive k (cell_after (map.get cells k) e h chart file) → IsLive key
+    (cell_after (map.get cells key) effect held chart file)
 moved cells key k effect e held h chart file keyed is numbers live =
     subst (λ (q : List ℕ). IsLive q (cell_after (map.get cells q) effect held chart file)) (sym keyed)
     (subst (λ (x : Effect). IsLive k (cell_after (map.get cells k) x held chart file)) (sym is)
@@ -33,7 +35,9 @@ has_chart : (key : List ℕ) (before : Option Holding) (here : Held) → ((holdi
     IsHolding key holding) → WasLive key before →
     held_of before ≡ Some here → here.cancelled ≡ false → IsSome (chart_of before)
 has_chart key None here holds live is stands = absurd (let none = is in cc)
-has_chart key (Some holding) here holds live is stands = is_there holding.chart (λ none. true≢false (sym ((holds holding live).cancelled.0 none) ∙ ap (λ (x : Held). x.cancelled) (some_is is) ∙ stands))
+has_chart key (Some holding) here holds live is stands = is_there holding.chart
+    (λ none. true≢false (sym ((holds holding live).cancelled.0 none) ∙ ap (λ (x : Held). x.cancelled) (some_is is)
+    ∙ stands))
   where
     some_is : {x y : Held} → ◌≡◌ {A = Option Held} (Some x) (Some y) → x ≡ y
     some_is e = cc
@@ -42,7 +46,8 @@ has_chart key (Some holding) here holds live is stands = is_there holding.chart 
     is_there None h = absurd (h refl)
     is_there (Some chart) h = refl
 
-module _ (laws : Laws) (cells : HoldingsByKey) (key : List ℕ) (dataset : DatasetValue) (file : List ℕ) (effect : Effect) (held : Held)
+module _ (laws : Laws) (cells : HoldingsByKey) (key : List ℕ) (dataset : DatasetValue) (file : List ℕ)
+    (effect : Effect) (held : Held)
     (keyed : key ≡ dataset.header.key) (reads : data_set_in file ≡ Ok dataset) (short : IsFileLength (length file))
     (live : WasLive dataset.header.key (map.get cells dataset.header.key))
     (judges : judged (held_of (map.get cells dataset.header.key)) dataset ≡ Ok effect)
@@ -59,12 +64,14 @@ module _ (laws : Laws) (cells : HoldingsByKey) (key : List ℕ) (dataset : Datas
   pub place-replace : (cell : CellValue) → effect ≡ Replace → built None dataset ≡ Ok cell →
       IsLive key (cell_after (map.get cells key) effect held (Some cell) file)
   place-replace cell is builds =
-      moved cells key dataset.header.key effect Replace held (numbers_of dataset.header) (Some cell) file keyed is (with_numbers Replace is)
+      moved cells key dataset.header.key effect Replace held (numbers_of dataset.header) (Some cell) file keyed is
+      (with_numbers Replace is)
       (live-replace laws (map.get cells dataset.header.key) dataset file cell reads short (as_judged Replace is) builds)
 
   pub place-cancel : effect ≡ Cancel → IsLive key (cell_after (map.get cells key) effect held None file)
   place-cancel is =
-      moved cells key dataset.header.key effect Cancel held (held_after (map.get cells dataset.header.key) Cancel dataset.header) None file keyed is (with_numbers Cancel is)
+      moved cells key dataset.header.key effect Cancel held (held_after (map.get cells dataset.header.key) Cancel
+      dataset.header) None file keyed is (with_numbers Cancel is)
       (live-cancel laws (map.get cells dataset.header.key) dataset file live reads short (as_judged Cancel is))
 
   pub place-extend : ((holding : Holding) → IsLive dataset.header.key holding →
@@ -74,9 +81,12 @@ module _ (laws : Laws) (cells : HoldingsByKey) (key : List ℕ) (dataset : Datas
       record {
         stands = says.stands;
         update = says.update;
-        there = subst (λ (q : List ℕ). IsSome (chart_of (map.get cells q))) (sym keyed) (has_chart dataset.header.key (map.get cells dataset.header.key) says.here holds live says.is says.lives);
+        there = subst (λ (q : List ℕ). IsSome (chart_of (map.get cells q))) (sym keyed)
+            (has_chart dataset.header.key (map.get cells dataset.header.key) says.here holds live says.is says.lives);
         live = λ cell builds.
-            moved cells key dataset.header.key Extend Extend held (numbers_of dataset.header) (Some cell) file keyed refl (with_numbers Extend is)
-            (live-extend laws (map.get cells dataset.header.key) dataset file cell live reads short (as_judged Extend is)
+            moved cells key dataset.header.key Extend Extend held (numbers_of dataset.header) (Some cell) file keyed
+            refl (with_numbers Extend is)
+            (live-extend laws (map.get cells dataset.header.key) dataset file cell live reads short
+            (as_judged Extend is)
             (subst (λ (q : List ℕ). built (chart_of (map.get cells q)) dataset ≡ Ok cell) keyed builds));
       }

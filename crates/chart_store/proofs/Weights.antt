@@ -36,14 +36,28 @@ module _ {K X : Type 0} {R : K → K → Ordering} (total : IsTotalOrder R) wher
       → weight_of weight (put R k v es) + weight_found weight (find R k es) ≡ weight_of weight es + weight v
   weight_of-put weight k v [] h = omega (arith, cons weight (k, v) [])
   weight_of-put weight k v (e ∷ es) h =
-      elim (R k e.0) as (λ r. R k e.0 ≡ r → weight_of weight (by_order r ((k, v) ∷ e ∷ es) ((e.0, v) ∷ es) (e ∷ put R k v es)) + weight_found weight (cond (is_eq r) (Some e.1) (find R k es)) ≡ weight_of weight (e ∷ es) + weight v) [
-        | Less ↦ λ p. omega (arith, cons weight (k, v) (e ∷ es), ap (weight_found weight) (not_found k e.0 es p (first _ _ h)))
+      elim (R k e.0) as (λ r. R k e.0 ≡ r → weight_of weight (by_order r ((k, v) ∷ e ∷ es) ((e.0, v) ∷ es)
+      (e ∷ put R k v es)) + weight_found weight (cond (is_eq r) (Some e.1) (find R k es)) ≡ weight_of weight
+      (e ∷ es) + weight v) [
+        | Less ↦ λ p. omega (
+          arith,
+          cons weight (k, v) (e ∷ es),
+          ap (weight_found weight)
+              (not_found k e.0 es p (first _ _ h)),
+        )
         | Equal ↦ λ p. omega (arith, cons weight (e.0, v) es, cons weight e es)
-        | Greater ↦ λ p. omega (arith, cons weight e (put R k v es), cons weight e es, weight_of-put weight k v es (second _ _ h))
+        | Greater ↦ λ p. omega (
+          arith,
+          cons weight e (put R k v es),
+          cons weight e es,
+          weight_of-put weight k v es
+              (second _ _ h),
+        )
       ] refl
 
   pub weight-insert : (weight : X → ℕ) (m : FinMap R X) (k : K) (v : X)
-      → sum_by weight (finite.values (finite.insert m k v)) + weight_found weight (finite.get m k) ≡ sum_by weight (finite.values m) + weight v
+      → sum_by weight (finite.values (finite.insert m k v)) + weight_found weight (finite.get m k) ≡ sum_by weight
+      (finite.values m) + weight v
   weight-insert weight m k v =
       ap (λ es. weight_of weight es + weight_found weight (finite.get m k)) (finite.entries-insert total m k v)
       ∙ ap (λ o. weight_of weight (put R k v (finite.entries m)) + weight_found weight o) (finite.get-entries m k)
@@ -54,11 +68,13 @@ weight_found-le : {K X : Type 0} (R : K → K → Ordering) (weight : X → ℕ)
     weight_found weight (find R k es) ≤ weight_of weight es
 weight_found-le R weight k [] = omega arith
 weight_found-le R weight k (e ∷ es) =
-    elim (eq_by_cmp R k e.0) as (λ b. weight_found weight (cond b (Some e.1) (find R k es)) ≤ weight_of weight (e ∷ es)) [
+    elim (eq_by_cmp R k e.0) as (λ b. weight_found weight (cond b (Some e.1) (find R k es)) ≤ weight_of weight
+    (e ∷ es)) [
       | true ↦ omega (arith, cons weight e es)
       | false ↦ omega (arith, cons weight e es, weight_found-le R weight k es)
     ]
 
 pub weight-get : {K X : Type 0} {R : K → K → Ordering} (weight : X → ℕ) (m : FinMap R X) (k : K) →
     weight_found weight (finite.get m k) ≤ sum_by weight (finite.values m)
-weight-get {R = R} weight m k = subst (λ o. weight_found weight o ≤ weight_of weight (finite.entries m)) (sym (finite.get-entries m k)) (weight_found-le R weight k (finite.entries m))
+weight-get {R = R} weight m k = subst (λ o. weight_found weight o ≤ weight_of weight (finite.entries m))
+    (sym (finite.get-entries m k)) (weight_found-le R weight k (finite.entries m))

@@ -9,4 +9,5 @@ use Rattle.chart_store.proofs.live.put.Goals as goal
 pub invariant_of-state-2 : goal.invariant_of-state-2
 invariant_of-state-2 c =
     IsState-after (record { cells = c.state.inside.cells }) _ _ _ _ _ _ c.in_ok-put_in.ensures.ok c.state.invariant
-    (subst (λ (s : StateValue). IsHolding c.args.key (cell_after (map.get s.cells c.args.key) c.args.effect c.args.held c.args.chart c.args.file)) (sym c.state.view_is) c.requires)
+    (subst (λ (s : StateValue). IsHolding c.args.key (cell_after (map.get s.cells c.args.key) c.args.effect
+    c.args.held c.args.chart c.args.file)) (sym c.state.view_is) c.requires)

@@ -15,8 +15,10 @@ build-requires-clause-stands c =
       extends = c.accepted_files_follow.ensures.extends;
       cancels = c.accepted_files_follow.ensures.cancels;
     } in
-    stands_by_base c.args.dataset.now (c.files_are_data_sets.ensures.kept c.args.file c.args.dataset.now c.requires.reads)
-    (base_by laws c.args.live.now.cells c.args.dataset.now.header.key c.args.dataset.now c.args.file c.args.effect c.args.held refl
+    stands_by_base c.args.dataset.now (c.files_are_data_sets.ensures.kept c.args.file c.args.dataset.now
+    c.requires.reads)
+    (base_by laws c.args.live.now.cells c.args.dataset.now.header.key c.args.dataset.now c.args.file c.args.effect
+    c.args.held refl
     c.requires.reads c.requires.short c.requires.live c.requires.judged c.requires.held c.in-Replace.is)
 
 pub build-requires-clause-held : goal.build-requires-clause-held
@@ -27,7 +29,8 @@ build-requires-clause-held c =
       extends = c.accepted_files_follow.ensures.extends;
       cancels = c.accepted_files_follow.ensures.cancels;
     } in (
-      λ _. base_by laws c.args.live.now.cells c.args.dataset.now.header.key c.args.dataset.now c.args.file c.args.effect c.args.held refl
+      λ _. base_by laws c.args.live.now.cells c.args.dataset.now.header.key c.args.dataset.now c.args.file
+          c.args.effect c.args.held refl
           c.requires.reads c.requires.short c.requires.live c.requires.judged c.requires.held c.in-Replace.is,
       λ _. refl,
     )
@@ -40,9 +43,11 @@ put-requires c =
       extends = c.accepted_files_follow.ensures.extends;
       cancels = c.accepted_files_follow.ensures.cancels;
     } in
-    place-replace laws c.args.live.now.cells c.dataset.inside.header.key c.args.dataset.now c.args.file c.args.effect c.args.held
+    place-replace laws c.args.live.now.cells c.dataset.inside.header.key c.args.dataset.now c.args.file c.args.effect
+    c.args.held
     (ap (λ (d : DatasetValue). d.header.key) c.dataset.view_is)
-    c.requires.reads c.requires.short c.requires.live c.requires.judged c.requires.held _ c.in-Replace.is c.in_ok-chart-in-Replace.ensures
+    c.requires.reads c.requires.short c.requires.live c.requires.judged c.requires.held _ c.in-Replace.is
+    c.in_ok-chart-in-Replace.ensures
 
 pub put-requires-in-Cancel : goal.put-requires-in-Cancel
 put-requires-in-Cancel c =
@@ -52,7 +57,8 @@ put-requires-in-Cancel c =
       extends = c.accepted_files_follow.ensures.extends;
       cancels = c.accepted_files_follow.ensures.cancels;
     } in
-    place-cancel laws c.args.live.now.cells c.dataset.inside.header.key c.args.dataset.now c.args.file c.args.effect c.args.held
+    place-cancel laws c.args.live.now.cells c.dataset.inside.header.key c.args.dataset.now c.args.file c.args.effect
+    c.args.held
     (ap (λ (d : DatasetValue). d.header.key) c.dataset.view_is)
     c.requires.reads c.requires.short c.requires.live c.requires.judged c.requires.held c.in-Cancel.is
 
@@ -64,7 +70,8 @@ extend-requires c =
       extends = c.accepted_files_follow.ensures.extends;
       cancels = c.accepted_files_follow.ensures.cancels;
     } in
-    place-extend laws c.args.live.now.cells c.dataset.inside.header.key c.args.dataset.now c.args.file c.args.effect c.args.held
+    place-extend laws c.args.live.now.cells c.dataset.inside.header.key c.args.dataset.now c.args.file c.args.effect
+    c.args.held
     (ap (λ (d : DatasetValue). d.header.key) c.dataset.view_is)
     c.requires.reads c.requires.short c.requires.live c.requires.judged c.requires.held
     (live-held c.sound_lists_are_held.ensures.held c.args.dataset.now.header.key) c.in-Extend.is

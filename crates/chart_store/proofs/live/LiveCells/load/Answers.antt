@@ -14,6 +14,10 @@ returns-clause-loaded g c =
       extends = c.accepted_files_follow.ensures.extends;
       cancels = c.accepted_files_follow.ensures.cancels;
     } in
-    let short : length c.args.file ≤ FILE_LIMIT = subst (λ (l : List ℕ). length l ≤ FILE_LIMIT) c.as_slice.ensures c.if-as_slice-gt-FILE_LIMIT.false in
-    let reads : data_set_in c.args.file ≡ Ok c.in_ok-dataset.dataset = ap data_set_in (sym c.as_slice-2.ensures) ∙ c.in_ok-dataset.ensures.exact in
-    subst (GivesLoaded c.take.result c.take.new.live) (sym (loaded-taken laws c.args.self.now c.args.file c.in_ok-dataset.dataset c.take.ensures.was short reads)) c.take.ensures.taken
+    let short : length c.args.file ≤ FILE_LIMIT =
+    subst (λ (l : List ℕ). length l ≤ FILE_LIMIT) c.as_slice.ensures c.if-as_slice-gt-FILE_LIMIT.false in
+    let reads : data_set_in c.args.file ≡ Ok c.in_ok-dataset.dataset =
+    ap data_set_in (sym c.as_slice-2.ensures) ∙ c.in_ok-dataset.ensures.exact in
+    subst (GivesLoaded c.take.result c.take.new.live) (sym
+    (loaded-taken laws c.args.self.now c.args.file c.in_ok-dataset.dataset c.take.ensures.was short reads))
+    c.take.ensures.taken
