@@ -22,6 +22,9 @@ use std::mem;
 /// The text that removes an attribute: the delete character alone (S-57 Part 3).
 const DELETED: [u8; 1] = [0x7F];
 
+/// So many settings at most cost less in their places than in a pass over all attributes.
+const FEW: usize = 32;
+
 /// Attributes by code. Contracts see a finite map from codes to texts.
 ///
 /// Records have few attributes, so these stand in one block, in the order of their codes.
@@ -103,6 +106,18 @@ fn set_one(attrs: &mut Vec<Attr>, setting: Attr)
         let _ = take_out(attrs, setting.code);
     } else {
         put(attrs, setting.code, setting.value);
+    }
+}
+
+/// Sets or removes attributes one after the other. It takes no memory.
+fn set_each(attrs: &mut Vec<Attr>, settings: Vec<Attr>)
+    requires rising { AreRising attrs.old.items }
+    requires room { vec_len attrs.old + vec_len settings ≤ vec_capacity attrs.old }
+    ensures map { attrs_of attrs.new.items ≡ set_attrs (attrs_of attrs.old.items) settings.items }
+    ensures rising { AreRising attrs.new.items }
+{
+    for setting in settings {
+        set_one(attrs, setting);
     }
 }
 
@@ -205,9 +220,19 @@ impl AttrMap {
         take_out(&mut self.attrs, code)
     }
 
-    /// Sets attributes one after the other, where the single byte 0x7F removes one. Where there is no
-    /// memory nothing changes.
-    pub fn set_all(&mut self, alloc: Global, settings: &[Attr]) -> Result<(), AllocError>
+    /// Sets a few attributes, each in its place.
+    fn set_few(&mut self, alloc: Global, settings: &[Attr]) -> Result<(), AllocError>
+        ensures ok { OnOk result (self.new ≡ set_attrs self.old settings.now) }
+        ensures err { OnErr result (self.new ≡ self.old) }
+    {
+        let settings = settings.to_vec(alloc)?;
+        self.attrs.reserve(settings.len())?;
+        set_each(&mut self.attrs, settings);
+        Ok(())
+    }
+
+    /// Sets many attributes: they are sorted by their codes, and merged with those that are there.
+    fn set_many(&mut self, alloc: Global, settings: &[Attr]) -> Result<(), AllocError>
         ensures ok { OnOk result (self.new ≡ set_attrs self.old settings.now) }
         ensures err { OnErr result (self.new ≡ self.old) }
     {
@@ -218,6 +243,21 @@ impl AttrMap {
         merge(&mut attrs, VecDeque::from(kept), VecDeque::from(given));
         self.attrs = attrs;
         Ok(())
+    }
+
+    /// Sets attributes one after the other, where the single byte 0x7F removes one. Where there is no
+    /// memory nothing changes.
+    ///
+    /// The time is that of one pass over the attributes, beside the settings' sorting, or less.
+    pub fn set_all(&mut self, alloc: Global, settings: &[Attr]) -> Result<(), AllocError>
+        ensures ok { OnOk result (self.new ≡ set_attrs self.old settings.now) }
+        ensures err { OnErr result (self.new ≡ self.old) }
+    {
+        if settings.len() <= FEW {
+            self.set_few(alloc, settings)
+        } else {
+            self.set_many(alloc, settings)
+        }
     }
 }
 

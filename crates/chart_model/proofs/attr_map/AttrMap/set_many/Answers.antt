@@ -4,7 +4,7 @@ use Rattle.std.specs.Ordering.{nat_cmp}
 use Rattle.std.proofs.lemmas.List.Sorted.{answers_always}
 use Rattle.chart_model.specs.Attrs.{attrs_of, merged, set_attrs}
 use Rattle.chart_model.proofs.SetOrders.{put-alone, set-sorted}
-use Rattle.chart_model.proofs.attr_map.AttrMap.set_all.Goals as goal
+use Rattle.chart_model.proofs.attr_map.AttrMap.set_many.Goals as goal
 
 pub returns-clause-ok : goal.returns-clause-ok
 returns-clause-ok c =
