@@ -169,25 +169,37 @@ fn attributes_set_in_turn(rt: HostRuntime) -> Result<(), Fail> {
 }
 
 /// Sets or removes attributes by a call for each.
-fn set_in_turn(
-    alloc: Global,
-    attrs: &mut AttrMap,
-    rows: &[(u16, &[u8])],
-) -> Result<(), AllocError> {
-    for (code, text) in rows {
-        if *text == b"\x7F".as_slice() {
-            let _ = attrs.remove(*code);
+fn set_in_turn(attrs: &mut AttrMap, settings: &[Attr]) -> Result<(), AllocError> {
+    for setting in settings {
+        if setting.value.as_slice() == b"\x7F".as_slice() {
+            let _ = attrs.remove(setting.code);
         } else {
-            attrs.set(*code, Octets::from_vec(Vec::from_slice(alloc, text)?))?;
+            attrs.set(setting.code, setting.value.clone()?)?;
         }
     }
     Ok(())
 }
 
+/// Settings of the codes 400 to 369, each with an empty text, and these behind them.
+fn many_before(alloc: Global, rows: &[(u16, &[u8])]) -> Result<Vec<Attr>, AllocError> {
+    let mut many = Vec::new(alloc);
+    for below in 0..32 {
+        let value = Octets::from_vec(Vec::new(alloc));
+        many.push(Attr {
+            code: 400 - below,
+            value,
+        })?;
+    }
+    for setting in settings(alloc, rows)? {
+        many.push(setting)?;
+    }
+    Ok(many)
+}
+
 #[test]
 fn settings_merge_as_in_turn(rt: HostRuntime) -> Result<(), Fail> {
     let kept: [(u16, &[u8]); 4] = [(2, b"a"), (5, b"b"), (9, b"c"), (200, b"d")];
-    let rows: [(u16, &[u8]); 9] = [
+    let rows: [(u16, &[u8]); 10] = [
         (300, b"1"),
         (9, b"\x7F"),
         (5, b"2"),
@@ -197,16 +209,23 @@ fn settings_merge_as_in_turn(rt: HostRuntime) -> Result<(), Fail> {
         (1, b"\x7F"),
         (1, b""),
         (2, b"\x7F"),
+        (400, b"\x7F"),
     ];
-    let (mut all, mut each) = (AttrMap::new(rt.alloc()), AttrMap::new(rt.alloc()));
-    set_in_turn(rt.alloc(), &mut all, &kept)?;
-    set_in_turn(rt.alloc(), &mut each, &kept)?;
-    all.set_all(rt.alloc(), settings(rt.alloc(), &rows)?.as_slice())?;
-    set_in_turn(rt.alloc(), &mut each, &rows)?;
-    assert_eq!(rt; (all.len(), each.len()), (4, 4));
-    for (attr, wanted) in all.as_slice().iter().zip(each.as_slice()) {
-        assert_eq!(rt; attr.code, wanted.code);
-        assert_eq!(rt; attr.value.as_slice(), wanted.value.as_slice());
+    let cases = [
+        (settings(rt.alloc(), &rows)?, 4),
+        (many_before(rt.alloc(), &rows)?, 35),
+    ];
+    for (given, left) in &cases {
+        let (mut all, mut each) = (AttrMap::new(rt.alloc()), AttrMap::new(rt.alloc()));
+        all.set_all(rt.alloc(), settings(rt.alloc(), &kept)?.as_slice())?;
+        each.set_all(rt.alloc(), settings(rt.alloc(), &kept)?.as_slice())?;
+        all.set_all(rt.alloc(), given.as_slice())?;
+        set_in_turn(&mut each, given.as_slice())?;
+        assert_eq!(rt; (all.len(), each.len()), (*left, *left));
+        for (attr, wanted) in all.as_slice().iter().zip(each.as_slice()) {
+            assert_eq!(rt; attr.code, wanted.code);
+            assert_eq!(rt; attr.value.as_slice(), wanted.value.as_slice());
+        }
     }
     Ok(())
 }
