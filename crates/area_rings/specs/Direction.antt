@@ -7,5 +7,8 @@ abbrev pub value_of : DirectedEdge → EdgeValue
 value_of edge = record {
   from = edge.from;
   to = edge.to;
-  points = edge.start ∷ map point_of (if edge.reversed then reverse edge.inner.now else edge.inner.now) ++ edge.end ∷ [];
+  points =
+      edge.start
+      ∷ map point_of (if edge.reversed then reverse edge.inner.now else edge.inner.now)
+      ++ edge.end ∷ [];
 }

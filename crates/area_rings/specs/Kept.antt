@@ -13,4 +13,5 @@ pub record StandsFor (before after : Vector) : Type 0 where
 -- for each vector record of a cell one stands in another cell, under its name
 abbrev pub KeepsVectors : CellValue → CellValue → Type 0
 KeepsVectors before after =
-    (name : Name) → IfSome (finite.get before.vectors name) (λ vector. (kept : Vector) × (finite.get after.vectors name ≡ Some kept) × StandsFor vector kept)
+    (name : Name) → IfSome (finite.get before.vectors name) (λ vector.
+    (kept : Vector) × (finite.get after.vectors name ≡ Some kept) × StandsFor vector kept)

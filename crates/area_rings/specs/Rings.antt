@@ -1,5 +1,6 @@
 -- The rings of an area.
-use Rattle.std.specs.Prelude.{◌≡◌, ◌≢◌, ◌-◌, Bool, ◌&&◌, ◌==◌, if◌then◌else◌, List, [], ◌∷◌, ◌++◌, map, take, length, All, is_some, Option, Some, None, option_map}
+use Rattle.std.specs.Prelude.{◌≡◌, ◌≢◌, ◌-◌, Bool, ◌&&◌, ◌==◌, if◌then◌else◌, List, [], ◌∷◌, ◌++◌, map, take, length}
+use Rattle.std.specs.Prelude.{All, is_some, Option, Some, None, option_map}
 use Rattle.std.specs.List.{flat_map}
 use Rattle.chart_model.specs.declared.name.Name.{Name}
 use Rattle.chart_model.specs.declared.record.Pointer.{Pointer}

@@ -6,6 +6,7 @@ use Rattle.std.specs.Ordering.{nat_cmp}
 use Rattle.std.specs.Cmp.Lexicographic.{pointwise}
 use Rattle.std.specs.FinMap as map
 use Rattle.chart_model.specs.declared.record.Attr.{Attr}
+use Rattle.chart_model.specs.Codes.{DELETED}
 
 -- from codes to texts
 abbrev pub Attrs : Type 0
@@ -26,7 +27,7 @@ attrs_of attrs = map.from_sorted (texts_by_code attrs)
 -- a setting: the single byte 0x7F removes the attribute, and any other text takes its place
 abbrev pub set_attr : Attrs → Attr → Attrs
 set_attr attrs setting =
-    if pointwise nat_eq setting.value (127 ∷ [])
+    if pointwise nat_eq setting.value (DELETED ∷ [])
     then map.remove attrs setting.code
     else map.insert attrs setting.code setting.value
 

@@ -11,6 +11,7 @@ use Rattle.chart_model.specs.contracts.dataset.Header as header
 use Rattle.chart_model.specs.contracts.cell.Vector as vector
 use Rattle.chart_model.specs.contracts.cell.Feature as feature
 use Rattle.chart_model.specs.Attrs.{Attrs}
+use Rattle.chart_model.specs.Codes.{DELETED, NULL}
 use Rattle.chart_model.specs.Key.{IsKey}
 use Rattle.chart_model.specs.Names.{name_cmp, name_code}
 use Rattle.chart_model.specs.Record.{IsVectorName, IsFeatureName, AreCoords, IsPlainText, IsPrim}
@@ -43,7 +44,7 @@ pub record IsChartHeader (header : Header) : Type 0 where
 -- a text that a record keeps: the single byte 0x7F removes its attribute, and is never kept
 pub record IsKeptText (text : List ℕ) : Type 0 where
   pub plain : IsPlainText text
-  pub kept : text ≢ 127 ∷ []
+  pub kept : text ≢ DELETED ∷ []
 
 abbrev pub AreKeptTexts : Attrs → Type 0
 AreKeptTexts attrs = (code : ℕ) → IfSome (map.get attrs code) IsKeptText
@@ -59,7 +60,7 @@ pub record IsFeature (name : Name) (feature : Feature) : Type 0 where
   pub named : IsFeatureName name
   pub prim : IsPrim feature.prim
   pub attrs : AreKeptTexts feature.attrs
-  pub topi : All (λ pointer. pointer.topi ≡ 255) feature.pointers
+  pub topi : All (λ pointer. pointer.topi ≡ NULL) feature.pointers
 
 pub record IsCell (cell : CellValue) : Type 0 where
   pub header : IsChartHeader cell.header

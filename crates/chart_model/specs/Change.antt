@@ -8,6 +8,7 @@ use Rattle.chart_model.specs.declared.record.Pointer.{Pointer}
 use Rattle.chart_model.specs.declared.record.Coord.{Coord}
 use Rattle.chart_model.specs.declared.record.Related.{Related}
 use Rattle.chart_model.specs.declared.update_record.Control.{Control}
+use Rattle.chart_model.specs.Codes.{INSERT, MODIFY, NULL}
 use Rattle.chart_model.specs.Record.{IsVectorName, IsFeatureName, AreCoords, IsPlainText, IsPrim}
 
 pub record Change : Type 0 where
@@ -28,7 +29,7 @@ pub record Change : Type 0 where
 
 -- insert, delete or modify
 abbrev pub IsInstruction : ℕ → Type 0
-IsInstruction instruction = IsInRange 1 3 instruction
+IsInstruction instruction = IsInRange INSERT MODIFY instruction
 
 abbrev pub IsEdit : Option Control → Type 0
 IsEdit edit = IfSome edit (λ control. IsInstruction control.instruction)
@@ -46,7 +47,7 @@ pub record HasNoFeature (change : Change) : Type 0 where
 pub record HasNoVector (change : Change) : Type 0 where
   pub coord_edit : change.coord_edit ≡ None
   pub coords : change.coords ≡ []
-  pub topi : All (λ pointer. pointer.topi ≡ 255) change.pointers
+  pub topi : All (λ pointer. pointer.topi ≡ NULL) change.pointers
 
 -- what an inserted feature has
 pub record IsFeatureInsert (change : Change) : Type 0 where
@@ -63,4 +64,4 @@ pub record IsChange (change : Change) : Type 0 where
   pub coords : AreCoords change.coords
   pub vector : IsVectorName change.target → HasNoFeature change
   pub feature : IsFeatureName change.target → HasNoVector change
-  pub insert : IsFeatureName change.target → change.ruin ≡ 1 → IsFeatureInsert change
+  pub insert : IsFeatureName change.target → change.ruin ≡ INSERT → IsFeatureInsert change

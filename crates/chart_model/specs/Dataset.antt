@@ -2,6 +2,7 @@
 use Rattle.std.specs.Prelude.{◌≡◌, ◌≤◌, ◌↔◌, Bool, true, false, List, [], All, None}
 use Rattle.chart_model.specs.declared.dataset.Header.{Header}
 use Rattle.chart_model.specs.Change.{Change}
+use Rattle.chart_model.specs.Codes.{INSERT}
 use Rattle.chart_model.specs.Key.{IsKey}
 
 pub record DatasetValue : Type 0 where
@@ -12,7 +13,7 @@ pub record DatasetValue : Type 0 where
 
 -- an insertion that edits no list
 pub record IsPlainInsert (change : Change) : Type 0 where
-  pub ruin : change.ruin ≡ 1
+  pub ruin : change.ruin ≡ INSERT
   pub pointer_edit : change.pointer_edit ≡ None
   pub coord_edit : change.coord_edit ≡ None
   pub related_edit : change.related_edit ≡ None

@@ -3,13 +3,15 @@ use Rattle.std.specs.Prelude.{◌≡◌, ◌≢◌, ◌⊎◌, ℕ, ℤ, pos, �
 use Rattle.std.specs.Int.{IsInRange}
 use Rattle.chart_model.specs.declared.name.Name.{Name}
 use Rattle.chart_model.specs.declared.record.Coord.{Coord}
+use Rattle.chart_model.specs.Codes.{FEATURE, ISOLATED_NODE, CONNECTED_NODE, EDGE, POINT, AREA, NO_PRIMITIVE}
+use Rattle.chart_model.specs.Codes.{FIELD_TERMINATOR, UNIT_TERMINATOR}
 
 -- an isolated node, a connected node or an edge
 abbrev pub IsVectorName : Name → Type 0
-IsVectorName name = (name.rcnm ≡ 110) ⊎ ((name.rcnm ≡ 120) ⊎ (name.rcnm ≡ 130))
+IsVectorName name = (name.rcnm ≡ ISOLATED_NODE) ⊎ ((name.rcnm ≡ CONNECTED_NODE) ⊎ (name.rcnm ≡ EDGE))
 
 abbrev pub IsFeatureName : Name → Type 0
-IsFeatureName name = name.rcnm ≡ 100
+IsFeatureName name = name.rcnm ≡ FEATURE
 
 -- a whole number from -n to n
 abbrev pub IsWithin : ℕ → ℤ → Type 0
@@ -32,8 +34,8 @@ pub record AreCoords (coords : List Coord) : Type 0 where
 
 -- the text has neither a field terminator nor a unit terminator
 abbrev pub IsPlainText : List ℕ → Type 0
-IsPlainText text = All (λ byte. (byte ≢ 30) × (byte ≢ 31)) text
+IsPlainText text = All (λ byte. (byte ≢ FIELD_TERMINATOR) × (byte ≢ UNIT_TERMINATOR)) text
 
 -- a point, a line, an area or none of these
 abbrev pub IsPrim : ℕ → Type 0
-IsPrim prim = IsInRange 1 3 prim ⊎ (prim ≡ 255)
+IsPrim prim = IsInRange POINT AREA prim ⊎ (prim ≡ NO_PRIMITIVE)

@@ -1,5 +1,6 @@
 -- The first fault of bytes that are no file of records.
-use Rattle.std.specs.Prelude.{◌≡◌, ◌≢◌, ◌⊎◌, ℕ, ◌+◌, ◌-◌, ◌*◌, ◌<◌, ◌≤◌, Bool, true, false, List, [], ◌∷◌, ◌++◌, length, take, slice_get, Some, IsTrue, IsSome}
+use Rattle.std.specs.Prelude.{◌≡◌, ◌≢◌, ◌⊎◌, ℕ, ◌+◌, ◌-◌, ◌*◌, ◌<◌, ◌≤◌, Bool, true, false, List, [], ◌∷◌, ◌++◌}
+use Rattle.std.specs.Prelude.{length, take, slice_get, Some, IsTrue, IsSome}
 use Rattle.std.specs.List.{slice_range, AllByRecursion}
 use Rattle.iso8211_leader.specs.Leader.{HasLeader, Frame, frame_of}
 use Rattle.iso8211_leader.specs.Entry.{HasEntry, entry_size}
@@ -9,12 +10,14 @@ use Rattle.iso8211_formats.specs.Grammar.{Spells}
 use Rattle.iso8211_records.specs.declared.record.RawField.{RawField}
 use Rattle.iso8211_records.specs.declared.value.Value.{Value}
 use Rattle.iso8211_records.specs.declared.fault.FileFault.{FileFault}
-use Rattle.iso8211_records.specs.declared.fault.FileFault.TheVariants.{Leader, Directory, Span, Terminator, Descriptor, Subfield}
+use Rattle.iso8211_records.specs.declared.fault.FileFault.TheVariants.{Leader, Directory, Span, Terminator}
+use Rattle.iso8211_records.specs.declared.fault.FileFault.TheVariants.{Descriptor, Subfield}
 use Rattle.chart_model.specs.Codes.{FIELD_TERMINATOR}
 use Rattle.iso8211_records.specs.Tags.{is_listed}
 use Rattle.iso8211_records.specs.Spelling.{formats_in, IsField}
 use Rattle.iso8211_records.specs.Kinds.{layout_at}
-use Rattle.iso8211_records.specs.Record.{IsDirectory, IsInside, IsEnded, IsRecord, IsDescriptiveRecord, AreDataRecords, field_bytes, describing}
+use Rattle.iso8211_records.specs.Record.{IsDirectory, IsInside, IsEnded, IsRecord, IsDescriptiveRecord}
+use Rattle.iso8211_records.specs.Record.{AreDataRecords, field_bytes, describing}
 
 -- x is the first element of the list that isn't P, and so many stand before it
 pub record IsFirstWithout {A : Type 0} (P : A → Type 0) (xs : List A) (count : ℕ) (x : A) : Type 0 where

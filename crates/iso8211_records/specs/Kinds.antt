@@ -3,7 +3,8 @@ use Rattle.std.specs.Prelude.{◌≡◌, ℕ, List, [], ◌∷◌, Option, Some,
 use Rattle.std.specs.Str.{bytes_eq}
 use Rattle.iso8211_formats.specs.Layout.{Layout}
 use Rattle.iso8211_formats.specs.declared.format.Format.{Format}
-use Rattle.iso8211_formats.specs.declared.format.Format.TheVariants.{TextOpen, Text as TextOf, Unsigned, Signed, Bits as BitsOf}
+use Rattle.iso8211_formats.specs.declared.format.Format.TheVariants.{TextOpen, Text as TextOf, Unsigned, Signed}
+use Rattle.iso8211_formats.specs.declared.format.Format.TheVariants.{Bits as BitsOf}
 use Rattle.iso8211_records.specs.declared.value.Value.{Value}
 use Rattle.iso8211_records.specs.declared.value.Value.TheVariants.{Number, Text, Bits}
 use Rattle.iso8211_records.specs.declared.record.RawField.{RawField}

@@ -1,5 +1,7 @@
 -- Reading records from left to right, to the first fault.
-use Rattle.std.specs.Prelude.{ℕ, zero, suc, ◌+◌, ◌-◌, Bool, true, false, not, ◌&&◌, ◌||◌, ◌==◌, nat_lt, nat_le, List, [], ◌∷◌, length, take, drop, slice_index, Option, Some, None, is_some, Result, Ok, Err, if◌then◌else◌}
+use Rattle.std.specs.Prelude.{ℕ, zero, suc, ◌+◌, ◌-◌, Bool, true, false, not, ◌&&◌, ◌||◌, ◌==◌, nat_lt, nat_le, List}
+use Rattle.std.specs.Prelude.{[], ◌∷◌, length, take, drop, slice_index, Option, Some, None, is_some, Result, Ok, Err}
+use Rattle.std.specs.Prelude.{if◌then◌else◌}
 use Rattle.chart_model.specs.Answers.{◌>>=◌, or_fault}
 use Rattle.iso8211_leader.specs.Leader.{Frame, frame_of}
 use Rattle.iso8211_leader.specs.Entry.{entry_size, entry_of, entry_text}
@@ -9,7 +11,8 @@ use Rattle.iso8211_formats.specs.Reading.{descriptor_of}
 use Rattle.iso8211_records.specs.declared.record.RawField.{RawField}
 use Rattle.iso8211_records.specs.declared.value.Value.{Value}
 use Rattle.iso8211_records.specs.declared.fault.FileFault.{FileFault}
-use Rattle.iso8211_records.specs.declared.fault.FileFault.TheVariants.{Leader, Directory, Span, Terminator, Descriptor, Subfield}
+use Rattle.iso8211_records.specs.declared.fault.FileFault.TheVariants.{Leader, Directory, Span, Terminator}
+use Rattle.iso8211_records.specs.declared.fault.FileFault.TheVariants.{Descriptor, Subfield}
 use Rattle.chart_model.specs.Codes.{FIELD_TERMINATOR}
 use Rattle.iso8211_records.specs.Tags.{is_listed}
 use Rattle.iso8211_records.specs.Spelling.{formats_in}

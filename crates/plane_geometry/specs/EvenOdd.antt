@@ -1,5 +1,6 @@
 -- The even-odd rule.
-use Rattle.std.specs.Prelude.{◌≡◌, ◌⊎◌, ℕ, ℤ, pos, ◌+ℤ◌, ◌-ℤ◌, ◌*ℤ◌, ◌≤ℤ◌, ◌<ℤ◌, ◌≤◌, int_lt, int_le, ◌%◌, Bool, ◌&&◌, if◌then◌else◌, List, ◌++◌, take, drop}
+use Rattle.std.specs.Prelude.{◌≡◌, ◌⊎◌, ℕ, ℤ, pos, ◌+ℤ◌, ◌-ℤ◌, ◌*ℤ◌, ◌≤ℤ◌, ◌<ℤ◌, ◌≤◌, int_lt, int_le, ◌%◌, Bool, ◌&&◌}
+use Rattle.std.specs.Prelude.{if◌then◌else◌, List, ◌++◌, take, drop}
 use Rattle.std.specs.Bool.{xor}
 use Rattle.std.specs.List.{zip, flat_map, count_by, Any}
 use Rattle.plane_geometry.specs.declared.point.Pt.{Pt}

@@ -62,7 +62,8 @@ in_group read layout label group = do
 abbrev pub ItemsAreGroups :
     {A : Type 0} → (Layout → List Value → Option A) → (Option Layout → RowValues → Result (List A) FieldFault) → Type 0
 ItemsAreGroups {A} item_in list_in =
-    (layout : Layout) (row : RowValues) (parts : List GroupedField) (items : List A) → AreGrouped layout parts row.fields →
+    (layout : Layout) (row : RowValues) (parts : List GroupedField) (items : List A) →
+    AreGrouped layout parts row.fields →
     list_in (Some layout) row ≡ Ok items → map (item_in layout) (groups_in parts) ≡ map (λ item. Some item) items
 
 -- ---- what is wrong

@@ -56,7 +56,8 @@ coords_in layouts n fields tag =
     else soundings_in (sg3d_row (layouts tag)) (fields_in n tag fields)
 
 -- what stands once under a tag and a label
-abbrev pub under : {A : Type 0} → (Value → Option A) → Layouts → ℕ → List RawField → List ℕ → List ℕ → Result A DatasetFault
+abbrev pub under : {A : Type 0} →
+    (Value → Option A) → Layouts → ℕ → List RawField → List ℕ → List ℕ → Result A DatasetFault
 under read layouts n fields tag label =
     widened (once_in read (fields_in n tag fields) (subfield_of (layouts tag) label))
 

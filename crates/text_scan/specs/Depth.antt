@@ -1,5 +1,7 @@
 -- Depths in text: decimals of a unit, in hundredths of it.
-use Rattle.std.specs.Prelude.{◌≡◌, ℕ, ◌+◌, ◌-◌, ◌*◌, ◌/◌, ◌^◌, ◌≤◌, ◌⊎◌, Bool, true, false, ◌&&◌, ◌==◌, nat_lt, nat_le, if◌then◌else◌, List, [], ◌∷◌, ◌++◌, length, Option, Some, None, option_map, option_and_then, ℤ, pos, neg_ℤ, ◌+ℤ◌, ◌*ℤ◌, ◌≤ℤ◌, ◌<ℤ◌}
+use Rattle.std.specs.Prelude.{◌≡◌, ℕ, ◌+◌, ◌-◌, ◌*◌, ◌/◌, ◌^◌, ◌≤◌, ◌⊎◌, Bool, true, false, ◌&&◌, ◌==◌, nat_lt}
+use Rattle.std.specs.Prelude.{nat_le, if◌then◌else◌, List, [], ◌∷◌, ◌++◌, length, Option, Some, None, option_map}
+use Rattle.std.specs.Prelude.{option_and_then, ℤ, pos, neg_ℤ, ◌+ℤ◌, ◌*ℤ◌, ◌≤ℤ◌, ◌<ℤ◌}
 use Rattle.std.specs.Char.{is_ascii_digit}
 use Rattle.std.specs.Str.{all_ascii_digits}
 use Rattle.std.specs.Str.Parse.{AllDigits}
@@ -38,7 +40,8 @@ pub record SpellsDepth (text : List ℕ) (depth : ℤ) : Type 0 where
 -- the digits at the front, and what follows them
 unfoldable pub digits_and_rest : List ℕ → List ℕ × List ℕ
 digits_and_rest [] = ([], [])
-digits_and_rest (x ∷ xs) = if is_ascii_digit x then (x ∷ (digits_and_rest xs).0, (digits_and_rest xs).1) else ([], x ∷ xs)
+digits_and_rest (x ∷ xs) =
+    if is_ascii_digit x then (x ∷ (digits_and_rest xs).0, (digits_and_rest xs).1) else ([], x ∷ xs)
 
 -- the decimals in what follows the digits: nothing, or `.` and digits
 unfoldable pub decimals_of : List ℕ → Option (List ℕ)
@@ -49,7 +52,8 @@ decimals_of (first ∷ rest) = if first == 46 && all_ascii_digits rest then Some
 unfoldable pub digits_of : List ℕ → Option (List ℕ × List ℕ)
 digits_of text =
     option_and_then (λ decimals. let whole = (digits_and_rest text).0 in
-    if nat_le (length whole) 6 && (nat_le (length decimals) 20 && nat_lt 0 (length whole + length decimals)) then Some (whole, decimals) else None)
+    if nat_le (length whole) 6 && (nat_le (length decimals) 20 && nat_lt 0 (length whole + length decimals))
+    then Some (whole, decimals) else None)
     (decimals_of (digits_and_rest text).1)
 
 -- the hundredths of a decimal, rounded down

@@ -1,5 +1,6 @@
 -- Whole numbers in text.
-use Rattle.std.specs.Prelude.{◌≡◌, ℕ, ◌≤◌, ◌⊎◌, ◌&&◌, ◌==◌, nat_lt, nat_le, if◌then◌else◌, List, [], ◌∷◌, length, Option, Some, None, option_map, ℤ, pos, neg_ℤ}
+use Rattle.std.specs.Prelude.{◌≡◌, ℕ, ◌≤◌, ◌⊎◌, ◌&&◌, ◌==◌, nat_lt, nat_le, if◌then◌else◌, List, [], ◌∷◌, length}
+use Rattle.std.specs.Prelude.{Option, Some, None, option_map, ℤ, pos, neg_ℤ}
 use Rattle.std.specs.Str.{all_ascii_digits}
 use Rattle.std.specs.Str.Parse.{IsNumeral, digits_value}
 
@@ -13,7 +14,8 @@ value_of digits = digits_value 10 digits
 
 -- the number that a text is, where it is one
 unfoldable pub number_of : List ℕ → Option ℕ
-number_of text = if nat_lt 0 (length text) && (nat_le (length text) 18 && all_ascii_digits text) then Some (value_of text) else None
+number_of text =
+    if nat_lt 0 (length text) && (nat_le (length text) 18 && all_ascii_digits text) then Some (value_of text) else None
 
 -- a number, which may have `-` before it
 abbrev pub SpellsSigned : List ℕ → ℤ → Type 0

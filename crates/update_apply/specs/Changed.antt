@@ -105,13 +105,19 @@ pub record IsModifiedFeature (change : Change) (kept made : Feature) : Type 0 wh
   pub pointers : IsEdited change.pointer_edit change.pointers kept.pointers made.pointers
 
 -- a record is new, is taken out, or is another under its name; all others stay
-pub record ChangesIn {V : Type 0} (inserted : Change → V) (IsModified : Change → V → V → Type 0) (change : Change) (records after : map.FinMap name_cmp V) : Type 0 where
-  pub insert : change.ruin ≡ INSERT → (map.get records change.target ≡ None) × (after ≡ map.insert records change.target (inserted change))
+pub record ChangesIn {V : Type 0} (inserted : Change → V) (IsModified : Change → V → V → Type 0) (change : Change)
+    (records after : map.FinMap name_cmp V) : Type 0 where
+  pub insert : change.ruin ≡ INSERT →
+      (map.get records change.target ≡ None) × (after ≡ map.insert records change.target (inserted change))
   pub delete : change.ruin ≡ DELETE → after ≡ map.remove records change.target
-  pub modify : change.ruin ≡ MODIFY → (kept : V) × (made : V) × (map.get records change.target ≡ Some kept) × IsModified change kept made × (after ≡ map.insert records change.target made)
+  pub modify : change.ruin ≡ MODIFY →
+      (kept : V) × (made : V) × (map.get records change.target ≡ Some kept) × IsModified change kept made ×
+      (after ≡ map.insert records change.target made)
 
 -- the header and the records of the other kind stay
 pub record Changes (cell : CellValue) (change : Change) (after : CellValue) : Type 0 where
   pub header : after.header ≡ cell.header
-  pub vector : IsVectorName change.target → ChangesIn inserted_vector IsModifiedVector change cell.vectors after.vectors × (after.features ≡ cell.features)
-  pub feature : IsFeatureName change.target → ChangesIn inserted_feature IsModifiedFeature change cell.features after.features × (after.vectors ≡ cell.vectors)
+  pub vector : IsVectorName change.target →
+      ChangesIn inserted_vector IsModifiedVector change cell.vectors after.vectors × (after.features ≡ cell.features)
+  pub feature : IsFeatureName change.target →
+      ChangesIn inserted_feature IsModifiedFeature change cell.features after.features × (after.vectors ≡ cell.vectors)

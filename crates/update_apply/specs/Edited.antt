@@ -1,5 +1,6 @@
 -- A list of a record, edited by its control field.
-use Rattle.std.specs.Prelude.{◌≡◌, ℕ, ◌+◌, ◌-◌, ◌==◌, if◌then◌else◌, List, [], ◌++◌, length, take, drop, Option, Some, None, ◌≤◌, IfSome}
+use Rattle.std.specs.Prelude.{◌≡◌, ℕ, ◌+◌, ◌-◌, ◌==◌, if◌then◌else◌, List, [], ◌++◌, length, take, drop, Option, Some}
+use Rattle.std.specs.Prelude.{None, ◌≤◌, IfSome}
 use Rattle.std.specs.Int.{IsInRange}
 use Rattle.chart_model.specs.declared.update_record.Control.{Control}
 use Rattle.chart_model.specs.Codes.{INSERT, DELETE, MODIFY}
@@ -41,7 +42,8 @@ pub record Fits {A : Type 0} (control : Control) (given items : List A) : Type 0
   pub first : 1 ≤ control.index
   pub insert : control.instruction ≡ INSERT → control.index ≤ length items + 1
   pub delete : control.instruction ≡ DELETE → control.index + control.count ≤ length items + 1
-  pub modify : control.instruction ≡ MODIFY → (control.index + control.count ≤ length items + 1) × (control.count ≡ length given)
+  pub modify : control.instruction ≡ MODIFY →
+      (control.index + control.count ≤ length items + 1) × (control.count ≡ length given)
 
 abbrev pub FitsEach : {A : Type 0} → Option Control → List A → List A → Type 0
 FitsEach edit given items = IfSome edit (λ control. Fits control given items)

@@ -1,5 +1,6 @@
 -- The first fault of a change of a record, judged by what the cell has under its name.
-use Rattle.std.specs.Prelude.{ℕ, ◌+◌, ◌==◌, nat_lt, Bool, false, not, ◌&&◌, ◌||◌, if◌then◌else◌, List, [], ◌∷◌, length, Option, Some, None, Result, Ok, Err}
+use Rattle.std.specs.Prelude.{ℕ, ◌+◌, ◌==◌, nat_lt, Bool, false, not, ◌&&◌, ◌||◌, if◌then◌else◌, List, [], ◌∷◌}
+use Rattle.std.specs.Prelude.{length, Option, Some, None, Result, Ok, Err}
 use Rattle.std.specs.Option.{option_map, is_some}
 use Rattle.std.specs.Bool.{beq}
 use Rattle.std.specs.FinMap as map
@@ -87,7 +88,8 @@ control_fault name (Some control) given = None
 abbrev pub count_fault : {A : Type 0} → Name → Option Control → List A → Option ChangeFault
 count_fault name None given = None
 count_fault name (Some control) given =
-    when (not (control.instruction == DELETE) && not (control.count == length given)) (fault.Count name control.count (length given))
+    when (not (control.instruction == DELETE) && not (control.count == length given))
+    (fault.Count name control.count (length given))
 
 -- the place behind the last item that is deleted or replaced, from 1; of an insertion its own place
 abbrev pub behind : Control → ℕ
@@ -96,14 +98,16 @@ behind control = if control.instruction == INSERT then control.index else contro
 -- a place 0, or one that is over the list's length
 abbrev pub index_fault : Name → Option Control → ℕ → Option ChangeFault
 index_fault name None kept = None
-index_fault name (Some control) kept = when ((control.index == 0) || nat_lt (kept + 1) (behind control)) (fault.Index name kept control.index)
+index_fault name (Some control) kept =
+    when ((control.index == 0) || nat_lt (kept + 1) (behind control)) (fault.Index name kept control.index)
 
 -- coordinates with depths put among coordinates without, or the other way round
 abbrev pub mixed_fault : Name → Option Control → Kept → List Coord → Option ChangeFault
 mixed_fault name None kept given = None
 mixed_fault name (Some control) kept [] = None
 mixed_fault name (Some control) kept (coord ∷ more) =
-    when (not (control.instruction == DELETE) && not (kept.coords == 0) && not (beq kept.depths (is_some coord.z))) (fault.Mixed name)
+    when (not (control.instruction == DELETE) && not (kept.coords == 0) && not (beq kept.depths (is_some coord.z)))
+    (fault.Mixed name)
 
 -- ---- the first fault
 

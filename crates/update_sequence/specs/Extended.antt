@@ -23,7 +23,9 @@ keeps_coords (Some control) = not (control.instruction == DELETE)
 -- no record but the changed one can get a fault of closure by the change: it deletes no record, and of a vector
 -- record no coordinate, and leaves the pointers of a vector record
 abbrev pub is_local : Change → Bool
-is_local change = inserts change || (modifies change && (is_feature change.target || (is_none change.pointer_edit && keeps_coords change.coord_edit)))
+is_local change =
+    inserts change
+    || (modifies change && (is_feature change.target || (is_none change.pointer_edit && keeps_coords change.coord_edit)))
 
 abbrev pub are_local : List Change → Bool
 are_local changes = list_all is_local changes

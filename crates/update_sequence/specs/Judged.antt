@@ -1,5 +1,6 @@
 -- What becomes of a cell's live files when a file of it comes (S-57 Appendix B.1, 5.7 and 8.3.1).
-use Rattle.std.specs.Prelude.{◌+◌, Bool, not, ◌&&◌, ◌||◌, ◌==◌, nat_lt, if◌then◌else◌, Option, Some, None, Result, Ok, Err}
+use Rattle.std.specs.Prelude.{◌+◌, Bool, not, ◌&&◌, ◌||◌, ◌==◌, nat_lt, if◌then◌else◌, Option, Some, None, Result, Ok}
+use Rattle.std.specs.Prelude.{Err}
 use Rattle.chart_model.specs.Dataset.{DatasetValue}
 use Rattle.chart_model.specs.declared.dataset.Header.{Header}
 use Rattle.chart_model.specs.declared.state.Held.{Held}
@@ -10,7 +11,8 @@ use Rattle.update_sequence.specs.declared.fault.SequenceFault.TheVariants.{NoBas
 
 -- edition and update come before the held ones: editions are compared first
 abbrev pub is_older : Header → Held → Bool
-is_older given held = nat_lt given.edition held.edition || ((given.edition == held.edition) && nat_lt given.update held.update)
+is_older given held =
+    nat_lt given.edition held.edition || ((given.edition == held.edition) && nat_lt given.update held.update)
 
 -- a base file replaces what is held, unless it is older
 abbrev pub judged_base : Option Held → Header → Result Effect SequenceFault
@@ -31,4 +33,5 @@ judged_update (Some held) given cancels =
 
 -- what becomes of the live files, or the first fault
 unfoldable pub judged : Option Held → DatasetValue → Result Effect SequenceFault
-judged held dataset = if dataset.base then judged_base held dataset.header else judged_update held dataset.header dataset.cancels
+judged held dataset =
+    if dataset.base then judged_base held dataset.header else judged_update held dataset.header dataset.cancels

@@ -17,7 +17,8 @@ use Rattle.update_sequence.specs.declared.fault.ReadFault.TheVariants.{File, Dat
 -- the tags of the fields that are read (S-57 Part 3)
 abbrev pub tags_read : List (List ℕ)
 tags_read =
-    codes "DSID" ∷ codes "DSSI" ∷ codes "DSPM" ∷ codes "VRID" ∷ codes "ATTV" ∷ codes "VRPC" ∷ codes "VRPT" ∷ codes "SGCC" ∷ codes "SG2D" ∷ codes "SG3D"
+    codes "DSID" ∷ codes "DSSI" ∷ codes "DSPM" ∷ codes "VRID" ∷ codes "ATTV" ∷ codes "VRPC" ∷ codes "VRPT"
+    ∷ codes "SGCC" ∷ codes "SG2D" ∷ codes "SG3D"
     ∷ codes "FRID" ∷ codes "FOID" ∷ codes "ATTF" ∷ codes "FFPC" ∷ codes "FFPT" ∷ codes "FSPC" ∷ codes "FSPT" ∷ []
 
 -- the fault of a file of records, as one of a cell file
