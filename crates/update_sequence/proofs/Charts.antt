@@ -53,6 +53,7 @@ folded-keeps P Q keeps cell after (change ∷ rest) here each e =
 
 pub begun-header : (dataset : DatasetValue) → IsDataset dataset → dataset.cancels ≡ false → IsChartHeader dataset.header
 begun-header dataset is stands = record {
+  key = is.key;
   edition = (above dataset.header.edition (λ none. true≢false (sym (is.cancels.1 none) ∙ stands)), is.edition);
   update = is.update;
 }
@@ -62,7 +63,11 @@ begun-header dataset is stands = record {
 
 begun-cell : (chart : Option CellValue) (header : Header) → IfSome chart IsCell → IsChartHeader header → IsCell (begun chart header)
 begun-cell None header is ranges = record { header = ranges; vectors = each-empty name_cmp IsVector; features = each-empty name_cmp IsFeature }
-begun-cell (Some chart) header is ranges = record { header = record { edition = ranges.edition; update = ranges.update }; vectors = is.vectors; features = is.features }
+begun-cell (Some chart) header is ranges = record {
+  header = record { key = is.header.key; edition = ranges.edition; update = ranges.update };
+  vectors = is.vectors;
+  features = is.features;
+}
 
 pub built-cell : ((cell : CellValue) (change : Change) → IsCell cell → IsChange change → fault_of cell change ≡ None → IsCell (changed cell change)) →
     (chart : Option CellValue) (dataset : DatasetValue) (cell : CellValue) → IfSome chart IsCell → IsDataset dataset → All IsChange dataset.changes → dataset.cancels ≡ false →

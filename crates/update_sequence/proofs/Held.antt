@@ -8,6 +8,7 @@ use Rattle.std.proofs.lemmas.List.Sums.{fold-append}
 use Rattle.chart_model.specs.Cell.{CellValue, IsCell}
 use Rattle.chart_model.specs.Change.{IsChange}
 use Rattle.chart_model.specs.Dataset.{DatasetValue, IsDataset}
+use Rattle.chart_model.specs.Key.{IsKey}
 use Rattle.chart_model.specs.State.{IsHeld, IsChartOf, IsFileLength, IsHolding}
 use Rattle.chart_model.specs.declared.state.Held.{Held}
 use Rattle.chart_closure.specs.Closed.{IsClosed}
@@ -137,6 +138,13 @@ module _
     sound_left : (key : List ℕ) (files : List (List ℕ)) → IsSoundList key files → IsLeft key (held_by files) (rebuilt files)
     sound_left key files sound = all_left key [] files sound (λ some. absurd (some refl))
 
+    -- the key is that of the first file
+    is_key : (key : List ℕ) (files : List (List ℕ)) → IsSoundList key files → IsKey key
+    is_key key [] sound = absurd (sound.some refl)
+    is_key key (file ∷ files) sound =
+        let first = sound.each [] files file refl in
+        subst IsKey first.keyed (data_sets file first.dataset first.reads).key
+
     some_file : (files : List (List ℕ)) → files ≢ [] → 1 ≤ length files
     some_file [] some = absurd (some refl)
     some_file (file ∷ files) some = omega arith
@@ -152,6 +160,7 @@ module _
           left.held,
           left.held_is,
           record {
+            keyed = is_key key files sound;
             held = left.is_held;
             nonempty = some_file files sound.some;
             files = each_short key files sound;
