@@ -2,7 +2,8 @@
 
 ghost use Rattle.std.specs.Prelude.{◌≡◌};
 ghost use Rattle.std.specs.Option.{option_copied, option_map};
-ghost use Rattle.area_rings.specs.Edge.{is_node, node_of, point_of, place_of, begins_and_ends, ends_of, edge_of, turned};
+ghost use Rattle.area_rings.specs.Edge.{is_node, node_of, point_of, place_of};
+ghost use Rattle.area_rings.specs.Edge.{begins_and_ends, ends_of, edge_of, turned};
 ghost use Rattle.area_rings.specs.Direction.{value_of};
 
 use chart_model::codes::{BEGIN_NODE, CONNECTED_NODE, EDGE, END_NODE, ISOLATED_NODE};

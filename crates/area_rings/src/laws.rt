@@ -20,6 +20,8 @@ pub fn rings_are_shortest()
 /// Edges keep their lines and features their shapes where another cell has each vector record with the
 /// same pointers, and with a coordinate where it had one. The coordinates may be others.
 pub fn shapes_are_kept()
-    ensures line { (before after : CellValue) (name : Name) (reversed : Bool) → KeepsVectors before after → IsSome (line_of before name reversed) → IsSome (line_of after name reversed) }
-    ensures shape { (before after : CellValue) (feature : Feature) → KeepsVectors before after → IsSome (shape_of before feature) → IsSome (shape_of after feature) }
+    ensures line { (before after : CellValue) (name : Name) (reversed : Bool) → KeepsVectors before after →
+        IsSome (line_of before name reversed) → IsSome (line_of after name reversed) }
+    ensures shape { (before after : CellValue) (feature : Feature) → KeepsVectors before after →
+        IsSome (shape_of before feature) → IsSome (shape_of after feature) }
 {}

@@ -6,7 +6,8 @@ ghost use Rattle.std.specs.FinMap as finite;
 ghost use Rattle.chart_model.specs.Answers.{first_of};
 ghost use Rattle.chart_model.specs.Cell.{IsCell};
 ghost use Rattle.area_rings.specs.Shape.{line_of, shape_of};
-ghost use Rattle.chart_closure.specs.Closed.{vector_fault, feature_fault, fault_at, closure_fault, IsClosed, IsLeastFault};
+ghost use Rattle.chart_closure.specs.Closed.{vector_fault, feature_fault, fault_at};
+ghost use Rattle.chart_closure.specs.Closed.{closure_fault, IsClosed, IsLeastFault};
 
 use crate::fault::ClosureFault;
 use crate::pointers::{first_absent, points_rightly, shows_rightly};
@@ -64,7 +65,8 @@ fn check_feature(cell: &Cell, name: Name, feature: &Feature) -> Result<(), Closu
 
 /// Finds the first fault of the vector records.
 fn check_vectors(cell: &Cell) -> Result<(), ClosureFault>
-    ensures { result_err result ≡ first_of (map (λ entry. vector_fault cell.now entry.0 entry.1) (finite.entries cell.now.vectors)) }
+    ensures { result_err result ≡ first_of
+        (map (λ entry. vector_fault cell.now entry.0 entry.1) (finite.entries cell.now.vectors)) }
 {
     for (name, vector) in cell.vectors.iter() {
         check_vector(cell, *name, vector)?;
@@ -75,7 +77,8 @@ fn check_vectors(cell: &Cell) -> Result<(), ClosureFault>
 /// Finds the first fault of the features.
 fn check_features(cell: &Cell) -> Result<(), ClosureFault>
     ensures cell { IsCell cell.now }
-    ensures fault { result_err result ≡ first_of (map (λ entry. feature_fault cell.now entry.0 entry.1) (finite.entries cell.now.features)) }
+    ensures fault { result_err result ≡ first_of
+        (map (λ entry. feature_fault cell.now entry.0 entry.1) (finite.entries cell.now.features)) }
 {
     for (name, feature) in cell.features.iter() {
         check_feature(cell, *name, feature)?;

@@ -13,7 +13,8 @@ use area_rings::shapes_are_kept;
 pub fn first_is_least()
     ensures closed { (cell : CellValue) → closure_fault cell ≡ None → IsClosed cell }
     ensures none { (cell : CellValue) → IsCell cell → IsClosed cell → closure_fault cell ≡ None }
-    ensures least { (cell : CellValue) (fault : ClosureFault) → IsCell cell → closure_fault cell ≡ Some fault → IsLeastFault cell fault }
+    ensures least { (cell : CellValue) (fault : ClosureFault) → IsCell cell →
+        closure_fault cell ≡ Some fault → IsLeastFault cell fault }
 {}
 
 /// A closed chart stays closed where each record is kept, of vector records with the same pointers and
