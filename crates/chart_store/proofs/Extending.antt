@@ -23,7 +23,7 @@ use Rattle.chart_store.specs.declared.refusal.Refusal.{Refusal}
 use Rattle.chart_store.specs.declared.refusal.Refusal.TheVariants.{StoreFull}
 use Rattle.chart_store.specs.Refusal.{refusal_of_build}
 use Rattle.chart_store.specs.Fault.{fault_of, or_refused}
-use Rattle.chart_store.specs.Loaded.{HoldingsByKey, files_of, store_within, live_bytes, STORE_LIMIT}
+use Rattle.chart_store.specs.Loaded.{HoldingsByKey, store_within, live_bytes, STORE_LIMIT}
 use Rattle.chart_store.specs.Live.{IsLive, AreLive, IsStore}
 use Rattle.chart_store.specs.Taken.{chart_of, chart_built, cell_after, extended, extended_in, extended_within}
 use Rattle.chart_store.specs.Taken.{IsExtension, GivesNow}

@@ -1,18 +1,16 @@
 -- What is held, when a cell is put in.
-use Rattle.std.proofs.Common.{◌≡◌, ◌↔◌, ℕ, ◌+◌, ◌-◌, ◌<◌, ◌≤◌, leb, Ok, Err, Bool, true, false, cond, List, [], ◌∷◌}
+use Rattle.std.proofs.Common.{◌≡◌, ℕ, ◌+◌, ◌-◌, ◌<◌, ◌≤◌, leb, Ok, Err, Bool, true, false, cond, List, [], ◌∷◌}
 use Rattle.std.proofs.Common.{◌++◌, length, sum_by, Option, Some, None, arith, refl, sym, ◌∙◌, ap, subst}
-use Rattle.std.proofs.Common.{length-append}
 use Rattle.std.specs.Cmp.{tied_itself}
 use Rattle.std.specs.Option.{unwrap_or, is_some}
-use Rattle.std.specs.Prelude.{All, IfSome, IsSome, map as list_map}
+use Rattle.std.specs.Prelude.{IsSome, map as list_map}
 use Rattle.std.specs.declared.cmp.Ordering.{Ordering}
 use Rattle.std.specs.declared.cmp.Ordering.TheVariants.{Less, Equal, Greater}
 use Rattle.std.specs.Ordering.{is_eq, eq_by_cmp}
 use Rattle.std.specs.FinMap as map
-use Rattle.std.proofs.lemmas.List.Elements.{All-nil, All-cons, All-append}
 use Rattle.std.proofs.lemmas.List.Sums.{sum_by-append, sum_by-cons}
 use Rattle.chart_model.specs.Keys.{key_cmp}
-use Rattle.chart_model.specs.State.{StateValue, IsState, IsHolding, IsHeld, IsFileLength, IsChartOf}
+use Rattle.chart_model.specs.State.{StateValue, IsState, IsHolding}
 use Rattle.chart_model.specs.declared.state.Held.{Held}
 use Rattle.chart_model.specs.declared.state.Holding.{Holding}
 use Rattle.chart_model.specs.Cell.{CellValue}

@@ -1,15 +1,13 @@
 -- What a file that is accepted leaves of its cell.
-use Rattle.std.proofs.Common.{◌≡◌, ◌≢◌, ℕ, ◌≤◌, Bool, true, false, cond, List, [], ◌∷◌, ◌++◌, length, leb, Option}
-use Rattle.std.proofs.Common.{Some, None, IfSome, IsSome, Result, Ok, Err, refl, sym, ◌∙◌, ap, subst, arith}
-use Rattle.std.proofs.lemmas.Bool.{true≢false}
-use Rattle.std.proofs.lemmas.Bool.Decides.{nat_tests}
+use Rattle.std.proofs.Common.{◌≡◌, ℕ, List, [], ◌∷◌, ◌++◌, length, Option}
+use Rattle.std.proofs.Common.{Some, None, IfSome, Result, Ok, Err, refl, ◌∙◌, ap}
 use Rattle.std.specs.Prelude.{unwrap_or}
-use Rattle.std.specs.Option.{option_map, option_and_then}
+use Rattle.std.specs.Option.{option_map}
 use Rattle.std.specs.Result.{IsOk, result_ok, is_ok}
 use Rattle.std.specs.FinMap as map
 use Rattle.chart_model.specs.Answers.{◌>>=◌, or_fault_as}
 use Rattle.chart_model.specs.Cell.{CellValue}
-use Rattle.chart_model.specs.Dataset.{DatasetValue, IsDataset}
+use Rattle.chart_model.specs.Dataset.{DatasetValue}
 use Rattle.chart_model.specs.State.{StateValue, IsFileLength}
 use Rattle.chart_model.specs.declared.state.Held.{Held}
 use Rattle.chart_model.specs.declared.state.Holding.{Holding}
@@ -23,16 +21,14 @@ use Rattle.update_sequence.specs.declared.effect.Effect.{Effect}
 use Rattle.update_sequence.specs.declared.effect.Effect.TheVariants.{Replace, Extend, Cancel}
 use Rattle.update_sequence.specs.declared.fault.SequenceFault.{SequenceFault}
 use Rattle.update_sequence.specs.declared.fault.BuildFault.{BuildFault}
-use Rattle.update_sequence.specs.declared.fault.ReadFault.{ReadFault}
 use Rattle.chart_store.specs.declared.refusal.Refusal.{Refusal}
-use Rattle.chart_store.specs.declared.refusal.Refusal.TheVariants.{FileLong}
-use Rattle.chart_store.specs.Refusal.{refusal_of_read, refusal_of_sequence, refusal_of_build}
+use Rattle.chart_store.specs.Refusal.{refusal_of_sequence, refusal_of_build}
 use Rattle.chart_store.specs.Fault.{or_refused}
-use Rattle.chart_store.specs.Loaded.{HoldingsByKey, files_of, files_after, buildable, holding_of, FILE_LIMIT}
-use Rattle.chart_store.specs.Loaded.{within_limit, cells_within, store_within, Loaded, put, accepted, loaded}
-use Rattle.chart_store.specs.Live.{IsLive, AreLive}
-use Rattle.chart_store.specs.Taken.{held_of, chart_of, held_after, chart_built, chart_after, cell_after, placed}
-use Rattle.chart_store.specs.Taken.{taken, IsExtension}
+use Rattle.chart_store.specs.Loaded.{files_of, files_after, buildable, holding_of}
+use Rattle.chart_store.specs.Loaded.{cells_within, store_within, Loaded, put, accepted}
+use Rattle.chart_store.specs.Live.{IsLive}
+use Rattle.chart_store.specs.Taken.{held_of, chart_of, held_after, cell_after, placed}
+use Rattle.chart_store.specs.Taken.{taken}
 use Rattle.chart_store.proofs.Judging.{effect_says}
 
 -- what is held of the cell before, if anything, is what its files leave

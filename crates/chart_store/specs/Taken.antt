@@ -1,12 +1,12 @@
 -- The same step by what is held of the cell, which the code looks at: of a live cell it is what its files leave.
 use Rattle.std.specs.Prelude.{◌≡◌, ℕ, false, List, [], ◌∷◌, ◌++◌}
-use Rattle.std.specs.Prelude.{Option, Some, None, IsSome, unwrap_or, Result, Ok, Err}
+use Rattle.std.specs.Prelude.{Option, Some, None, IsSome, unwrap_or, Result, Ok}
 use Rattle.std.specs.Option.{option_map, option_and_then}
 use Rattle.std.specs.FinMap as map
 use Rattle.chart_model.specs.Answers.{◌>>=◌, or_fault_as}
 use Rattle.chart_model.specs.Cell.{CellValue}
 use Rattle.chart_model.specs.Dataset.{DatasetValue}
-use Rattle.chart_model.specs.State.{StateValue, IsHolding}
+use Rattle.chart_model.specs.State.{StateValue}
 use Rattle.chart_model.specs.declared.dataset.Header.{Header}
 use Rattle.chart_model.specs.declared.state.Held.{Held}
 use Rattle.chart_model.specs.declared.state.Holding.{Holding}
@@ -18,7 +18,7 @@ use Rattle.update_sequence.specs.declared.effect.Effect.TheVariants.{Replace, Ex
 use Rattle.chart_store.specs.declared.refusal.Refusal.{Refusal}
 use Rattle.chart_store.specs.declared.fault.SubmitFault.{SubmitFault}
 use Rattle.chart_store.specs.Refusal.{refusal_of_sequence, refusal_of_build}
-use Rattle.chart_store.specs.Fault.{Gives, GivesBy, or_refused}
+use Rattle.chart_store.specs.Fault.{GivesBy, or_refused}
 use Rattle.chart_store.specs.Loaded.{HoldingsByKey, files_of, files_after, bytes_of, cells_within, store_within, Loaded}
 use Rattle.chart_store.specs.Live.{IsLive}
 

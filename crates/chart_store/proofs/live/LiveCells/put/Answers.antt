@@ -1,5 +1,5 @@
 -- The count keeps up with the files.
-use Rattle.std.proofs.Common.{arith, ap, sym, ◌∙◌, subst, List, ℕ}
+use Rattle.std.proofs.Common.{arith, ap, sym, subst}
 use Rattle.std.specs.Option.{option_copied}
 use Rattle.std.specs.FinMap as map
 use Rattle.chart_store.specs.Loaded.{bytes_of, files_of}
