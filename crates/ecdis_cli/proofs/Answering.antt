@@ -1,35 +1,42 @@
 -- What a command answers, step by step.
 use Rattle.std.proofs.Common.{◌≡◌, ℕ, Bool, true, false, cond, List, length, leb, Option, Some, None, Result, Ok, Err, refl, sym, ◌∙◌, ap, subst}
-use Rattle.std.specs.Prelude.{IsErrOf, IsErrAnd}
+use Rattle.std.specs.Prelude.{IsErrOf, IsErrAnd, unwrap_or}
 use Rattle.std.proofs.lemmas.Result.{err_from_is_err_and}
+use Rattle.chart_model.specs.Answers.{◌>>=◌, or_fault_as}
+use Rattle.chart_model.specs.State.{StateValue}
 use Rattle.chart_ports.specs.Count.{Rose}
 use Rattle.chart_ports.specs.Fetched.{fetched_of}
 use Rattle.chart_ports.specs.declared.shelf.Fetched.{Fetched}
 use Rattle.chart_ports.specs.declared.shelf.Fetched.TheVariants.{Bytes, Long}
 use Rattle.chart_ports.specs.declared.shelf.ShelfError.{ShelfError}
 use Rattle.chart_ports.specs.declared.shelf.ShelfError.TheVariants as of_shelf
-use Rattle.chart_model.specs.State.{StateValue}
-use Rattle.update_sequence.specs.Answers.{GivesRead, GivesBuilt}
+use Rattle.update_sequence.specs.Answers.{GivesRead}
 use Rattle.update_sequence.specs.declared.fault.ReadFault.{ReadFault}
 use Rattle.update_sequence.specs.declared.fault.ReadFault.TheVariants as of_read
-use Rattle.update_sequence.specs.declared.fault.BuildFault.{BuildFault}
-use Rattle.update_sequence.specs.declared.fault.BuildFault.TheVariants as of_build
+use Rattle.chart_store.specs.Fault.{fault_of, or_refused}
+use Rattle.chart_store.specs.Loaded as loading
+use Rattle.chart_store.specs.Loaded.{FILE_LIMIT, Loaded, loaded, loaded_with}
+use Rattle.chart_store.specs.Refusal.{refusal_of_read}
+use Rattle.chart_store.specs.declared.fault.SubmitFault.{SubmitFault}
+use Rattle.chart_store.specs.declared.fault.SubmitFault.TheVariants as of_store
+use Rattle.chart_store.specs.declared.load.Accepted.{Accepted}
+use Rattle.chart_store.specs.declared.refusal.Refusal as row
+use Rattle.chart_store.specs.declared.refusal.Refusal.TheVariants.{NoGeneral, FileLong}
 use Rattle.ecdis_cli.specs.declared.session.fault.CommandFault.{CommandFault}
 use Rattle.ecdis_cli.specs.declared.session.fault.CommandFault.TheVariants.{Refused, NoMemory}
 use Rattle.ecdis_cli.specs.declared.session.general.General.{General}
-use Rattle.ecdis_cli.specs.declared.script.event.Event.{Event}
 use Rattle.ecdis_cli.specs.declared.session.refusal.Refusal.{Refusal}
-use Rattle.ecdis_cli.specs.declared.session.refusal.Refusal.TheVariants.{ShelfFault, FileLong, Read, Build}
-use Rattle.ecdis_cli.specs.declared.session.reply.Reply.TheVariants as replies
-use Rattle.ecdis_cli.specs.Commands.{◌>>=◌, or_refused, Gives, fault_of_shelf, fault_of_read, fault_of_build}
-use Rattle.ecdis_cli.specs.Marked.{Marked}
-use Rattle.ecdis_cli.specs.General.{general_in}
+use Rattle.ecdis_cli.specs.declared.session.refusal.Refusal.TheVariants.{ShelfFault, File}
+use Rattle.ecdis_cli.specs.declared.script.event.Event.{Event}
 use Rattle.ecdis_cli.specs.Line.{is_silent}
 use Rattle.ecdis_cli.specs.Event.{event_on}
-use Rattle.ecdis_cli.specs.Fetch.{Files, FILE_LIMIT, file_in, file_or_none, fetched}
+use Rattle.ecdis_cli.specs.Turn.{turn_of, turn_on, turn_to, silent}
+use Rattle.ecdis_cli.specs.Commands.{Gives, fault_of_shelf, fault_of_store, fault_of_read}
+use Rattle.ecdis_cli.specs.Marked.{Marked}
+use Rattle.ecdis_cli.specs.General.{general_in}
+use Rattle.ecdis_cli.specs.Fetch.{Files, file_in, file_or_none, fetched}
 use Rattle.ecdis_cli.specs.Info.{info_of}
-use Rattle.ecdis_cli.specs.Load.{Loaded, loaded, load_of}
-use Rattle.ecdis_cli.specs.Turn.{refused, informed, load_reply, taken_over, turn_of, turn_on, turn_to, silent, GivesTurn}
+use Rattle.ecdis_cli.specs.Load.{load_of, GivesLoaded}
 
 -- ---- marks
 
@@ -47,6 +54,13 @@ Marked-stop {A = A} a b r fault wanted stopped x =
     let p = err_from_is_err_and r stopped in
     subst (λ (s : Result A CommandFault). Marked a b (λ failed. Gives s (wanted failed))) (sym (p.1 ∙ ap Err p.2)) x
 
+-- the same of a file that is loaded
+pub Marked-refused : (a b : ℕ) (r : Result Accepted CommandFault) (state : StateValue) (fault : CommandFault) (wanted : Bool → Result Loaded Refusal) → IsErrAnd r (λ y. y ≡ fault)
+    → Marked a b (λ failed. GivesLoaded (Err fault) state (wanted failed)) → Marked a b (λ failed. GivesLoaded r state (wanted failed))
+Marked-refused a b r state fault wanted stopped x =
+    let p = err_from_is_err_and r stopped in
+    subst (λ (s : Result Accepted CommandFault). Marked a b (λ failed. GivesLoaded s state (wanted failed))) (sym (p.1 ∙ ap Err p.2)) x
+
 -- ---- steps
 
 -- a fault ends the command
@@ -58,15 +72,21 @@ Gives-stop NoMemory r next h = tt
 pub Gives-next : {A B : Type 0} (answer : Result B CommandFault) (r : Result A Refusal) (x : A) (next : A → Result B Refusal) → Gives (Ok x) r → Gives answer (next x) → Gives answer (r >>= next)
 Gives-next answer r x next h = subst (λ s. Gives answer (s >>= next)) (sym h)
 
-pub Gives-read : {A : Type 0} (fault : ReadFault) (wanted : Result A ReadFault) → GivesRead (Err fault) wanted → Gives (Err (fault_of_read fault)) (or_refused Read wanted)
-Gives-read (of_read.File fault) wanted h = ap (or_refused Read) h
-Gives-read (of_read.Dataset fault) wanted h = ap (or_refused Read) h
-Gives-read of_read.NoMemory wanted h = tt
+-- a fault below is refused as its row of the table
+refused-row : {A E : Type 0} (refusal : E → Option row.Refusal) (fault : E) (wanted : Result A E) → wanted ≡ Err fault
+    → Gives {A = A} (Err (fault_of_store (fault_of (refusal fault)))) (or_fault_as File (or_refused refusal wanted))
+refused-row {A = A} {E = E} refusal fault wanted h =
+    let as_row : Option row.Refusal → Result A Refusal = λ o. Err (File (unwrap_or o NoGeneral)) in
+    elim (refusal fault) as (λ o. refusal fault ≡ o → Gives {A = A} (Err (fault_of_store (fault_of o))) (or_fault_as File (or_refused refusal wanted))) [
+      | Some refused ↦ λ e. ap (λ (r : Result A E). or_fault_as File (or_refused refusal r)) h ∙ ap as_row e
+      | None ↦ λ e. tt
+    ] refl
 
-pub Gives-build : {A : Type 0} (fault : BuildFault) (wanted : Result A BuildFault) → GivesBuilt (Err fault) wanted → Gives (Err (fault_of_build fault)) (or_refused Build wanted)
-Gives-build (of_build.Change fault) wanted h = ap (or_refused Build) h
-Gives-build (of_build.Closure fault) wanted h = ap (or_refused Build) h
-Gives-build of_build.NoMemory wanted h = tt
+pub Gives-read : {A : Type 0} (fault : ReadFault) (wanted : Result A ReadFault) → GivesRead (Err fault) wanted
+    → Gives {A = A} (Err (fault_of_read fault)) (or_fault_as File (or_refused refusal_of_read wanted))
+Gives-read (of_read.File fault) wanted h = refused-row refusal_of_read (of_read.File fault) wanted h
+Gives-read (of_read.Dataset fault) wanted h = refused-row refusal_of_read (of_read.Dataset fault) wanted h
+Gives-read of_read.NoMemory wanted h = tt
 
 -- ---- fetches
 
@@ -74,7 +94,7 @@ Gives-build of_build.NoMemory wanted h = tt
 file_or_none-fetched : (name : List ℕ) (file : Option (List ℕ)) → file_or_none name file ≡ file_in name (fetched_of FILE_LIMIT file)
 file_or_none-fetched name None = refl
 file_or_none-fetched name (Some bytes) =
-    elim (leb (length bytes) FILE_LIMIT) as (λ b. cond b (Ok bytes) (Err (FileLong FILE_LIMIT)) ≡ file_in name (cond b (Bytes bytes) Long)) [ true ↦ refl | false ↦ refl ]
+    elim (leb (length bytes) FILE_LIMIT) as (λ b. or_fault_as File (cond b (Ok bytes) (Err (FileLong FILE_LIMIT))) ≡ file_in name (cond b (Bytes bytes) Long)) [ true ↦ refl | false ↦ refl ]
 
 pub fetched-found : (files : Files) (name shown : List ℕ) (a b : ℕ) (answer : Result (List ℕ) CommandFault) (fetched' : Fetched)
     → shown ≡ name → fetched' ≡ fetched_of FILE_LIMIT (files shown) → Gives answer (file_in name fetched')
@@ -107,33 +127,30 @@ info_of-read file bytes shown fault same h x =
 pub info_of-done : (file : Result (List ℕ) Refusal) (bytes shown : List ℕ) (general : General) → shown ≡ bytes → general_in shown ≡ Ok general → Gives (Ok bytes) file → Gives (Ok general) (info_of file)
 unfolding info_of
 info_of-done file bytes shown general same h x =
-    Gives-next (Ok general) file bytes (λ l. or_refused Read (general_in l)) x (ap (λ (l : List ℕ). or_refused Read (general_in l)) (sym same) ∙ ap (or_refused Read) h)
+    Gives-next (Ok general) file bytes (λ l. or_fault_as File (or_refused refusal_of_read (general_in l))) x (ap (λ (l : List ℕ). or_fault_as File (or_refused refusal_of_read (general_in l))) (sym same) ∙ ap (λ (r : Result General ReadFault). or_fault_as File (or_refused refusal_of_read r)) h)
 
 -- ---- load
 
-pub load_of-stop : (state : StateValue) (fault : CommandFault) (file : Result (List ℕ) Refusal) → Gives (Err fault) file → Gives {A = Loaded} (Err fault) (load_of state file)
+pub load_of-stop : (state state' : StateValue) (fault : CommandFault) (file : Result (List ℕ) Refusal) → Gives (Err fault) file → GivesLoaded (Err fault) state' (load_of state file)
 unfolding load_of
-load_of-stop state fault file h = Gives-stop fault file _ h
+load_of-stop state state' (Refused refusal) file h = ap (λ f. f >>= λ bytes. or_fault_as File (loaded state bytes)) h
+load_of-stop state state' NoMemory file h = tt
 
-pub load_of-next : (state : StateValue) (answer : Result Loaded CommandFault) (file : Result (List ℕ) Refusal) (bytes : List ℕ) → Gives (Ok bytes) file → Gives answer (loaded state bytes) → Gives answer (load_of state file)
+-- the file that was fetched, and what is answered to it
+load_of-file : (state : StateValue) (file : Result (List ℕ) Refusal) (bytes : List ℕ) → Gives (Ok bytes) file → load_of state file ≡ or_fault_as File (loaded state bytes)
 unfolding load_of
-load_of-next state answer file bytes h x = Gives-next answer file bytes _ h x
+load_of-file state file bytes h = ap (λ f. f >>= λ l. or_fault_as File (loaded state l)) h
+
+pub load_of-refused : (state state' : StateValue) (fault : SubmitFault) (file : Result (List ℕ) Refusal) (bytes : List ℕ) → Gives (Ok bytes) file
+    → loading.GivesLoaded (Err fault) state' (loaded state bytes) → GivesLoaded (Err (fault_of_store fault)) state' (load_of state file)
+load_of-refused state state' (of_store.Refused refusal) file bytes found h = load_of-file state file bytes found ∙ ap (or_fault_as File) h
+load_of-refused state state' of_store.NoMemory file bytes found h = tt
+
+pub load_of-done : (state state' : StateValue) (cell : Accepted) (file : Result (List ℕ) Refusal) (bytes : List ℕ) → Gives (Ok bytes) file
+    → loading.GivesLoaded (Ok cell) state' (loaded state bytes) → GivesLoaded (Ok cell) state' (load_of state file)
+load_of-done state state' cell file bytes found h = load_of-file state file bytes found ∙ ap (or_fault_as File) h
 
 -- ---- turns
-
-pub informed-stop : (state : StateValue) (fault : CommandFault) (r : Result General Refusal) → Gives (Err fault) r → GivesTurn (Err fault) state (informed state r)
-informed-stop state (Refused refusal) r h = ap (informed state) h
-informed-stop state NoMemory r h = tt
-
-pub informed-done : (state : StateValue) (general : General) (r : Result General Refusal) → Gives (Ok general) r → GivesTurn (Ok (replies.Info general)) state (informed state r)
-informed-done state general r h = ap (informed state) h
-
-pub taken_over-stop : (state state' : StateValue) (fault : CommandFault) (r : Result Loaded Refusal) → state' ≡ state → Gives (Err fault) r → GivesTurn (Err fault) state' (taken_over state r)
-taken_over-stop state state' (Refused refusal) r same h = ap (taken_over state) h ∙ ap (λ s. refused s refusal) (sym same)
-taken_over-stop state state' NoMemory r same h = tt
-
-pub taken_over-done : (state : StateValue) (done : Loaded) (r : Result Loaded Refusal) → Gives (Ok done) r → GivesTurn (Ok (load_reply done.key done.held)) done.state (taken_over state r)
-taken_over-done state done r h = ap (taken_over state) h
 
 pub turn_to-event : (files : Files) (state : StateValue) (number : ℕ) (line : List ℕ) (failed : Bool) (event : Event) → is_silent line ≡ false → event_on line ≡ Some event
     → turn_to files state number line failed ≡ turn_of files state failed event
@@ -157,11 +174,10 @@ pub fetch-cause : {A : Type 0} (a b : ℕ) (r : Result A CommandFault) (fault : 
 fetch-cause a b r of_shelf.Failed stopped cause is = cause refl
 fetch-cause a b r of_shelf.NoMemory stopped cause is = absurd (let e : Refused ShelfFault ≡ NoMemory = is_fault r NoMemory (Refused ShelfFault) stopped is in cc)
 
--- a file that was fetched, and is none that tells of itself
-pub read-cause : {A X : Type 0} (r : Result A CommandFault) (fault : ReadFault) → IsErrAnd r (λ y. y ≡ fault_of_read fault) → r ≡ Err (Refused ShelfFault) → X
-read-cause r (of_read.File fault) stopped is = absurd (let e : Refused ShelfFault ≡ Refused (Read (of_read.File fault)) = is_fault r _ _ stopped is in cc)
-read-cause r (of_read.Dataset fault) stopped is = absurd (let e : Refused ShelfFault ≡ Refused (Read (of_read.Dataset fault)) = is_fault r _ _ stopped is in cc)
-read-cause r of_read.NoMemory stopped is = absurd (let e : Refused ShelfFault ≡ NoMemory = is_fault r _ _ stopped is in cc)
+-- a fault of the store
+pub store-cause : {A X : Type 0} (r : Result A CommandFault) (fault : SubmitFault) → IsErrAnd r (λ y. y ≡ fault_of_store fault) → r ≡ Err (Refused ShelfFault) → X
+store-cause r (of_store.Refused refusal) stopped is = absurd (let e : Refused ShelfFault ≡ Refused (File refusal) = is_fault r _ _ stopped is in cc)
+store-cause r of_store.NoMemory stopped is = absurd (let e : Refused ShelfFault ≡ NoMemory = is_fault r _ _ stopped is in cc)
 
 -- an error that is passed on
 pub passed-cause : {A B : Type 0} (a b : ℕ) (r : Result A CommandFault) (fault : CommandFault) → IsErrAnd r (λ y. y ≡ fault)

@@ -5,8 +5,5 @@ pub mod Steps
 pub mod Blames
 pub mod Runs
 pub mod Answering
-pub mod Weights
-pub mod Holdings
-pub mod Loading
+pub mod Leaving
 pub mod CellLines
-pub mod Extending

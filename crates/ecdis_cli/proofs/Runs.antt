@@ -12,9 +12,8 @@ use Rattle.ecdis_cli.specs.Stop.{status_of}
 use Rattle.ecdis_cli.specs.declared.run.status.Status.TheVariants as stops
 use Rattle.ecdis_cli.specs.declared.run.status.Status.{Status}
 use Rattle.ecdis_cli.specs.declared.run.status.Status.TheVariants.{Done}
-use Rattle.chart_model.specs.State.{StateValue}
 use Rattle.ecdis_cli.specs.Fetch.{Files}
-use Rattle.ecdis_cli.specs.Load.{nothing_held}
+use Rattle.chart_store.specs.Loaded.{nothing_held}
 use Rattle.ecdis_cli.specs.Limits.{SCRIPT_LIMIT}
 use Rattle.ecdis_cli.specs.World.{World, Outside, outside_of}
 use Rattle.ecdis_cli.specs.Turn.{reply_to}

@@ -7,7 +7,7 @@ use Rattle.std.proofs.lemmas.List.Elements.{All-weaker}
 use Rattle.std.proofs.lemmas.List.Sums.{AllPass-from_list_all}
 use Rattle.std.proofs.lemmas.Str.{IsUtf8-from_ascii}
 use Rattle.std.proofs.lemmas.Str.Ascii.{IsAscii-from_all}
-use Rattle.ecdis_cli.specs.Line.{is_visible}
+use Rattle.chart_model.specs.Key.{is_visible}
 
 visible_ascii : (byte : ℕ) → is_visible byte ≡ true → byte < 128
 visible_ascii byte h = grind (arith, nat_tests)

@@ -10,4 +10,6 @@ use Rattle.ecdis_cli.specs.declared.script.event.Event.TheVariants.{Info, Load, 
 abbrev pub event_on : List ℕ → Option Event
 event_on line =
     if bytes_eq line (codes "cells") then Some Cells
-    else option_or (option_map Info (word_after (codes "info ") line)) (option_map Load (word_after (codes "load ") line))
+    else option_or
+    (option_map Info (word_after (codes "info ") line))
+    (option_map Load (word_after (codes "load ") line))

@@ -1,3 +1,4 @@
+pub mod Limits
 pub mod Line
 pub mod Event
 pub mod General
@@ -7,12 +8,10 @@ pub mod Marked
 pub mod Fetch
 pub mod Info
 pub mod Load
-pub mod Live
 pub mod Listing
 pub mod Reply
 pub mod Turn
 pub mod Replies
-pub mod Limits
 pub mod World
 pub mod Blamed
 pub mod Progress

@@ -2,14 +2,12 @@
 use Rattle.std.specs.Prelude.{ℕ, Bool, true, ◌==◌, ◌&&◌, List, [], ◌∷◌, length, drop, nat_le, nat_eq, Option, Some, None, if◌then◌else◌}
 use Rattle.std.specs.Option.{option_and_then}
 use Rattle.std.specs.List.{list_all, starts_with}
-
--- a visible ASCII character: no space, no control
-abbrev pub is_visible : ℕ → Bool
-is_visible byte = nat_le 33 byte && nat_le byte 126
+use Rattle.chart_model.specs.Key.{is_visible}
+use Rattle.ecdis_cli.specs.Limits.{WORD_LIMIT}
 
 -- the name of a file: 1 to 255 visible characters
 abbrev pub is_word : List ℕ → Bool
-is_word bytes = nat_le 1 (length bytes) && nat_le (length bytes) 255 && list_all is_visible bytes
+is_word bytes = nat_le 1 (length bytes) && nat_le (length bytes) WORD_LIMIT && list_all is_visible bytes
 
 -- nothing is replied to an empty line, nor to a remark, which begins with '#'
 abbrev pub is_silent : List ℕ → Bool

@@ -5,7 +5,7 @@ use Rattle.std.specs.Fmt.{decimal}
 use Rattle.std.specs.FinMap as map
 use Rattle.chart_model.specs.Cell.{CellValue}
 use Rattle.chart_model.specs.declared.state.Holding.{Holding}
-use Rattle.ecdis_cli.specs.Load.{HoldingsByKey}
+use Rattle.chart_store.specs.Loaded.{HoldingsByKey}
 
 -- the number of vector and feature records
 abbrev pub records_of : CellValue → ℕ

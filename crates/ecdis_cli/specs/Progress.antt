@@ -5,12 +5,13 @@ use Rattle.chart_ports.specs.Count.{Rose, RoseBy}
 use Rattle.chart_ports.specs.Said.{SaysFront}
 use Rattle.chart_model.specs.State.{StateValue}
 use Rattle.ecdis_cli.specs.Fetch.{Files}
-use Rattle.ecdis_cli.specs.Load.{nothing_held}
+use Rattle.chart_store.specs.Loaded.{nothing_held}
 use Rattle.ecdis_cli.specs.World.{World, world_of}
 use Rattle.ecdis_cli.specs.Turn.{reply_to, state_after}
 use Rattle.ecdis_cli.specs.Replies.{replies_from, joined, ended}
 
--- where the reading of a script stands: what the lines before left, the number of the line that has begun, and its bytes
+-- where the reading of a script stands: what the lines before left, the number of the line that has begun, and its
+-- bytes
 pub record Standing : Type 0 where
   pub world : World
   pub number : ℕ

@@ -4,7 +4,7 @@ use Rattle.std.specs.List.{flat_map, starts_with}
 use Rattle.std.specs.Str.Lines.{lines}
 use Rattle.chart_model.specs.State.{StateValue}
 use Rattle.ecdis_cli.specs.Fetch.{Files}
-use Rattle.ecdis_cli.specs.Load.{nothing_held}
+use Rattle.chart_store.specs.Loaded.{nothing_held}
 use Rattle.ecdis_cli.specs.Turn.{reply_to, state_after}
 
 -- Marks tell of each line whether its fetch failed; it didn't where the marks have ended.
@@ -27,6 +27,12 @@ replies_from files state number (line ∷ more) marks =
 -- one for each line of the script: lines count from 1, and nothing is held at the start
 unfoldable pub replies_of : Files → List ℕ → List Bool → List (List ℕ)
 replies_of files script marks = replies_from files nothing_held 1 (lines script) marks
+
+-- what is held after lines, the first of which has this number, from what is held before them
+abbrev pub state_from : Files → StateValue → ℕ → List (List ℕ) → List Bool → StateValue
+state_from files state number [] marks = state
+state_from files state number (line ∷ more) marks =
+    state_from files (state_after files state number line (first_mark marks)) (number + 1) more (other_marks marks)
 
 -- a byte before the ended part of what follows it: the part stays empty up to the first line feed from the back
 abbrev pub onto_ended : ℕ → List ℕ → List ℕ

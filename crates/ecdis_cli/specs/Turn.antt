@@ -16,7 +16,8 @@ use Rattle.ecdis_cli.specs.Line.{is_silent}
 use Rattle.ecdis_cli.specs.Event.{event_on}
 use Rattle.ecdis_cli.specs.Fetch.{Files, fetched}
 use Rattle.ecdis_cli.specs.Info.{info_of}
-use Rattle.ecdis_cli.specs.Load.{Loaded, load_of}
+use Rattle.chart_store.specs.Loaded.{Loaded}
+use Rattle.ecdis_cli.specs.Load.{load_of}
 use Rattle.ecdis_cli.specs.Listing.{listing}
 use Rattle.ecdis_cli.specs.Reply.{printed}
 
@@ -49,7 +50,8 @@ taken_over state (Err refusal) = refused state refusal
 unfoldable pub turn_of : Files → StateValue → Bool → Event → Turn
 turn_of files state failed (asks.Info name) = informed state (info_of (fetched files failed name))
 turn_of files state failed (asks.Load name) = taken_over state (load_of state (fetched files failed name))
-turn_of files state failed asks.Cells = record { reply = Some (Cells (map.len state.cells) (listing state.cells)); state = state }
+turn_of files state failed asks.Cells =
+    record { reply = Some (Cells (map.len state.cells) (listing state.cells)); state = state }
 
 -- a line without a meaning is refused by its number
 abbrev pub turn_on : Files → StateValue → ℕ → Bool → Option Event → Turn
@@ -58,7 +60,8 @@ turn_on files state number failed (Some event) = turn_of files state failed even
 
 -- the turn of the line of this number
 unfoldable pub turn_to : Files → StateValue → ℕ → List ℕ → Bool → Turn
-turn_to files state number line failed = if is_silent line then silent state else turn_on files state number failed (event_on line)
+turn_to files state number line failed =
+    if is_silent line then silent state else turn_on files state number failed (event_on line)
 
 abbrev pub said_of : Option Reply → List ℕ
 said_of None = []

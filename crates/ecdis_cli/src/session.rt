@@ -2,12 +2,13 @@
 
 pub mod answer;
 mod cells;
-pub mod fault;
+mod fault;
 mod fetch;
 mod general;
 mod info;
+pub mod laws;
 mod load;
-pub mod refusal;
+mod refusal;
 mod reply;
 pub mod stop;
 mod values;

@@ -27,6 +27,8 @@ struct Case<'a> {
     script: &'a [u8],
     /// Whether the source gives one byte a pull.
     slow: bool,
+    /// Whether the shelf has eight of the longest files too.
+    large: bool,
     pull: u64,
     fetch: u64,
     say: u64,
@@ -37,6 +39,7 @@ impl<'a> Case<'a> {
         Case {
             script,
             slow: false,
+            large: false,
             pull: 0,
             fetch: 0,
             say: 0,
@@ -69,8 +72,8 @@ fn put(
 
 /// A shelf with the cell, the cell with a fault in its descriptor's labels or in its edition number,
 /// its data descriptive record alone, an empty file, and files that can be loaded.
-fn shelf(alloc: Global, fetch: u64) -> Result<MemoryShelf, AllocError> {
-    let mut shelf = MemoryShelf::new(alloc, failing(alloc, fetch)?);
+fn shelf(alloc: Global, case: &Case) -> Result<MemoryShelf, AllocError> {
+    let mut shelf = MemoryShelf::new(alloc, failing(alloc, case.fetch)?);
     put(alloc, &mut shelf, "AA5TEST1.000", CELL.to_vec(alloc)?)?;
     put(alloc, &mut shelf, "LABELS", changed(alloc, 79, b'?')?)?;
     put(alloc, &mut shelf, "EDITION", changed(alloc, 257, b'x')?)?;
@@ -80,6 +83,13 @@ fn shelf(alloc: Global, fetch: u64) -> Result<MemoryShelf, AllocError> {
     put(alloc, &mut shelf, "U", files::update(alloc)?)?;
     put(alloc, &mut shelf, "DELETE", files::deletion(alloc)?)?;
     put(alloc, &mut shelf, "CANCEL", files::cancellation(alloc)?)?;
+    if case.large {
+        for last in loads::LARGE {
+            let mut name = String::from_str(alloc, "L")?;
+            name.push(*last as char)?;
+            shelf.insert(name, FileBytes::from_vec(files::longest_of(alloc, *last)?))?;
+        }
+    }
     for last in loads::CELLS {
         let mut name = String::from_str(alloc, "T")?;
         name.push(*last as char)?;
@@ -102,7 +112,7 @@ fn outcome_of<C: Ledger>(
     let pace = if case.slow { 1 } else { usize::MAX };
     let bytes = case.script.to_vec(alloc)?;
     let mut script = MemorySource::with_pace(bytes, failing(alloc, case.pull)?, pace);
-    let mut shelf = shelf(alloc, case.fetch)?;
+    let mut shelf = shelf(alloc, case)?;
     let mut desk = MemoryDesk::new(alloc, failing(alloc, case.say)?);
     let mut steps = Steps::<C>::new(blank);
     let status = run_ecdis(alloc, words, &mut script, &mut shelf, &mut desk, &mut steps);

@@ -10,8 +10,8 @@ ghost use Rattle.ecdis_cli.specs.Progress.{Advanced, Halted, Interrupted, Answer
 use crate::script::line::without_carriage_return;
 use crate::session::answer::answer;
 use crate::session::stop::Stop;
-use crate::store::live::LiveCells;
 use chart_ports::{Desk, Shelf, Steps};
+use chart_store::LiveCells;
 use std::alloc::Global;
 use std::sync::ledger::Ledger;
 
@@ -54,11 +54,14 @@ impl Reader {
     ) -> Result<(), Stop>
         requires { self.old.number + 1 < 2 ^ 64 }
         ensures ok { IsTrue L.tells → IsTrue D.tells → OnOk result (Advanced (L.files shelf.old)
-            (standing self.old (D.said desk.old) (L.faults shelf.old)) (10 ∷ []) (standing self.new (D.said desk.new) (L.faults shelf.new))) }
+            (standing self.old (D.said desk.old) (L.faults shelf.old)) (10 ∷ [])
+            (standing self.new (D.said desk.new) (L.faults shelf.new))) }
         ensures err { IsTrue L.tells → IsTrue D.tells → OnErr result (Halted (L.files shelf.old)
-            (standing self.old (D.said desk.old) (L.faults shelf.old)) (10 ∷ []) (world_of self.new.cells (D.said desk.new) (L.faults shelf.new))) }
+            (standing self.old (D.said desk.old) (L.faults shelf.old)) (10 ∷ [])
+            (world_of self.new.cells (D.said desk.new) (L.faults shelf.new))) }
         ensures number { self.new.number ≤ self.old.number + 1 }
-        ensures blamed { IsTrue D.tells → Blamed (D.said desk.old) (D.said desk.new) (L.faults shelf.old) (L.faults shelf.new) }
+        ensures blamed { IsTrue D.tells →
+            Blamed (D.said desk.old) (D.said desk.new) (L.faults shelf.old) (L.faults shelf.new) }
         ensures same { IsTrue L.tells → L.files shelf.new ≡ L.files shelf.old }
         ensures shelf_later { L.faults shelf.old ≤ L.faults shelf.new }
         ensures desk_later { D.faults desk.old ≤ D.faults desk.new }
@@ -82,7 +85,8 @@ impl Reader {
     /// Keeps a byte of the line, while there is room for it.
     fn keep(&mut self, byte: u8) -> Result<(), Stop>
         requires { (byte == 10) ≡ false }
-        ensures ok { OnOk result (self.new.line.items ≡ (if nat_lt (length self.old.line.items) KEPT then self.old.line.items ++ byte ∷ [] else self.old.line.items)) }
+        ensures ok { OnOk result (self.new.line.items ≡
+            (if nat_lt (length self.old.line.items) KEPT then self.old.line.items ++ byte ∷ [] else self.old.line.items)) }
         ensures number { self.new.number ≡ self.old.number }
         ensures cells { self.new.cells ≡ self.old.cells }
         ensures err { IsOkUnless result Stop.NoMemory }
@@ -104,11 +108,14 @@ impl Reader {
     ) -> Result<(), Stop>
         requires { self.old.number + 1 < 2 ^ 64 }
         ensures ok { IsTrue L.tells → IsTrue D.tells → OnOk result (Advanced (L.files shelf.old)
-            (standing self.old (D.said desk.old) (L.faults shelf.old)) (byte ∷ []) (standing self.new (D.said desk.new) (L.faults shelf.new))) }
+            (standing self.old (D.said desk.old) (L.faults shelf.old)) (byte ∷ [])
+            (standing self.new (D.said desk.new) (L.faults shelf.new))) }
         ensures err { IsTrue L.tells → IsTrue D.tells → OnErr result (Halted (L.files shelf.old)
-            (standing self.old (D.said desk.old) (L.faults shelf.old)) (byte ∷ []) (world_of self.new.cells (D.said desk.new) (L.faults shelf.new))) }
+            (standing self.old (D.said desk.old) (L.faults shelf.old)) (byte ∷ [])
+            (world_of self.new.cells (D.said desk.new) (L.faults shelf.new))) }
         ensures number { self.new.number ≤ self.old.number + 1 }
-        ensures blamed { IsTrue D.tells → Blamed (D.said desk.old) (D.said desk.new) (L.faults shelf.old) (L.faults shelf.new) }
+        ensures blamed { IsTrue D.tells →
+            Blamed (D.said desk.old) (D.said desk.new) (L.faults shelf.old) (L.faults shelf.new) }
         ensures same { IsTrue L.tells → L.files shelf.new ≡ L.files shelf.old }
         ensures shelf_later { L.faults shelf.old ≤ L.faults shelf.new }
         ensures desk_later { D.faults desk.old ≤ D.faults desk.new }
@@ -132,11 +139,14 @@ impl Reader {
     ) -> Result<(), Stop>
         requires { self.old.number + length bytes.now < 2 ^ 64 }
         ensures ok { IsTrue L.tells → IsTrue D.tells → OnOk result (Advanced (L.files shelf.old)
-            (standing self.old (D.said desk.old) (L.faults shelf.old)) bytes.now (standing self.new (D.said desk.new) (L.faults shelf.new))) }
+            (standing self.old (D.said desk.old) (L.faults shelf.old)) bytes.now
+            (standing self.new (D.said desk.new) (L.faults shelf.new))) }
         ensures err { IsTrue L.tells → IsTrue D.tells → OnErr result (Halted (L.files shelf.old)
-            (standing self.old (D.said desk.old) (L.faults shelf.old)) bytes.now (world_of self.new.cells (D.said desk.new) (L.faults shelf.new))) }
+            (standing self.old (D.said desk.old) (L.faults shelf.old)) bytes.now
+            (world_of self.new.cells (D.said desk.new) (L.faults shelf.new))) }
         ensures number { self.new.number ≤ self.old.number + length bytes.now }
-        ensures blamed { IsTrue D.tells → Blamed (D.said desk.old) (D.said desk.new) (L.faults shelf.old) (L.faults shelf.new) }
+        ensures blamed { IsTrue D.tells →
+            Blamed (D.said desk.old) (D.said desk.new) (L.faults shelf.old) (L.faults shelf.new) }
         ensures same { IsTrue L.tells → L.files shelf.new ≡ L.files shelf.old }
         ensures shelf_later { L.faults shelf.old ≤ L.faults shelf.new }
         ensures desk_later { D.faults desk.old ≤ D.faults desk.new }
@@ -156,11 +166,16 @@ impl Reader {
         desk: &mut D,
         steps: &mut Steps<C>,
     ) -> Result<(), Stop>
-        ensures ok { IsTrue L.tells → IsTrue D.tells → OnOk result (Answered (L.files shelf.old) self.old.number self.old.line.items
-            (world_of self.old.cells (D.said desk.old) (L.faults shelf.old)) (world_of self.new.cells (D.said desk.new) (L.faults shelf.new))) }
-        ensures err { IsTrue L.tells → IsTrue D.tells → OnErr result (Interrupted (L.files shelf.old) self.old.number self.old.line.items
-            (world_of self.old.cells (D.said desk.old) (L.faults shelf.old)) (world_of self.new.cells (D.said desk.new) (L.faults shelf.new))) }
-        ensures blamed { IsTrue D.tells → Blamed (D.said desk.old) (D.said desk.new) (L.faults shelf.old) (L.faults shelf.new) }
+        ensures ok { IsTrue L.tells → IsTrue D.tells → OnOk result (Answered (L.files shelf.old)
+            self.old.number self.old.line.items
+            (world_of self.old.cells (D.said desk.old) (L.faults shelf.old))
+            (world_of self.new.cells (D.said desk.new) (L.faults shelf.new))) }
+        ensures err { IsTrue L.tells → IsTrue D.tells → OnErr result (Interrupted (L.files shelf.old)
+            self.old.number self.old.line.items
+            (world_of self.old.cells (D.said desk.old) (L.faults shelf.old))
+            (world_of self.new.cells (D.said desk.new) (L.faults shelf.new))) }
+        ensures blamed { IsTrue D.tells →
+            Blamed (D.said desk.old) (D.said desk.new) (L.faults shelf.old) (L.faults shelf.new) }
         ensures same { IsTrue L.tells → L.files shelf.new ≡ L.files shelf.old }
         ensures shelf_later { L.faults shelf.old ≤ L.faults shelf.new }
         ensures desk_later { D.faults desk.old ≤ D.faults desk.new }

@@ -26,14 +26,17 @@ pub fn run_script<S: Source, L: Shelf, D: Desk, C: Ledger>(
 ) -> Status
     requires { 0 < length buffer.old }
     ensures output { IsTrue S.tells → IsTrue L.tells → IsTrue D.tells → Replied (L.files shelf.old) result
-        (outside_of (S.left script.old) (D.said desk.old) (L.faults shelf.old)) (outside_of (S.left script.new) (D.said desk.new) (L.faults shelf.new)) }
-    ensures blamed { IsTrue D.tells → Blamed (D.said desk.old) (D.said desk.new) (L.faults shelf.old) (L.faults shelf.new) }
+        (outside_of (S.left script.old) (D.said desk.old) (L.faults shelf.old))
+        (outside_of (S.left script.new) (D.said desk.new) (L.faults shelf.new)) }
+    ensures blamed { IsTrue D.tells →
+        Blamed (D.said desk.old) (D.said desk.new) (L.faults shelf.old) (L.faults shelf.new) }
     ensures words { result ≢ Status.Words }
     ensures done { result ≡ Status.Done → IsTrue (S.is_at_end script.new) }
     ensures read { IsTrue S.tells → result ≡ Status.Done → S.left script.new ≡ [] }
     ensures short { IsTrue S.tells → result ≡ Status.Done → length (S.left script.old) ≤ SCRIPT_LIMIT }
     ensures script_failed { result ≡ Status.ScriptFault → Rose (S.faults script.old) (S.faults script.new) }
-    ensures script_long { result ≡ Status.ScriptLong → RoseBy (SCRIPT_LIMIT + 1) (S.given script.old) (S.given script.new) }
+    ensures script_long { result ≡ Status.ScriptLong →
+        RoseBy (SCRIPT_LIMIT + 1) (S.given script.old) (S.given script.new) }
     ensures script_over { IsTrue S.tells → result ≡ Status.ScriptLong → SCRIPT_LIMIT < length (S.left script.old) }
     ensures desk_failed { result ≡ Status.DeskFault → Rose (D.faults desk.old) (D.faults desk.new) }
     ensures script_later { S.faults script.old ≤ S.faults script.new }

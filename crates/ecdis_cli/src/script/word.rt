@@ -2,7 +2,8 @@
 
 ghost use Rattle.std.specs.Prelude.{◌≡◌, Some, None, if◌then◌else◌, IfOk};
 ghost use Rattle.std.specs.List.{list_all};
-ghost use Rattle.ecdis_cli.specs.Line.{is_visible, is_word};
+ghost use Rattle.chart_model.specs.Key.{is_visible};
+ghost use Rattle.ecdis_cli.specs.Line.{is_word};
 
 use std::alloc::{AllocError, Global};
 use std::marker::Model;

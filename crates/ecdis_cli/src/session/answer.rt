@@ -16,12 +16,12 @@ use crate::script::line::is_silent;
 use crate::session::cells::list;
 use crate::session::fault::CommandFault;
 use crate::session::info::inform;
-use crate::session::load::{Accepted, load};
+use crate::session::load::load;
 use crate::session::refusal::Refusal;
 use crate::session::reply::{Reply, print};
 use crate::session::stop::Stop;
-use crate::store::live::LiveCells;
 use chart_ports::{Desk, Shelf, Steps};
+use chart_store::{Accepted, LiveCells};
 use std::alloc::{AllocError, Global};
 use std::sync::ledger::Ledger;
 
@@ -50,7 +50,8 @@ fn carry_out<L: Shelf, C: Ledger>(
         (λ failed. GivesTurn result cells.new (turn_of (L.files shelf.old) cells.old failed event.now)) }
     ensures refused { OnErr result (cells.new ≡ cells.old) }
     ensures served { IfOk result (λ reply. is_fetch_failure (printed reply) ≡ false) }
-    ensures blamed { IsErrOf result (CommandFault.Refused Refusal.ShelfFault) → Rose (L.faults shelf.old) (L.faults shelf.new) }
+    ensures blamed { IsErrOf result (CommandFault.Refused Refusal.ShelfFault) →
+        Rose (L.faults shelf.old) (L.faults shelf.new) }
     ensures same { IsTrue L.tells → L.files shelf.new ≡ L.files shelf.old }
     ensures later { L.faults shelf.old ≤ L.faults shelf.new }
 {
@@ -75,7 +76,8 @@ fn answer_line<L: Shelf, C: Ledger>(
     steps: &mut Steps<C>,
 ) -> Result<Option<Reply>, AllocError>
     ensures done { IsTrue L.tells → IfOk result (λ reply. Marked (L.faults shelf.old) (L.faults shelf.new)
-        (λ failed. turn_to (L.files shelf.old) cells.old number line.now failed ≡ record { reply = reply; state = cells.new })) }
+        (λ failed. turn_to (L.files shelf.old) cells.old number line.now failed
+        ≡ record { reply = reply; state = cells.new })) }
     ensures blamed { IfOk result (λ answer. IfSome answer
         (λ reply. IsTrue (is_fetch_failure (printed reply)) → Rose (L.faults shelf.old) (L.faults shelf.new))) }
     ensures err { OnErr result (cells.new ≡ cells.old) }
@@ -118,10 +120,13 @@ pub fn answer<L: Shelf, D: Desk, C: Ledger>(
     steps: &mut Steps<C>,
 ) -> Result<(), Stop>
     ensures said { IsTrue L.tells → IsTrue D.tells → OnOk result (Answered (L.files shelf.old) number line.now
-        (world_of cells.old (D.said desk.old) (L.faults shelf.old)) (world_of cells.new (D.said desk.new) (L.faults shelf.new))) }
+        (world_of cells.old (D.said desk.old) (L.faults shelf.old))
+        (world_of cells.new (D.said desk.new) (L.faults shelf.new))) }
     ensures front { IsTrue L.tells → IsTrue D.tells → OnErr result (Interrupted (L.files shelf.old) number line.now
-        (world_of cells.old (D.said desk.old) (L.faults shelf.old)) (world_of cells.new (D.said desk.new) (L.faults shelf.new))) }
-    ensures blamed { IsTrue D.tells → Blamed (D.said desk.old) (D.said desk.new) (L.faults shelf.old) (L.faults shelf.new) }
+        (world_of cells.old (D.said desk.old) (L.faults shelf.old))
+        (world_of cells.new (D.said desk.new) (L.faults shelf.new))) }
+    ensures blamed { IsTrue D.tells →
+        Blamed (D.said desk.old) (D.said desk.new) (L.faults shelf.old) (L.faults shelf.new) }
     ensures same { IsTrue L.tells → L.files shelf.new ≡ L.files shelf.old }
     ensures shelf_later { L.faults shelf.old ≤ L.faults shelf.new }
     ensures desk_later { D.faults desk.old ≤ D.faults desk.new }

@@ -5,8 +5,9 @@ ghost use Rattle.ecdis_cli.specs.declared.session.fault.CommandFault.TheVariants
 
 use crate::session::refusal::Refusal;
 use chart_ports::ShelfError;
+use chart_store::SubmitFault;
 use std::alloc::{AllocError, AllocFailed};
-use update_sequence::{BuildFault, ReadFault, SequenceFault};
+use update_sequence::ReadFault;
 
 /// Why a command is not carried out. What is held stays as it was.
 #[derive(Debug, Drop)]
@@ -47,6 +48,20 @@ impl From<ShelfError> for CommandFault {
     }
 }
 
+impl From<SubmitFault> for CommandFault {
+    ghost use Rattle.std.specs.Prelude.{◌≡◌};
+    ghost use Rattle.ecdis_cli.specs.Commands.{fault_of_store};
+
+    ghost from_gives = { λ fault e. e ≡ fault_of_store fault };
+
+    fn from(fault: SubmitFault) -> CommandFault {
+        match fault {
+            SubmitFault::Refused(refusal) => CommandFault::Refused(Refusal::File(refusal)),
+            SubmitFault::NoMemory => CommandFault::NoMemory,
+        }
+    }
+}
+
 impl From<ReadFault> for CommandFault {
     ghost use Rattle.std.specs.Prelude.{◌≡◌};
     ghost use Rattle.ecdis_cli.specs.Commands.{fault_of_read};
@@ -54,35 +69,6 @@ impl From<ReadFault> for CommandFault {
     ghost from_gives = { λ fault e. e ≡ fault_of_read fault };
 
     fn from(fault: ReadFault) -> CommandFault {
-        match fault {
-            ReadFault::NoMemory => CommandFault::NoMemory,
-            _ => CommandFault::Refused(Refusal::Read(fault)),
-        }
-    }
-}
-
-impl From<SequenceFault> for CommandFault {
-    ghost use Rattle.std.specs.Prelude.{◌≡◌};
-    ghost use Rattle.ecdis_cli.specs.declared.session.fault.CommandFault.TheVariants.{Refused};
-    ghost use Rattle.ecdis_cli.specs.declared.session.refusal.Refusal.TheVariants.{Sequence};
-
-    ghost from_gives = { λ fault e. e ≡ Refused (Sequence fault) };
-
-    fn from(fault: SequenceFault) -> CommandFault {
-        CommandFault::Refused(Refusal::Sequence(fault))
-    }
-}
-
-impl From<BuildFault> for CommandFault {
-    ghost use Rattle.std.specs.Prelude.{◌≡◌};
-    ghost use Rattle.ecdis_cli.specs.Commands.{fault_of_build};
-
-    ghost from_gives = { λ fault e. e ≡ fault_of_build fault };
-
-    fn from(fault: BuildFault) -> CommandFault {
-        match fault {
-            BuildFault::NoMemory => CommandFault::NoMemory,
-            _ => CommandFault::Refused(Refusal::Build(fault)),
-        }
+        CommandFault::from(SubmitFault::from(fault))
     }
 }

@@ -11,10 +11,8 @@ use crate::session::fault::CommandFault;
 use crate::session::refusal::Refusal;
 use chart_model::Octets;
 use chart_ports::{Fetched, Shelf};
+use chart_store::{FILE_LIMIT, Refusal as FileRefusal};
 use std::alloc::Global;
-
-/// The most bytes of a file that is read.
-pub const FILE_LIMIT: u64 = 8_388_608;
 
 /// The bytes that a shelf has under a name.
 fn file_in(alloc: Global, name: &Word, fetched: Fetched) -> Result<Octets, CommandFault>
@@ -26,7 +24,10 @@ fn file_in(alloc: Global, name: &Word, fetched: Fetched) -> Result<Octets, Comma
             let name = Vec::from_slice(alloc, name.as_str().as_bytes())?;
             Err(CommandFault::Refused(Refusal::NoFile(Octets::from_vec(name))))
         }
-        Fetched::Long => Err(CommandFault::Refused(Refusal::FileLong(FILE_LIMIT))),
+        Fetched::Long => {
+            let refusal = Refusal::File(FileRefusal::FileLong(FILE_LIMIT));
+            Err(CommandFault::Refused(refusal))
+        }
     }
 }
 
@@ -34,7 +35,8 @@ fn file_in(alloc: Global, name: &Word, fetched: Fetched) -> Result<Octets, Comma
 pub fn fetch<L: Shelf>(alloc: Global, name: &Word, shelf: &mut L) -> Result<Octets, CommandFault>
     ensures found { IsTrue L.tells → Marked (L.faults shelf.old) (L.faults shelf.new)
         (λ failed. Gives result (fetched (L.files shelf.old) failed name.now)) }
-    ensures blamed { IsErrOf result (CommandFault.Refused Refusal.ShelfFault) → Rose (L.faults shelf.old) (L.faults shelf.new) }
+    ensures blamed { IsErrOf result (CommandFault.Refused Refusal.ShelfFault) →
+        Rose (L.faults shelf.old) (L.faults shelf.new) }
     ensures same { IsTrue L.tells → L.files shelf.new ≡ L.files shelf.old }
     ensures later { L.faults shelf.old ≤ L.faults shelf.new }
 {

@@ -25,7 +25,8 @@ pub fn inform<L: Shelf, C: Ledger>(
 ) -> Result<General, CommandFault>
     ensures found { IsTrue L.tells → Marked (L.faults shelf.old) (L.faults shelf.new)
         (λ failed. Gives result (info_of (fetched (L.files shelf.old) failed name.now))) }
-    ensures blamed { IsErrOf result (CommandFault.Refused Refusal.ShelfFault) → Rose (L.faults shelf.old) (L.faults shelf.new) }
+    ensures blamed { IsErrOf result (CommandFault.Refused Refusal.ShelfFault) →
+        Rose (L.faults shelf.old) (L.faults shelf.new) }
     ensures same { IsTrue L.tells → L.files shelf.new ≡ L.files shelf.old }
     ensures later { L.faults shelf.old ≤ L.faults shelf.new }
 {

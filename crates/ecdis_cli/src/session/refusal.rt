@@ -1,123 +1,61 @@
 //! Why a line is refused.
 
-ghost use Rattle.std.specs.Prelude.{◌≡◌, ◌++◌, ◌∷◌, [], OnOk};
-ghost use Rattle.std.specs.Fmt.{decimal};
-ghost use Rattle.ecdis_cli.specs.Refusal.{code_of, values_of, file_code, dataset_code, read_code, sequence_code, change_code, closure_code, build_code, after_spaces};
+ghost use Rattle.std.specs.Prelude.{◌≡◌, ◌++◌, OnOk};
+ghost use Rattle.ecdis_cli.specs.Refusal.{file_code, code_of, values_of, after_spaces};
 
-use crate::session::values::{push_build, push_numbers, push_read, push_sequence, push_text};
-use chart_closure::ClosureFault;
+use crate::session::values::{push_file, push_numbers, push_text};
 use chart_model::Octets;
-use iso8211_records::FileFault;
-use s57_records::DatasetFault;
+use chart_store::Refusal as FileRefusal;
 use std::alloc::{AllocError, Global};
-use update_apply::ChangeFault;
-use update_sequence::{BuildFault, ReadFault, SequenceFault};
 
-/// Why a line is refused. Want of memory, which some of the faults name too, is no refusal.
+/// Why a line is refused: with its code, what it names.
 #[derive(Debug, Drop)]
 pub enum Refusal {
-    /// The line of this number has no meaning.
+    /// 70: the line of this number has no meaning.
     BadLine(u64),
-    /// There is no file of this name.
+    /// 71: there is no file of this name.
     NoFile(Octets),
-    /// The shelf failed.
+    /// 72: the shelf failed.
     ShelfFault,
-    /// The file has more bytes than this limit.
-    FileLong(u64),
-    /// The file is no cell file.
-    Read(ReadFault),
-    /// The file may not follow what is held of its cell.
-    Sequence(SequenceFault),
-    /// So many cells are held, and this is another.
-    CellsFull(usize),
-    /// The file builds no chart.
-    Build(BuildFault),
-    /// The live files would have so many bytes.
-    StoreFull(u64),
+    /// 10 to 62: the file is refused.
+    File(FileRefusal),
 }
 
-fn file_code(fault: FileFault) -> u8
-    ensures { result ≡ file_code fault }
+/// The number that says why a file is refused.
+fn file_code(refusal: &FileRefusal) -> u8
+    ensures { result ≡ file_code refusal.now }
 {
-    match fault {
-        FileFault::Leader(_) => 10,
-        FileFault::Directory(_) => 11,
-        FileFault::Span(_) => 12,
-        FileFault::Terminator(_) => 13,
-        FileFault::Descriptor(_) => 14,
-        FileFault::Subfield(_, _) => 15,
-        FileFault::NoMemory => 0,
-    }
-}
-
-fn dataset_code(fault: DatasetFault) -> u8
-    ensures { result ≡ dataset_code fault }
-{
-    match fault {
-        DatasetFault::NoGeneral => 20,
-        DatasetFault::MissingField { .. } => 21,
-        DatasetFault::Value { .. } => 22,
-        DatasetFault::Profile(_) => 23,
-        DatasetFault::NoMemory => 0,
-    }
-}
-
-fn read_code(fault: ReadFault) -> u8
-    ensures { result ≡ read_code fault }
-{
-    match fault {
-        ReadFault::File(fault) => file_code(fault),
-        ReadFault::Dataset(fault) => dataset_code(fault),
-        ReadFault::NoMemory => 0,
-    }
-}
-
-fn sequence_code(fault: SequenceFault) -> u8
-    ensures { result ≡ sequence_code fault }
-{
-    match fault {
-        SequenceFault::NoBase(_) => 30,
-        SequenceFault::StaleBase { .. } => 31,
-        SequenceFault::Edition { .. } => 32,
-        SequenceFault::Gap { .. } => 33,
-        SequenceFault::Cancelled(_) => 34,
-    }
-}
-
-fn change_code(fault: ChangeFault) -> u8
-    ensures { result ≡ change_code fault }
-{
-    match fault {
-        ChangeFault::Present { .. } => 40,
-        ChangeFault::Absent { .. } => 41,
-        ChangeFault::Version { .. } => 42,
-        ChangeFault::Foid { .. } => 43,
-        ChangeFault::Index { .. } => 44,
-        ChangeFault::Count { .. } => 45,
-        ChangeFault::NoControl { .. } => 46,
-        ChangeFault::Mixed { .. } => 47,
-        ChangeFault::NoMemory => 0,
-    }
-}
-
-fn closure_code(fault: ClosureFault) -> u8
-    ensures { result ≡ closure_code fault }
-{
-    match fault {
-        ClosureFault::Dangling(_, _) => 50,
-        ClosureFault::EdgeNodes(_) => 51,
-        ClosureFault::RingOpen(_) => 52,
-        ClosureFault::WrongPointer(_) => 53,
-    }
-}
-
-fn build_code(fault: BuildFault) -> u8
-    ensures { result ≡ build_code fault }
-{
-    match fault {
-        BuildFault::Change(fault) => change_code(fault),
-        BuildFault::Closure(fault) => closure_code(fault),
-        BuildFault::NoMemory => 0,
+    match refusal {
+        FileRefusal::Leader(_) => 10,
+        FileRefusal::Directory(_) => 11,
+        FileRefusal::Span(_) => 12,
+        FileRefusal::Terminator(_) => 13,
+        FileRefusal::Descriptor(_) => 14,
+        FileRefusal::Subfield { .. } => 15,
+        FileRefusal::NoGeneral => 20,
+        FileRefusal::MissingField { .. } => 21,
+        FileRefusal::Value { .. } => 22,
+        FileRefusal::Profile(_) => 23,
+        FileRefusal::NoBase(_) => 30,
+        FileRefusal::StaleBase { .. } => 31,
+        FileRefusal::Edition { .. } => 32,
+        FileRefusal::Gap { .. } => 33,
+        FileRefusal::Cancelled(_) => 34,
+        FileRefusal::Present { .. } => 40,
+        FileRefusal::Absent { .. } => 41,
+        FileRefusal::Version { .. } => 42,
+        FileRefusal::Foid { .. } => 43,
+        FileRefusal::Index { .. } => 44,
+        FileRefusal::Count { .. } => 45,
+        FileRefusal::NoControl { .. } => 46,
+        FileRefusal::Mixed { .. } => 47,
+        FileRefusal::Dangling { .. } => 50,
+        FileRefusal::EdgeNodes(_) => 51,
+        FileRefusal::RingOpen(_) => 52,
+        FileRefusal::WrongPointer(_) => 53,
+        FileRefusal::FileLong(_) => 60,
+        FileRefusal::CellsFull(_) => 61,
+        FileRefusal::StoreFull(_) => 62,
     }
 }
 
@@ -130,12 +68,7 @@ impl Refusal {
             Refusal::BadLine(_) => 70,
             Refusal::NoFile(_) => 71,
             Refusal::ShelfFault => 72,
-            Refusal::FileLong(_) => 60,
-            Refusal::Read(fault) => read_code(*fault),
-            Refusal::Sequence(fault) => sequence_code(*fault),
-            Refusal::CellsFull(_) => 61,
-            Refusal::Build(fault) => build_code(*fault),
-            Refusal::StoreFull(_) => 62,
+            Refusal::File(refusal) => file_code(refusal),
         }
     }
 
@@ -147,12 +80,7 @@ impl Refusal {
             Refusal::BadLine(number) => push_numbers(alloc, bytes, &[*number]),
             Refusal::NoFile(name) => push_text(bytes, name.as_slice()),
             Refusal::ShelfFault => Ok(()),
-            Refusal::FileLong(limit) => push_numbers(alloc, bytes, &[*limit]),
-            Refusal::Read(fault) => push_read(alloc, bytes, *fault),
-            Refusal::Sequence(fault) => push_sequence(alloc, bytes, *fault),
-            Refusal::CellsFull(cells) => push_numbers(alloc, bytes, &[*cells as u64]),
-            Refusal::Build(fault) => push_build(alloc, bytes, *fault),
-            Refusal::StoreFull(sum) => push_numbers(alloc, bytes, &[*sum]),
+            Refusal::File(refusal) => push_file(alloc, bytes, refusal),
         }
     }
 }

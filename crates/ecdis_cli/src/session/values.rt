@@ -2,15 +2,11 @@
 
 ghost use Rattle.std.specs.Prelude.{◌≡◌, ◌++◌, ◌∷◌, [], OnOk};
 ghost use Rattle.std.specs.Fmt.{decimal};
-ghost use Rattle.ecdis_cli.specs.Refusal.{numbers, file_values, dataset_values, read_values, sequence_values, change_numbers, closure_numbers, build_numbers, after_spaces};
+ghost use Rattle.ecdis_cli.specs.Refusal.{numbers, file_values, after_spaces};
 
-use chart_closure::ClosureFault;
 use chart_model::{Foid, Name};
-use iso8211_records::FileFault;
-use s57_records::DatasetFault;
+use chart_store::Refusal;
 use std::alloc::{AllocError, Global};
-use update_apply::ChangeFault;
-use update_sequence::{BuildFault, ReadFault, SequenceFault};
 
 /// Adds a number in digits.
 fn push_number(alloc: Global, bytes: &mut Vec<u8>, number: u64) -> Result<(), AllocError>
@@ -51,77 +47,6 @@ fn push_place(
     push_text(bytes, name)
 }
 
-fn push_file(alloc: Global, bytes: &mut Vec<u8>, fault: FileFault) -> Result<(), AllocError>
-    ensures { OnOk result (bytes.new.items ≡ bytes.old.items ++ after_spaces (file_values fault)) }
-{
-    match fault {
-        FileFault::Leader(at)
-        | FileFault::Directory(at)
-        | FileFault::Span(at)
-        | FileFault::Terminator(at) => push_numbers(alloc, bytes, &[at as u64]),
-        FileFault::Descriptor(tag) => push_text(bytes, &tag),
-        FileFault::Subfield(record, tag) => push_place(alloc, bytes, record, &tag),
-        FileFault::NoMemory => Ok(()),
-    }
-}
-
-fn push_dataset(alloc: Global, bytes: &mut Vec<u8>, fault: DatasetFault) -> Result<(), AllocError>
-    ensures { OnOk result (bytes.new.items ≡ bytes.old.items ++ after_spaces (dataset_values fault)) }
-{
-    match fault {
-        DatasetFault::MissingField { record, tag } => push_place(alloc, bytes, record, &tag),
-        DatasetFault::Value { record, label } => push_place(alloc, bytes, record, &label),
-        DatasetFault::Profile(label) => push_text(bytes, &label),
-        DatasetFault::NoGeneral | DatasetFault::NoMemory => Ok(()),
-    }
-}
-
-/// Adds what a file that is no cell file names.
-pub fn push_read(alloc: Global, bytes: &mut Vec<u8>, fault: ReadFault) -> Result<(), AllocError>
-    ensures { OnOk result (bytes.new.items ≡ bytes.old.items ++ after_spaces (read_values fault)) }
-{
-    match fault {
-        ReadFault::File(fault) => push_file(alloc, bytes, fault),
-        ReadFault::Dataset(fault) => push_dataset(alloc, bytes, fault),
-        ReadFault::NoMemory => Ok(()),
-    }
-}
-
-/// Adds what a file that may not follow names.
-pub fn push_sequence(
-    alloc: Global,
-    bytes: &mut Vec<u8>,
-    fault: SequenceFault,
-) -> Result<(), AllocError>
-    ensures { OnOk result (bytes.new.items ≡ bytes.old.items ++ after_spaces (sequence_values fault)) }
-{
-    match fault {
-        SequenceFault::NoBase(key) | SequenceFault::Cancelled(key) => {
-            push_text(bytes, key.as_slice())
-        }
-        SequenceFault::StaleBase {
-            held_edition,
-            held_update,
-            edition,
-            update,
-        } => {
-            let pairs = [
-                held_edition as u64,
-                held_update as u64,
-                edition as u64,
-                update as u64,
-            ];
-            push_numbers(alloc, bytes, &pairs)
-        }
-        SequenceFault::Edition { held, given } => {
-            push_numbers(alloc, bytes, &[held as u64, given as u64])
-        }
-        SequenceFault::Gap { wanted, given } => {
-            push_numbers(alloc, bytes, &[wanted, given as u64])
-        }
-    }
-}
-
 /// Adds a record's name and numbers.
 fn push_named(
     alloc: Global,
@@ -129,7 +54,8 @@ fn push_named(
     name: Name,
     given: &[u64],
 ) -> Result<(), AllocError>
-    ensures { OnOk result (bytes.new.items ≡ bytes.old.items ++ after_spaces (numbers (name.rcnm ∷ name.rcid ∷ given.now))) }
+    ensures { OnOk result (bytes.new.items
+        ≡ bytes.old.items ++ after_spaces (numbers (name.rcnm ∷ name.rcid ∷ given.now))) }
 {
     push_number(alloc, bytes, name.rcnm as u64)?;
     push_number(alloc, bytes, name.rcid as u64)?;
@@ -150,59 +76,78 @@ fn foid_pair(kept: Foid, given: Foid) -> [u64; 6]
     ]
 }
 
-fn push_change(alloc: Global, bytes: &mut Vec<u8>, fault: ChangeFault) -> Result<(), AllocError>
-    ensures { OnOk result (bytes.new.items ≡ bytes.old.items ++ after_spaces (numbers (change_numbers fault))) }
+/// Adds what the refusal of a file names.
+pub fn push_file(alloc: Global, bytes: &mut Vec<u8>, refusal: &Refusal) -> Result<(), AllocError>
+    ensures { OnOk result (bytes.new.items ≡ bytes.old.items ++ after_spaces (file_values refusal.now)) }
 {
-    match fault {
-        ChangeFault::Present { name }
-        | ChangeFault::Absent { name }
-        | ChangeFault::NoControl { name }
-        | ChangeFault::Mixed { name } => push_named(alloc, bytes, name, &[]),
-        ChangeFault::Version { name, kept, given } => {
-            push_named(alloc, bytes, name, &[kept as u64, given as u64])
+    match refusal {
+        Refusal::Leader(at)
+        | Refusal::Directory(at)
+        | Refusal::Span(at)
+        | Refusal::Terminator(at) => push_numbers(alloc, bytes, &[*at as u64]),
+        Refusal::Descriptor(tag) => push_text(bytes, tag),
+        Refusal::Subfield { record, tag } => push_place(alloc, bytes, *record, tag),
+        Refusal::NoGeneral => Ok(()),
+        Refusal::MissingField { record, tag } => push_place(alloc, bytes, *record, tag),
+        Refusal::Value { record, label } => push_place(alloc, bytes, *record, label),
+        Refusal::Profile(label) => push_text(bytes, label),
+        Refusal::NoBase(key) | Refusal::Cancelled(key) => push_text(bytes, key.as_slice()),
+        Refusal::StaleBase {
+            held_edition,
+            held_update,
+            edition,
+            update,
+        } => {
+            let pairs = [
+                *held_edition as u64,
+                *held_update as u64,
+                *edition as u64,
+                *update as u64,
+            ];
+            push_numbers(alloc, bytes, &pairs)
         }
-        ChangeFault::Foid { name, kept, given } => {
-            push_named(alloc, bytes, name, &foid_pair(kept, given))
+        Refusal::Edition { held, given } => push_numbers(
+            alloc,
+            bytes,
+            &[*held as u64, *given as u64],
+        ),
+        Refusal::Gap { wanted, given } => push_numbers(alloc, bytes, &[*wanted, *given as u64]),
+        Refusal::Present { name }
+        | Refusal::Absent { name }
+        | Refusal::NoControl { name }
+        | Refusal::Mixed { name }
+        | Refusal::EdgeNodes(name)
+        | Refusal::RingOpen(name)
+        | Refusal::WrongPointer(name) => push_named(alloc, bytes, *name, &[]),
+        Refusal::Version { name, kept, given } => {
+            push_named(alloc, bytes, *name, &[*kept as u64, *given as u64])
         }
-        ChangeFault::Index {
+        Refusal::Foid { name, kept, given } => {
+            push_named(alloc, bytes, *name, &foid_pair(*kept, *given))
+        }
+        Refusal::Index {
             name,
             length,
             index,
-        } => { push_named(alloc, bytes, name, &[length as u64, index as u64]) }
-        ChangeFault::Count {
+        } => push_named(alloc, bytes, *name, &[*length as u64, *index as u64]),
+        Refusal::Count {
             name,
             stated,
             found,
-        } => { push_named(alloc, bytes, name, &[stated as u64, found as u64]) }
-        ChangeFault::NoMemory => Ok(()),
-    }
-}
-
-fn push_closure(alloc: Global, bytes: &mut Vec<u8>, fault: ClosureFault) -> Result<(), AllocError>
-    ensures { OnOk result (bytes.new.items ≡ bytes.old.items ++ after_spaces (numbers (closure_numbers fault))) }
-{
-    match fault {
-        ClosureFault::Dangling(name, target) => {
+        } => push_named(alloc, bytes, *name, &[*stated as u64, *found as u64]),
+        Refusal::Dangling { name, target } => {
             push_named(
                 alloc,
                 bytes,
-                name,
+                *name,
                 &[target.rcnm as u64, target.rcid as u64],
             )
         }
-        ClosureFault::EdgeNodes(name)
-        | ClosureFault::RingOpen(name)
-        | ClosureFault::WrongPointer(name) => push_named(alloc, bytes, name, &[]),
-    }
-}
-
-/// Adds what a file that builds no chart names.
-pub fn push_build(alloc: Global, bytes: &mut Vec<u8>, fault: BuildFault) -> Result<(), AllocError>
-    ensures { OnOk result (bytes.new.items ≡ bytes.old.items ++ after_spaces (numbers (build_numbers fault))) }
-{
-    match fault {
-        BuildFault::Change(fault) => push_change(alloc, bytes, fault),
-        BuildFault::Closure(fault) => push_closure(alloc, bytes, fault),
-        BuildFault::NoMemory => Ok(()),
+        Refusal::FileLong(number) | Refusal::StoreFull(number) => push_numbers(
+            alloc,
+            bytes,
+            &[*number],
+        ),
+        Refusal::CellsFull(cells) => push_numbers(alloc, bytes, &[*cells as u64]),
     }
 }

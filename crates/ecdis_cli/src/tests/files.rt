@@ -81,3 +81,29 @@ pub fn base_of(alloc: Global, last: u8) -> Result<Vec<u8>, AllocError> {
     }
     Ok(bytes)
 }
+
+/// The heads of records with a field that is not read, of 99,999 and of 87,924 bytes.
+const LONGEST: &[u8; 39] = b"99999 D   0900039   55 4XXXX9996000000\x1e";
+
+const LAST: &[u8; 39] = b"87924 D   0900039   55 4XXXX8788500000\x1e";
+
+/// A record of this head and so many bytes.
+fn record_of(alloc: Global, head: &[u8], count: usize) -> Result<Vec<u8>, AllocError> {
+    let mut bytes = head.to_vec(alloc)?;
+    for _ in head.len() + 1..count {
+        bytes.push(b'x')?;
+    }
+    bytes.push(0x1E)?;
+    Ok(bytes)
+}
+
+/// The same base file with records that are not read, of 8,388,608 bytes in all.
+pub fn longest_of(alloc: Global, last: u8) -> Result<Vec<u8>, AllocError> {
+    let mut bytes = base_of(alloc, last)?;
+    let record = record_of(alloc, LONGEST, 99_999)?;
+    for _ in 0..83 {
+        bytes.extend_from_slice(&record)?;
+    }
+    bytes.extend_from_slice(&record_of(alloc, LAST, 87_924)?)?;
+    Ok(bytes)
+}

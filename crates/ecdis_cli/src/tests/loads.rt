@@ -8,6 +8,9 @@ use std::test::Fail;
 /// The last character of the name of each cell, one more than may be held.
 pub const CELLS: &[u8; 33] = b"0123456789ABCDEFGHIJKLMNOPQRSTUVW";
 
+/// The same of the cells of the longest files, which are 67,108,864 bytes in all.
+pub const LARGE: &[u8; 8] = b"01234567";
+
 /// A line that loads the base file of each cell.
 fn loads(alloc: Global) -> Result<Vec<u8>, AllocError> {
     let mut script = Vec::new(alloc);
@@ -82,5 +85,26 @@ fn holds_thirty_two_cells(rt: HostRuntime) -> Result<(), Fail> {
     let outcome = outcome(alloc, &words, &Case::of(script.as_slice()))?;
     assert_eq!(rt; outcome.0, Status::Done);
     assert_eq!(rt; outcome.1.as_slice(), replies(alloc)?.as_slice());
+    Ok(())
+}
+
+#[test]
+fn holds_files_to_the_limit(rt: HostRuntime) -> Result<(), Fail> {
+    let alloc = rt.alloc();
+    let words = name(alloc)?;
+    let case = Case {
+        large: true,
+        ..Case::of(
+            b"load L0\nload L1\nload L2\nload L3\nload L4\nload L5\nload L6\nload L7\nload U\nload T8\nload T0\n",
+        )
+    };
+    let said =
+        b"ok load AA5TEST0 1 0\nok load AA5TEST1 1 0\nok load AA5TEST2 1 0\nok load AA5TEST3 1 0\n\
+ok load AA5TEST4 1 0\nok load AA5TEST5 1 0\nok load AA5TEST6 1 0\nok load AA5TEST7 1 0\n\
+no 62 67109503\nno 62 67109631\nok load AA5TEST0 1 0\n"
+            .as_slice();
+    let outcome = outcome(alloc, &words, &case)?;
+    assert_eq!(rt; outcome.0, Status::Done);
+    assert_eq!(rt; outcome.1.as_slice(), said);
     Ok(())
 }

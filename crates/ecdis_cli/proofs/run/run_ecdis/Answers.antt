@@ -19,3 +19,12 @@ returns-in_default-clause-blamed g c = λ d. Blamed-none _ _ _ (omega arith)
 pub returns-clause-complete : goal.returns-clause-complete
 returns-clause-complete g c = λ one s short source desk.
     complete _ _ _ _ _ _ _ c.run_script.ensures.words c.run_script.ensures.script_failed (c.run_script.ensures.script_over s) c.run_script.ensures.desk_failed short source desk
+
+pub returns-then-words-ne1-clause-held : goal.returns-then-words-ne1-clause-held
+returns-then-words-ne1-clause-held g c = λ lines marks. c.lines_leave_what_their_files_leave.ensures.live (g.L.Shelf.files c.args.shelf.now) lines marks
+
+pub returns-in_default-clause-held : goal.returns-in_default-clause-held
+returns-in_default-clause-held g c = λ lines marks. c.lines_leave_what_their_files_leave.ensures.live (g.L.Shelf.files c.args.shelf.now) lines marks
+
+pub returns-clause-held : goal.returns-clause-held
+returns-clause-held g c = λ lines marks. c.lines_leave_what_their_files_leave.ensures.live (g.L.Shelf.files c.args.shelf.now) lines marks

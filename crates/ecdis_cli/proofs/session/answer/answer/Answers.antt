@@ -1,5 +1,4 @@
 -- The line was answered, or a front of its reply was said.
-use Rattle.std.proofs.Common.{arith}
 use Rattle.ecdis_cli.proofs.Steps.{answer-silent, answer-said, answer-front, Interrupted-unanswered, OnErr-from}
 use Rattle.ecdis_cli.proofs.Blames.{Blamed-none, Blamed-said, cause-some}
 use Rattle.ecdis_cli.proofs.session.answer.answer.Goals as goal

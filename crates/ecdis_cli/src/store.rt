@@ -1,4 +1,0 @@
-//! The cells that are held.
-
-pub mod holding;
-pub mod live;
