@@ -99,7 +99,7 @@ fn shown(alloc: Global, cells: &HoldingMap) -> Result<String, AllocError> {
 }
 
 /// Loads files of these records one after the other, and tells what each was answered and what was held then.
-fn loads<C: Ledger>(
+fn loads_with<C: Ledger>(
     alloc: Global,
     files: &[&[&[u8]]],
     blank: Blank,
@@ -116,6 +116,11 @@ fn loads<C: Ledger>(
         told.push((answered(alloc, answer)?, shown(alloc, live.cells())?))?;
     }
     Ok(told)
+}
+
+/// The same, with a counter of its own.
+fn loads(alloc: Global, files: &[&[&[u8]]]) -> Result<Vec<(String, String)>, AllocError> {
+    loads_with::<Brand>(alloc, files, Blank::new(1))
 }
 
 #[test]
@@ -144,7 +149,7 @@ fn files_are_loaded_one_after_the_other(rt: HostRuntime) -> Result<(), Fail> {
     for (file, _, _) in files {
         records.push(file)?;
     }
-    let told = loads::<Brand>(alloc, records.as_slice(), Blank::new(1))?;
+    let told = loads(alloc, records.as_slice())?;
     assert_eq!(rt; told.len(), files.len());
     for (told, (_, answer, held)) in told.iter().zip(files) {
         assert!(rt; told.0.as_str().starts_with(answer));
@@ -163,7 +168,7 @@ fn base_of(alloc: Global, letter: u8) -> Result<Octets, AllocError> {
 }
 
 /// What is answered to the base files of so many cells, and then to the first of them once more.
-fn last_of<C: Ledger>(
+fn last_with<C: Ledger>(
     alloc: Global,
     count: u8,
     blank: Blank,
@@ -183,12 +188,17 @@ fn last_of<C: Ledger>(
     Ok((live.cells().len(), last, again))
 }
 
+/// The same, with a counter of its own.
+fn last_of(alloc: Global, count: u8) -> Result<(usize, String, String), Fail> {
+    last_with::<Brand>(alloc, count, Blank::new(1))
+}
+
 #[test]
 fn thirty_two_cells_are_held(rt: HostRuntime) -> Result<(), Fail> {
     let alloc = rt.alloc();
     let cases = [(32, "1 0 false"), (33, "CellsFull(32)")];
     for (count, answer) in cases {
-        let told = last_of::<Brand>(alloc, count, Blank::new(1))?;
+        let told = last_of(alloc, count)?;
         assert_eq!(rt; told.0, 32);
         assert_eq!(rt; told.1.as_str(), answer);
         assert_eq!(rt; told.2.as_str(), "1 0 false");
