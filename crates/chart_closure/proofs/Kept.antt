@@ -1,6 +1,6 @@
 -- What isn't a fault stays none where the records are kept.
-use Rattle.std.proofs.Common.{◌≡◌, Bool, cond, true, false, not, ◌&&◌, ◌||◌, eqb, List, [], ◌∷◌, map, Option, Some, None, option_map, option_and_then, is_some, is_none, IsSome, IsNone, refl, sym, ap, inl, inr, ◌⊎◌}
-use Rattle.std.specs.List.{find}
+use Rattle.std.proofs.Common.{◌≡◌, Bool, cond, true, false, not, ◌&&◌, ◌||◌, eqb, List, [], ◌∷◌, map, Option, Some, None, option_map, option_and_then, is_some, is_none, IsSome, IsNone, refl, sym, ap, ◌∙◌, inl, inr, ◌⊎◌}
+use Rattle.std.specs.List.{find, list_all}
 use Rattle.std.specs.FinMap as finite
 use Rattle.std.proofs.lemmas.Bool.{false≢true, not-false}
 use Rattle.std.proofs.lemmas.Option.{none-some}
@@ -10,12 +10,12 @@ use Rattle.chart_model.specs.declared.cell.Vector.{Vector}
 use Rattle.chart_model.specs.declared.cell.Feature.{Feature}
 use Rattle.chart_model.specs.Cell.{CellValue}
 use Rattle.area_rings.specs.Shape.{line_of, shape_of}
-use Rattle.area_rings.specs.Kept.{KeepsVectors}
+use Rattle.area_rings.specs.Kept.{KeepsVectors, StandsFor}
 use Rattle.chart_closure.specs.declared.fault.ClosureFault.{ClosureFault}
 use Rattle.chart_closure.specs.declared.fault.ClosureFault.TheVariants.{Dangling, EdgeNodes, RingOpen, WrongPointer}
 use Rattle.chart_model.specs.Answers.{when, first_of}
-use Rattle.chart_closure.specs.Closed.{has_record, absent_target, vector_fault, feature_fault, fault_at, IsClosed}
-use Rattle.chart_closure.specs.Kept.{KeepsRecords, HasSame}
+use Rattle.chart_closure.specs.Closed.{has_record, absent_target, may_point, may_show, vector_fault, feature_fault, fault_at, IsClosed}
+use Rattle.chart_closure.specs.Kept.{KeepsRecords, ShowsTheSame, StandsStill, StandsAsBefore}
 use Rattle.chart_closure.proofs.Faults.{points_rightly, lacks_line, shows_rightly, lacks_rings, vector_sound, feature_sound}
 
 -- the records, the lines and the shapes that there were are there
@@ -96,44 +96,75 @@ never_lost true None after keeps e = absurd (false≢true (sym e))
 never_lost true (Some x) None keeps e = absurd (false≢true (keeps refl))
 never_lost true (Some x) (Some y) keeps e = refl
 
-vector_stays : (before after : CellValue) (name : Name) (vector : Vector) → Keeps before after → vector_fault before name vector ≡ None → vector_fault after name vector ≡ None
-vector_stays before after name vector keeps e =
+-- without a fault, a vector record leaves none to one that stands for it
+vector_stays : (before after : CellValue) (name : Name) (vector made : Vector) → Keeps before after →
+    StandsFor vector made → vector_fault before name vector ≡ None → vector_fault after name made ≡ None
+vector_stays before after name vector made keeps stands e =
     let parts = vector_parts before name vector e in
-    vector_sound after name vector
-    (targets_there before after vector.pointers keeps.records parts.0)
-    parts.1
+    vector_sound after name made
+    (ap (absent_target after) stands.pointers ∙ targets_there before after vector.pointers keeps.records parts.0)
+    (ap (list_all (λ pointer. may_point name pointer.target)) stands.pointers ∙ parts.1)
     (never_lost (eqb name.rcnm 130) (line_of before name false) (line_of after name false) (keeps.line name) parts.2)
 
-feature_stays : (before after : CellValue) (name : Name) (feature : Feature) → Keeps before after → feature_fault before name feature ≡ None → feature_fault after name feature ≡ None
-feature_stays before after name feature keeps e =
+-- a shape is one of a primitive and of pointers
+same_shape : (cell : CellValue) (feature made : Feature) → ShowsTheSame feature made →
+    shape_of cell made ≡ shape_of cell feature
+unfolding shape_of
+same_shape cell feature made shows =
+    λ i. shape_of cell (record feature { prim = shows.prim i; pointers = shows.pointers i })
+
+feature_stays : (before after : CellValue) (name : Name) (feature made : Feature) → Keeps before after →
+    ShowsTheSame feature made → feature_fault before name feature ≡ None → feature_fault after name made ≡ None
+feature_stays before after name feature made keeps shows e =
     let parts = feature_parts before name feature e in
-    feature_sound after name feature
-    (targets_there before after feature.pointers keeps.records parts.0)
-    parts.1
-    (never_lost (eqb feature.prim 3) (shape_of before feature) (shape_of after feature) (keeps.shape feature) parts.2)
+    let right : shows_rightly made ≡ shows_rightly feature =
+    λ i. list_all (λ pointer. may_show (shows.prim i) pointer.target) (shows.pointers i) in
+    let rings : lacks_rings after made ≡ lacks_rings after feature =
+    λ i. eqb (shows.prim i) 3 && is_none (same_shape after feature made shows i) in
+    feature_sound after name made
+    (ap (absent_target after) shows.pointers ∙ targets_there before after feature.pointers keeps.records parts.0)
+    (right ∙ parts.1)
+    (rings
+    ∙ never_lost (eqb feature.prim 3) (shape_of before feature) (shape_of after feature) (keeps.shape feature) parts.2)
 
 -- ---- charts
 
-stays : {A : Type 0} (f g : A → Option ClosureFault) (o : Option A) → ((x : A) → f x ≡ None → g x ≡ None) → option_and_then f o ≡ None → option_and_then g o ≡ None
-stays f g None keeps e = refl
-stays f g (Some x) keeps e = keeps x e
+stays : {A : Type 0} (Stands : A → A → Type 0) (f g : A → Option ClosureFault) (o p : Option A) →
+    ((x y : A) → Stands x y → f x ≡ None → g y ≡ None) → StandsStill Stands o p →
+    option_and_then f o ≡ None → option_and_then g p ≡ None
+stays Stands f g None p keeps still e = ap (option_and_then g) still
+stays Stands f g (Some x) None keeps still e = absurd still
+stays Stands f g (Some x) (Some y) keeps still e = keeps x y still e
 
 neither : (a b : Option ClosureFault) → IsNone (first_of (a ∷ b ∷ [])) → (a ≡ None) × (b ≡ None)
 neither None None h = (refl, refl)
 neither None (Some fault) h = absurd (false≢true (sym h))
 neither (Some fault) b h = absurd (false≢true (sym h))
 
-same_stays : (before after : CellValue) (name : Name) → Keeps before after → HasSame before after name → IsNone (fault_at before name) → IsNone (fault_at after name)
+name_stays : (before after : CellValue) (name : Name) → Keeps before after → StandsAsBefore before after name →
+    IsNone (fault_at before name) → IsNone (fault_at after name)
 unfolding fault_at
-same_stays before after name keeps same h =
-    let none = neither (option_and_then (feature_fault before name) (finite.get before.features name)) (option_and_then (vector_fault before name) (finite.get before.vectors name)) h in
-    let feature = stays (feature_fault before name) (feature_fault after name) (finite.get before.features name) (λ feature. feature_stays before after name feature keeps) none.0 in
-    let vector = stays (vector_fault before name) (vector_fault after name) (finite.get before.vectors name) (λ vector. vector_stays before after name vector keeps) none.1 in
-    rw (same.feature, same.vector, feature, vector) refl
+name_stays before after name keeps still h =
+    let feature_before = finite.get before.features name in
+    let vector_before = finite.get before.vectors name in
+    let none = neither
+    (option_and_then (feature_fault before name) feature_before)
+    (option_and_then (vector_fault before name) vector_before)
+    h in
+    let feature = stays
+    ShowsTheSame (feature_fault before name) (feature_fault after name)
+    feature_before (finite.get after.features name)
+    (λ one other. feature_stays before after name one other keeps) still.feature none.0 in
+    let vector = stays
+    StandsFor (vector_fault before name) (vector_fault after name)
+    vector_before (finite.get after.vectors name)
+    (λ one other. vector_stays before after name one other keeps) still.vector none.1 in
+    rw (feature, vector) refl
 
-pub chart_stays : (before after : CellValue) → Keeps before after → IsClosed before → ((name : Name) → IsNone (fault_at after name) ⊎ HasSame before after name) → IsClosed after
+pub chart_stays : (before after : CellValue) → Keeps before after → IsClosed before →
+    ((name : Name) → IsNone (fault_at after name) ⊎ StandsAsBefore before after name) → IsClosed after
 chart_stays before after keeps closed looked name = go (looked name)
   where
-    go : IsNone (fault_at after name) ⊎ HasSame before after name → IsNone (fault_at after name)
+    go : IsNone (fault_at after name) ⊎ StandsAsBefore before after name → IsNone (fault_at after name)
     go (inl none) = none
-    go (inr same) = same_stays before after name keeps same (closed name)
+    go (inr still) = name_stays before after name keeps still (closed name)

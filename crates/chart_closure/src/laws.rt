@@ -5,7 +5,7 @@ ghost use Rattle.chart_model.specs.declared.name.Name.{Name};
 ghost use Rattle.chart_model.specs.Cell.{CellValue, IsCell};
 ghost use Rattle.chart_closure.specs.declared.fault.ClosureFault.{ClosureFault};
 ghost use Rattle.chart_closure.specs.Closed.{closure_fault, fault_at, IsClosed, IsLeastFault};
-ghost use Rattle.chart_closure.specs.Kept.{HasSame, KeepsRecords};
+ghost use Rattle.chart_closure.specs.Kept.{KeepsRecords, StandsAsBefore};
 
 use area_rings::shapes_are_kept;
 
@@ -18,10 +18,11 @@ pub fn first_is_least()
 {}
 
 /// A closed chart stays closed where each record is kept, of vector records with the same pointers and
-/// with a coordinate where there was one, and where no record that is another than before has a fault.
+/// with a coordinate where there was one, and where each name has no fault or its records are as they
+/// were: again a vector record so kept, a feature with the same primitive and pointers, or none.
 pub fn closed_charts_stay_closed()
     ensures { (before after : CellValue) → IsClosed before → KeepsRecords before after →
-        ((name : Name) → IsNone (fault_at after name) ⊎ HasSame before after name) → IsClosed after }
+        ((name : Name) → IsNone (fault_at after name) ⊎ StandsAsBefore before after name) → IsClosed after }
 {
     shapes_are_kept();
 }

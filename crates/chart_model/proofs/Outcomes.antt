@@ -1,5 +1,5 @@
 -- What holds after a call, from what its answer says.
-use Rattle.std.proofs.Common.{◌≡◌, Option, Some, None, Result, Ok, Err, OnOk, OnErr, false, refl}
+use Rattle.std.proofs.Common.{◌≡◌, Option, Some, None, IfSome, Result, Ok, Err, OnOk, OnErr, false, refl}
 use Rattle.std.specs.Option.{is_some, option_copied}
 use Rattle.std.specs.Borrow.{Bor}
 
@@ -18,3 +18,8 @@ copied-some (Some x) = refl
 pub none-from : {X : Type 0} (o : Option X) → is_some o ≡ false → o ≡ None
 none-from None e = refl
 none-from (Some x) e = cc
+
+-- what follows from the fact of a value that is there
+pub some-then : {X : Type 0} (P Q : X → Type 0) → ((x : X) → P x → Q x) → (o : Option X) → IfSome o P → IfSome o Q
+some-then P Q then None there = tt
+some-then P Q then (Some x) there = then x there

@@ -1,6 +1,6 @@
 //! The attributes of a record by their codes.
 
-ghost use Rattle.std.specs.Prelude.{◌≡◌, ◌+◌, ◌<◌, ◌≤◌, IfOk, IfErr, OnOk, OnErr, length, nat_eq};
+ghost use Rattle.std.specs.Prelude.{◌≡◌, ◌+◌, ◌<◌, ◌≤◌, IfOk, IfErr, OnOk, OnErr, length, nat_eq, ◌∷◌, []};
 ghost use Rattle.std.specs.Option.{option_copied};
 ghost use Rattle.std.specs.List.{HoldsAt};
 ghost use Rattle.std.specs.List.Sorted.{IsPartitionPoint, IsSearchInRange};
@@ -78,6 +78,20 @@ fn put(attrs: &mut Vec<Attr>, code: u16, value: Octets)
     }
 }
 
+/// Puts a text under a code, in place of what is there. Where there is no memory nothing changes.
+fn set_text(attrs: &mut Vec<Attr>, code: u16, value: Octets) -> Result<(), AllocError>
+    requires { AreRising attrs.old.items }
+    ensures map { OnOk result (attrs_of attrs.new.items ≡ map.insert (attrs_of attrs.old.items) code value) }
+    ensures rising { AreRising attrs.new.items }
+    ensures err { OnErr result (attrs.new.items ≡ attrs.old.items) }
+{
+    match place_of(attrs.as_slice(), code) {
+        Ok(place) => attrs[place] = Attr { code, value },
+        Err(place) => attrs.insert(place, Attr { code, value })?,
+    }
+    Ok(())
+}
+
 /// Takes out the attribute with a code. It takes no memory.
 fn take_out(attrs: &mut Vec<Attr>, code: u16) -> Option<Octets>
     requires { AreRising attrs.old.items }
@@ -93,6 +107,13 @@ fn take_out(attrs: &mut Vec<Attr>, code: u16) -> Option<Octets>
     }
 }
 
+/// Whether a setting removes its attribute.
+fn removes(setting: &Attr) -> bool
+    ensures { result ≡ pointwise nat_eq setting.now.value (0x7F ∷ []) }
+{
+    setting.value.as_slice() == DELETED.as_slice()
+}
+
 /// Sets or removes one attribute. It takes no memory.
 fn set_one(attrs: &mut Vec<Attr>, setting: Attr)
     requires rising { AreRising attrs.old.items }
@@ -102,7 +123,7 @@ fn set_one(attrs: &mut Vec<Attr>, setting: Attr)
     ensures len { vec_len attrs.new ≤ vec_len attrs.old + 1 }
     ensures capacity { vec_capacity attrs.old ≤ vec_capacity attrs.new }
 {
-    if setting.value.as_slice() == DELETED.as_slice() {
+    if removes(&setting) {
         let _ = take_out(attrs, setting.code);
     } else {
         put(attrs, setting.code, setting.value);
@@ -207,9 +228,7 @@ impl AttrMap {
         ensures ok { OnOk result (self.new ≡ map.insert self.old code value) }
         ensures err { OnErr result (self.new ≡ self.old) }
     {
-        self.attrs.reserve(1)?;
-        put(&mut self.attrs, code, value);
-        Ok(())
+        set_text(&mut self.attrs, code, value)
     }
 
     /// Takes out the text under a code, and answers it. It takes no memory.
@@ -218,6 +237,19 @@ impl AttrMap {
         ensures map { self.new ≡ map.remove self.old code }
     {
         take_out(&mut self.attrs, code)
+    }
+
+    /// Sets or removes one attribute. Only a code that isn't there takes room.
+    fn set_single(&mut self, setting: &Attr) -> Result<(), AllocError>
+        ensures ok { OnOk result (self.new ≡ set_attr self.old setting.now) }
+        ensures err { OnErr result (self.new ≡ self.old) }
+    {
+        if removes(setting) {
+            let _ = take_out(&mut self.attrs, setting.code);
+            return Ok(());
+        }
+        let value = setting.value.clone()?;
+        set_text(&mut self.attrs, setting.code, value)
     }
 
     /// Sets a few attributes, each in its place.
@@ -253,10 +285,10 @@ impl AttrMap {
         ensures ok { OnOk result (self.new ≡ set_attrs self.old settings.now) }
         ensures err { OnErr result (self.new ≡ self.old) }
     {
-        if settings.len() <= FEW {
-            self.set_few(alloc, settings)
-        } else {
-            self.set_many(alloc, settings)
+        match settings {
+            [setting] => self.set_single(setting),
+            _ if settings.len() <= FEW => self.set_few(alloc, settings),
+            _ => self.set_many(alloc, settings),
         }
     }
 }

@@ -1,5 +1,7 @@
 //! Names of records and of feature objects.
 
+use crate::sequence::Sequence;
+
 /// The name of a record: its kind and its number (S-57 Part 3, RCNM and RCID).
 ///
 /// The kinds are 100, a feature; 110, an isolated node; 120, a connected node; 130, an edge. Names are
@@ -9,6 +11,9 @@ pub struct Name {
     pub rcnm: u8,
     pub rcid: u32,
 }
+
+/// Names in order.
+pub type NameList = Sequence<Name>;
 
 /// The identifier of a feature object, the same in every cell that shows it (S-57 Part 3, FOID): the
 /// producing agency, the object's number and its subdivision.

@@ -11,6 +11,7 @@ ghost use Rattle.chart_model.specs.Shared.{held};
 use crate::name::Name;
 use crate::page::Page;
 use crate::page_map::PageName;
+use crate::shared::Shared;
 use std::alloc::Global;
 use std::collections::BTreeMap;
 use std::collections::btree_map::Iter;
@@ -20,8 +21,8 @@ use std::rc::Rc;
 /// The names and the values that are left, in the names' order. Contracts see their list.
 #[derive(Drop)]
 pub struct NameIter<'a, V> {
-    pages: Iter<'a, PageName, Rc<Page<V>>>,
-    records: &'a [(Name, V)],
+    pages: Iter<'a, PageName, Rc<Page<Shared<V>>>>,
+    records: &'a [(Name, Shared<V>)],
 }
 
 impl<'a, V> Model for NameIter<'a, V> {
@@ -39,7 +40,7 @@ impl<'a, V> Model for NameIter<'a, V> {
 
 impl<'a, V: Drop> NameIter<'a, V> {
     /// A walk over pages, each with a record at least.
-    pub(crate) fn over(pages: Iter<'a, PageName, Rc<Page<V>>>) -> NameIter<'a, V>
+    pub(crate) fn over(pages: Iter<'a, PageName, Rc<Page<Shared<V>>>>) -> NameIter<'a, V>
         requires { AreFull (held pages) }
         ensures { result ≡ flatten (held pages.entry) }
     {
@@ -64,7 +65,7 @@ impl<'a, V: Drop> Iterator for NameIter<'a, V> {
         }
         let (first, others) = self.records.split_first()?;
         self.records = others;
-        Some((&first.0, &first.1))
+        Some((&first.0, first.1.get()))
     }
 }
 

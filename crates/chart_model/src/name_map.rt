@@ -11,8 +11,9 @@ ghost use Rattle.chart_model.specs.Pages.{names_of, is_alone, ArePages};
 use crate::name::Name;
 use crate::name_iter::{NameIter, walks_in_order};
 use crate::page::Page;
-use crate::page_edits::{At, Put, TakeOut};
+use crate::page_edits::{At, Put, TakeOut, Within};
 use crate::page_map::{PageMap, PageName};
+use crate::shared::Shared;
 use std::alloc::{AllocError, Global};
 use std::marker::Model;
 
@@ -33,12 +34,12 @@ pub trait Edit<V> {
 
 /// Values by name, in the names' order. Contracts see a finite map.
 ///
-/// The values stand in small pages that copies share, so that a copy costs a pointer a page, and a change
-/// copies the page that it touches.
+/// Copies share the values and the small pages on which they stand: a copy costs a pointer a page, and a
+/// change copies the page that it touches, a pointer a value, and the one value that it edits.
 #[derive(Debug, Drop)]
 pub struct NameMap<V> {
     count: usize,
-    pages: PageMap<Page<V>>,
+    pages: PageMap<Page<Shared<V>>>,
 }
 
 impl<V> Model for NameMap<V> {
@@ -53,6 +54,16 @@ impl<V> Model for NameMap<V> {
     ghost view = { λ names. names_of names.pages };
 
     ghost invariant = { λ names. IsPaged names.pages names.count };
+}
+
+/// The value under a name on a page. It takes no memory.
+fn value_on<V: Drop>(records: &Page<Shared<V>>, name: Name) -> Option<&V>
+    ensures { option_copied result ≡ map.get records.now name }
+{
+    match records.get(name) {
+        Some(value) => Some(value.get()),
+        None => None,
+    }
 }
 
 /// Puts a value on its page, in place of what was there. Where there is no memory nothing changes.
@@ -126,7 +137,7 @@ impl<V: Drop> NameMap<V> {
         ensures { option_copied result ≡ map.get self.now name }
     {
         match self.pages.get(PageName::of(name)) {
-            Some(records) => records.get(name),
+            Some(records) => value_on(records, name),
             None => None,
         }
     }
@@ -152,13 +163,11 @@ impl<V: Drop> NameMap<V> {
 
     /// Puts a value under a name, in place of what was there. Where there is no memory nothing changes.
     pub fn insert(&mut self, name: Name, value: V) -> Result<(), AllocError>
-    where
-        V: Clone,
-        requires { (x y : V) → V.is_clone x y → y ≡ x }
         ensures ok { OnOk result (self.new ≡ map.insert self.old name value) }
         ensures err { OnErr result (self.new ≡ self.old) }
     {
         let count = self.count_with(name)?;
+        let value = Shared::of(self.pages.allocator(), value)?;
         put(&mut self.pages, name, value)?;
         self.count = count;
         Ok(())
@@ -166,9 +175,6 @@ impl<V: Drop> NameMap<V> {
 
     /// Takes out the value under a name, where there is one. Where there is no memory nothing changes.
     pub fn remove(&mut self, name: Name) -> Result<(), AllocError>
-    where
-        V: Clone,
-        requires { (x y : V) → V.is_clone x y → y ≡ x }
         ensures ok { OnOk result (self.new ≡ map.remove self.old name) }
         ensures err { OnErr result (self.new ≡ self.old) }
     {
@@ -188,7 +194,13 @@ impl<V: Drop> NameMap<V> {
         ensures ok { OnOk result (self.new ≡ edited_in (E.edited by) self.old name) }
         ensures err { OnErr result (self.new ≡ self.old) }
     {
-        self.pages.edit(PageName::of(name), At { name, by })
+        self.pages.edit(
+            PageName::of(name),
+            At {
+                name,
+                by: Within { by },
+            },
+        )
     }
 
     /// The names and their values in the names' order. It takes no memory.

@@ -7,6 +7,7 @@ ghost use Rattle.chart_model.specs.Names.{edited_in};
 use crate::name::Name;
 use crate::name_map::Edit;
 use crate::page::Page;
+use crate::shared::Shared;
 use std::alloc::AllocError;
 
 /// Puts a record under a name, in place of what was there.
@@ -57,5 +58,21 @@ impl<V: Drop, E: Edit<V> + Drop> Edit<Page<V>> for At<E> {
 
     fn edit(self, page: &mut Page<V>) -> Result<(), AllocError> {
         page.edit(self.name, self.by)
+    }
+}
+
+/// Edits the value that is shared, in a copy of its own where it is shared still.
+#[derive(Drop)]
+pub struct Within<E> {
+    pub by: E,
+}
+
+impl<V: Clone + Drop, E: Edit<V> + Drop> Edit<Shared<V>> for Within<E> {
+    ghost fits = { λ within value. ((x y : V) → V.is_clone x y → y ≡ x) × E.fits within.by value };
+
+    ghost edited = { λ within value. E.edited within.by value };
+
+    fn edit(self, shared: &mut Shared<V>) -> Result<(), AllocError> {
+        shared.edit(self.by)
     }
 }

@@ -9,7 +9,7 @@ use std::alloc::AllocError;
 
 /// An attribute: its code and its text, as bytes without 0x1E and 0x1F. An empty text means that the
 /// value is unknown.
-#[derive(Debug, Drop)]
+#[derive(Debug, PartialEq, Drop)]
 pub struct Attr {
     pub code: u16,
     pub value: Octets,

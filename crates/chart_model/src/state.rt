@@ -6,6 +6,7 @@ use crate::cell::Cell;
 use crate::key_map::KeyMap;
 use crate::octets::Octets;
 use crate::sequence::Sequence;
+use crate::shared::Shared;
 use std::alloc::{AllocError, Global};
 use std::marker::Model;
 
@@ -18,8 +19,8 @@ pub struct Held {
     pub cancelled: bool,
 }
 
-/// Whole files in order, each at most 8,388,608 bytes.
-pub type FileList = Sequence<Octets>;
+/// Whole files in order, each at most 8,388,608 bytes. Copies of a list share its files.
+pub type FileList = Sequence<Shared<Octets>>;
 
 /// What is held of one cell: its live files, the base file first, and the chart that they build. A
 /// cancelled cell has no chart.

@@ -95,41 +95,70 @@ fn has(names: &NameMap<u8>, rows: &[(u32, u8)]) -> bool {
 #[test]
 fn copies_change_alone(rt: HostRuntime) -> Result<(), Fail> {
     let mut names = NameMap::new(rt.alloc());
-    for (rcid, value) in [(16, 6), (7, 1), (8, 2), (9, 3), (15, 4), (0, 0)] {
+    for (rcid, value) in [(32, 6), (15, 1), (16, 2), (17, 3), (31, 4), (0, 0)] {
         names.insert(Name { rcnm: 110, rcid }, value)?;
     }
     let mut copy = names.clone()?;
-    for rcid in [7, 8, 16] {
+    for rcid in [15, 16, 32] {
         copy.remove(Name { rcnm: 110, rcid })?;
     }
     copy.insert(
         Name {
             rcnm: 110,
-            rcid: 10,
+            rcid: 18,
         },
         5,
     )?;
     copy.insert(Name { rcnm: 110, rcid: 0 }, 7)?;
-    copy.edit(Name { rcnm: 110, rcid: 9 }, Exchange(8))?;
-    assert!(rt; has(&copy, &[(0, 7), (9, 8), (10, 5), (15, 4)]));
-    assert!(rt; has(&names, &[(0, 0), (7, 1), (8, 2), (9, 3), (15, 4), (16, 6)]));
+    copy.edit(
+        Name {
+            rcnm: 110,
+            rcid: 17,
+        },
+        Exchange(8),
+    )?;
+    assert!(rt; has(&copy, &[(0, 7), (17, 8), (18, 5), (31, 4)]));
+    assert!(rt;
+        has(
+            &names,
+            &[(0, 0), (15, 1), (16, 2), (17, 3), (31, 4), (32, 6)]
+        )
+    );
     Ok(())
 }
 
 #[test]
 fn pages_come_and_go(rt: HostRuntime) -> Result<(), Fail> {
     let mut names = NameMap::new(rt.alloc());
-    for (rcid, value) in [(7, 1), (8, 2), (9, 3)] {
+    for (rcid, value) in [(15, 1), (16, 2), (17, 3)] {
         names.insert(Name { rcnm: 110, rcid }, value)?;
     }
-    names.remove(Name { rcnm: 110, rcid: 7 })?;
-    names.remove(Name { rcnm: 110, rcid: 7 })?;
-    assert!(rt; has(&names, &[(8, 2), (9, 3)]));
-    names.remove(Name { rcnm: 110, rcid: 9 })?;
-    names.remove(Name { rcnm: 110, rcid: 8 })?;
+    names.remove(Name {
+        rcnm: 110,
+        rcid: 15,
+    })?;
+    names.remove(Name {
+        rcnm: 110,
+        rcid: 15,
+    })?;
+    assert!(rt; has(&names, &[(16, 2), (17, 3)]));
+    names.remove(Name {
+        rcnm: 110,
+        rcid: 17,
+    })?;
+    names.remove(Name {
+        rcnm: 110,
+        rcid: 16,
+    })?;
     assert!(rt; has(&names, &[]));
-    names.insert(Name { rcnm: 110, rcid: 8 }, 4)?;
-    assert!(rt; has(&names, &[(8, 4)]));
+    names.insert(
+        Name {
+            rcnm: 110,
+            rcid: 16,
+        },
+        4,
+    )?;
+    assert!(rt; has(&names, &[(16, 4)]));
     Ok(())
 }
 

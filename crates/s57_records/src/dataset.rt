@@ -68,9 +68,11 @@ fn gather_all<'a>(
 ) -> Result<Gathered, DatasetFault>
     ensures { Gives result (gather base 2 (all_subfields (layout_at rows.now) 2 records.now) nothing_gathered) }
 {
+    // No record stands for more than one change.
+    let changes = Vec::with_capacity(alloc, records.len())?;
     let mut gathered = Gathered {
         scale: None,
-        changes: ChangeList::new(alloc),
+        changes: ChangeList::from_vec(changes),
     };
     let mut number = 1;
     let mut rest = records;

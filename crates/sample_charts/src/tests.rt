@@ -1,3 +1,4 @@
 mod changes;
+mod differences;
 mod faults;
 mod shapes;

@@ -29,6 +29,7 @@ abbrev pub kept_vector : Vector → Kept
 kept_vector vector = record {
   version = vector.version;
   foid = None;
+  attrs = map.len vector.attrs;
   pointers = length vector.pointers;
   coords = length vector.coords;
   depths = have_depths vector.coords;
@@ -39,6 +40,7 @@ abbrev pub kept_feature : Feature → Kept
 kept_feature feature = record {
   version = feature.version;
   foid = Some feature.foid;
+  attrs = map.len feature.attrs;
   pointers = length feature.pointers;
   coords = 0;
   depths = false;

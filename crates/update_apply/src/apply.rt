@@ -7,7 +7,8 @@ ghost use Rattle.update_apply.specs.Changed.{changed, changed_in, inserted_vecto
 ghost use Rattle.update_apply.specs.Fault as spec;
 
 use crate::fault::ChangeFault;
-use crate::judge::fault_of;
+use crate::judge::{fault_by, kept_for};
+use crate::moves::Moves;
 use crate::record::{Modification, inserted_feature, inserted_vector};
 use chart_model::codes::{DELETE, FEATURE, INSERT};
 use chart_model::{Cell, FeatureMap, UpdateRecord, VectorMap};
@@ -53,6 +54,35 @@ fn change_features(
     }
 }
 
+/// Makes a change of one record to a cell, as far as the budget of moves lets it. On any refusal the cell is as it
+/// was.
+///
+/// The fault that is told is the first of the change; want of memory comes only where there is none.
+pub fn apply_within(
+    alloc: Global,
+    cell: &mut Cell,
+    change: &UpdateRecord,
+    moves: &mut Moves,
+) -> Result<(), ChangeFault>
+    ensures ok { OnOk result (cell.new ≡ changed cell.old change.now) }
+    ensures err { OnErr result (cell.new ≡ cell.old) }
+    ensures fault { spec.told result ≡ spec.fault_of cell.old change.now }
+{
+    let kept = kept_for(cell, change);
+    if let Some(fault) = fault_by(kept, change) {
+        return Err(fault);
+    }
+    if moves.take(kept, change).is_err() {
+        return Err(ChangeFault::NoMemory);
+    }
+    let done = if change.target.rcnm == FEATURE {
+        change_features(alloc, &mut cell.features, change)
+    } else {
+        change_vectors(alloc, &mut cell.vectors, change)
+    };
+    done.map_err(|_| ChangeFault::NoMemory)
+}
+
 /// Makes a change of one record to a cell. On any refusal the cell is as it was.
 ///
 /// The fault that is told is the first of the change; want of memory comes only where there is none.
@@ -65,13 +95,5 @@ pub fn apply_record(
     ensures err { OnErr result (cell.new ≡ cell.old) }
     ensures fault { spec.told result ≡ spec.fault_of cell.old change.now }
 {
-    if let Some(fault) = fault_of(cell, change) {
-        return Err(fault);
-    }
-    let done = if change.target.rcnm == FEATURE {
-        change_features(alloc, &mut cell.features, change)
-    } else {
-        change_vectors(alloc, &mut cell.vectors, change)
-    };
-    done.map_err(|_| ChangeFault::NoMemory)
+    apply_within(alloc, cell, change, &mut Moves::of_file())
 }

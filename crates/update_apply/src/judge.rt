@@ -14,6 +14,8 @@ pub struct Kept {
     pub version: u16,
     /// `None` for a vector record.
     pub foid: Option<Foid>,
+    /// How many attributes there are.
+    pub attrs: usize,
     /// How many pointers there are.
     pub pointers: usize,
     /// How many coordinates there are.
@@ -41,6 +43,7 @@ fn kept_vector(vector: &Vector) -> Kept
     Kept {
         version: vector.version,
         foid: None,
+        attrs: vector.attrs.len(),
         pointers: vector.pointers.as_slice().len(),
         coords: coords.len(),
         depths: have_depths(coords),
@@ -54,6 +57,7 @@ fn kept_feature(feature: &Feature) -> Kept
     Kept {
         version: feature.version,
         foid: Some(feature.foid),
+        attrs: feature.attrs.len(),
         pointers: feature.pointers.as_slice().len(),
         coords: 0,
         depths: false,
@@ -70,6 +74,13 @@ fn kept_under(cell: &Cell, name: Name) -> Option<Kept>
     } else {
         cell.vectors.get(name).map(kept_vector)
     }
+}
+
+/// What a cell has under the name of a change.
+pub fn kept_for(cell: &Cell, change: &UpdateRecord) -> Option<Kept>
+    ensures { result ≡ spec.kept_under cell.now change.now.target }
+{
+    kept_under(cell, change.target)
 }
 
 /// The first fault of several.
@@ -194,13 +205,13 @@ fn fits_version(change: &UpdateRecord, kept: u16) -> bool
     change.version as u32 == kept as u32 + 1 || change.ruin == DELETE && change.version == kept
 }
 
-/// The first fault of a change of a record.
-pub fn fault_of(cell: &Cell, change: &UpdateRecord) -> Option<ChangeFault>
-    ensures { result ≡ spec.fault_of cell.now change.now }
+/// The first fault of a change of a record, by what the cell has under its name.
+pub fn fault_by(kept: Option<Kept>, change: &UpdateRecord) -> Option<ChangeFault>
+    ensures { result ≡ spec.fault_by kept change.now }
 {
     let name = change.target;
     let inserts = change.ruin == INSERT;
-    let Some(kept) = kept_under(cell, name) else {
+    let Some(kept) = kept else {
         return when(!inserts, ChangeFault::Absent { name });
     };
     let version = ChangeFault::Version {

@@ -6,8 +6,10 @@ mod Folding
 mod Charts
 mod Rebuilding
 mod SoundLists
+mod SoundTests
 mod Accepted
 mod Held
 mod OneName
 mod LocalChanges
+mod OtherRecords
 mod NameLists

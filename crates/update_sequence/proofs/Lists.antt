@@ -5,7 +5,7 @@ use Rattle.std.proofs.lemmas.List.{append_assoc}
 pub cons_is : {A : Type 0} {x y : A} {xs ys : List A} → ◌≡◌ {A = List A} (x ∷ xs) (y ∷ ys) → (x ≡ y) × (xs ≡ ys)
 cons_is e = (cc, cc)
 
-no_item : {A : Type 0} (before after : List A) (x : A) → [] ≡ before ++ x ∷ after → ⊥
+pub no_item : {A : Type 0} (before after : List A) (x : A) → [] ≡ before ++ x ∷ after → ⊥
 no_item [] after x e = cc
 no_item (y ∷ before) after x e = cc
 

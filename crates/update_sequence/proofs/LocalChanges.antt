@@ -1,12 +1,13 @@
 -- Changes that can't break what other records are.
-use Rattle.std.proofs.Common.{◌≡◌, ◌≢◌, ◌⊎◌, inl, inr, ◌≤◌, ℕ, ◌+◌, ◌-◌, ◌==◌, Bool, true, false, not, ◌&&◌, ◌||◌, if◌then◌else◌, List, [], ◌∷◌, ◌++◌, length, take, drop, Option, Some, None, Ok, IfSome, IsSome, IsNone, is_some, is_none, option_map, refl, sym, ap, ◌∙◌, subst, arith}
-use Rattle.std.specs.List.{AllByRecursion}
+use Rattle.std.proofs.Common.{◌≡◌, ◌≢◌, ◌⊎◌, inl, inr, ◌≤◌, ℕ, ◌+◌, ◌-◌, ◌==◌, Bool, true, false, not, ◌&&◌, ◌||◌, if◌then◌else◌, List, [], ◌∷◌, ◌++◌, length, take, drop, Option, Some, None, Ok, IfSome, IsSome, IsSomeAnd, IsNone, is_some, is_none, option_map, refl, sym, ap, ◌∙◌, subst, arith}
+use Rattle.std.specs.List.{AllByRecursion, cons_option, filter_map, list_all}
 use Rattle.std.specs.FinMap as map
 use Rattle.std.specs.Ordering.{eq_by_cmp}
-use Rattle.std.proofs.lemmas.Bool.{true≢false, eqb-true, or_cases, and_parts, not-true, not-false}
+use Rattle.std.proofs.lemmas.Bool.{true≢false, eqb-true, or_cases, or_parts, and_parts, not-true, not-false}
 use Rattle.std.proofs.lemmas.List.{length-append, length-take, length-drop, nil_from_length}
 use Rattle.chart_model.specs.declared.name.Name.{Name}
 use Rattle.chart_model.specs.declared.cell.Vector.{Vector}
+use Rattle.chart_model.specs.declared.cell.Feature.{Feature}
 use Rattle.chart_model.specs.declared.dataset.Header.{Header}
 use Rattle.chart_model.specs.declared.update_record.Control.{Control}
 use Rattle.chart_model.specs.Cell.{CellValue}
@@ -14,7 +15,7 @@ use Rattle.chart_model.specs.Change.{Change}
 use Rattle.chart_model.specs.Names.{name_cmp, edited_at, edited_in}
 use Rattle.area_rings.specs.Kept.{StandsFor}
 use Rattle.chart_closure.specs.Closed.{fault_at, IsClosed}
-use Rattle.chart_closure.specs.Kept.{KeepsRecords, HasSame}
+use Rattle.chart_closure.specs.Kept.{KeepsRecords, ShowsTheSame, StandsStill, StandsAsBefore}
 use Rattle.update_apply.specs.declared.fault.ChangeFault.{ChangeFault}
 use Rattle.update_apply.specs.declared.fault.ChangeFault.TheVariants as fault
 use Rattle.update_apply.specs.Edited.{edited, edited_by}
@@ -22,7 +23,7 @@ use Rattle.chart_model.specs.Answers.{when, first_of}
 use Rattle.update_apply.specs.Fault.{is_feature, kept_vector, kept_feature, inserts, deletes, modifies, count_fault, edit_faults, kept_faults, fault_by, fault_of}
 use Rattle.update_apply.specs.Changed.{changed, changed_in, inserted_vector, inserted_feature, modified_vector, modified_feature}
 use Rattle.update_sequence.specs.Built.{begun, folded}
-use Rattle.update_sequence.specs.Extended.{keeps_coords, is_local, are_local, are_sound}
+use Rattle.update_sequence.specs.Extended.{keeps_coords, is_local, are_local, asks_closure, asked_target, are_sound}
 use Rattle.update_sequence.proofs.Charts.{folded-keeps}
 use Rattle.update_sequence.proofs.OneName.{ChangedAt, same_name, get-new, vectors-at, features-at}
 
@@ -210,51 +211,193 @@ keeps-all chart after header changes local made =
     folded-keeps (KeepsRecords chart) (λ change. is_local change ≡ true) (λ cell change here local none. keeps-next chart cell change here local none)
     (begun (Some chart) header) after changes (keeps-itself chart header) (each-local changes local) made
 
--- ---- records that no change names
+-- ---- records that stand as before
 
--- a local change of another name leaves the records of a name
-same-next : (chart cell : CellValue) (change : Change) (name : Name) → HasSame chart cell name → is_local change ≡ true → eq_by_cmp name_cmp name change.target ≡ false
-    → HasSame chart (changed cell change) name
-same-next chart cell change name same local apart = record {
-  vector = (vectors-at cell change (local-stays change local)).others name apart ∙ same.vector;
-  feature = (features-at cell change (local-stays change local)).others name apart ∙ same.feature;
+still-itself : {V : Type 0} (Stands : V → V → Type 0) → ((x : V) → Stands x x) → (o : Option V) → StandsStill Stands o o
+still-itself Stands itself None = refl
+still-itself Stands itself (Some x) = itself x
+
+still-same : {V : Type 0} (Stands : V → V → Type 0) → ((x : V) → Stands x x) → (o p : Option V) → p ≡ o →
+    StandsStill Stands o p
+still-same Stands itself o p same = subst (λ q. StandsStill Stands o q) (sym same) (still-itself Stands itself o)
+
+still-then : {V : Type 0} (Stands : V → V → Type 0) → ((x y z : V) → Stands x y → Stands y z → Stands x z) →
+    (o p q : Option V) → StandsStill Stands o p → StandsStill Stands p q → StandsStill Stands o q
+still-then Stands turn None p q one two = subst (λ found. StandsStill Stands found q) one two
+still-then Stands turn (Some x) None q one two = absurd one
+still-then Stands turn (Some x) (Some y) None one two = absurd two
+still-then Stands turn (Some x) (Some y) (Some z) one two = turn x y z one two
+
+shows-itself : (feature : Feature) → ShowsTheSame feature feature
+shows-itself feature = record { prim = refl; pointers = refl }
+
+shows-then : (first second third : Feature) → ShowsTheSame first second → ShowsTheSame second third →
+    ShowsTheSame first third
+shows-then first second third one two = record { prim = two.prim ∙ one.prim; pointers = two.pointers ∙ one.pointers }
+
+stands-begun : (chart : CellValue) (header : Header) (name : Name) →
+    StandsAsBefore chart (begun (Some chart) header) name
+stands-begun chart header name = record {
+  vector = still-itself StandsFor stands-itself (map.get chart.vectors name);
+  feature = still-itself ShowsTheSame shows-itself (map.get chart.features name);
 }
 
--- a record that changes name has no fault, or they leave what is under the name
-named-or-apart : (after : CellValue) (changes : List Change) → AllByRecursion (λ change. IsNone (fault_at after change.target)) changes → (name : Name)
-    → IsNone (fault_at after name) ⊎ AllByRecursion (λ change. eq_by_cmp name_cmp name change.target ≡ false) changes
-named-or-apart after [] sound name = inr tt
-named-or-apart after (change ∷ rest) sound name = by (eq_by_cmp name_cmp name change.target) refl (named-or-apart after rest sound.1 name)
+stands-next : (chart cell after : CellValue) (name : Name) → StandsAsBefore chart cell name →
+    StandsAsBefore cell after name → StandsAsBefore chart after name
+stands-next chart cell after name one two = record {
+  vector = still-then StandsFor stands-then
+      (map.get chart.vectors name) (map.get cell.vectors name) (map.get after.vectors name) one.vector two.vector;
+  feature = still-then ShowsTheSame shows-then
+      (map.get chart.features name) (map.get cell.features name) (map.get after.features name) one.feature two.feature;
+}
+
+-- what a modification leaves under its name
+modified-at : {V : Type 0} (inserted : Change → V) (modified : Change → V → V) (records : map.FinMap name_cmp V)
+    (change : Change) → modifies change ≡ true →
+    map.get (changed_in inserted modified records change) change.target
+    ≡ option_map (modified change) (map.get records change.target)
+modified-at {V} inserted modified records change so =
+    ap (λ (n : ℕ). map.get (if n == 1 then map.insert records change.target (inserted change)
+    else if n == 2 then map.remove records change.target
+    else edited_in (modified change) records change.target) change.target) (eqb-true change.ruin 3 so)
+    ∙ at (map.get records change.target) refl
   where
-    by : (b : Bool) → eq_by_cmp name_cmp name change.target ≡ b → IsNone (fault_at after name) ⊎ AllByRecursion (λ other. eq_by_cmp name_cmp name other.target ≡ false) rest
-        → IsNone (fault_at after name) ⊎ AllByRecursion (λ other. eq_by_cmp name_cmp name other.target ≡ false) (change ∷ rest)
-    by true same later = inl (subst (λ n. IsNone (fault_at after n)) (sym (same_name name change.target same)) sound.0)
-    by false apart (inl none) = inl none
-    by false apart (inr others) = inr (apart, others)
+    at : (o : Option V) → map.get records change.target ≡ o →
+        map.get (edited_at (modified change) records change.target o) change.target ≡ option_map (modified change) o
+    at None there = there
+    at (Some kept) there = get-new records change.target (modified change kept)
 
-each-sound : (after : CellValue) (changes : List Change) → are_sound after changes ≡ true → AllByRecursion (λ change. IsNone (fault_at after change.target)) changes
-each-sound after [] sound = tt
-each-sound after (change ∷ rest) sound =
-    let parts = and_parts (is_none (fault_at after change.target)) (are_sound after rest) sound in
-    (not-true (is_some (fault_at after change.target)) parts.0, each-sound after rest parts.1)
+modified-shows : (change : Change) → is_none change.pointer_edit ≡ true → (o : Option Feature) →
+    StandsStill ShowsTheSame o (option_map (modified_feature change) o)
+modified-shows change edits None = refl
+modified-shows change edits (Some kept) =
+    record { prim = refl; pointers = edited-none change.pointer_edit change.pointers kept.pointers edits }
 
-both : {A : Type 0} (P Q : A → Type 0) (xs : List A) → AllByRecursion P xs → AllByRecursion Q xs → AllByRecursion (λ x. P x × Q x) xs
+-- a change that asks nothing is a modification without an edit of pointers
+asks-nothing : (change : Change) → asks_closure change ≡ false →
+    (modifies change ≡ true) × (is_none change.pointer_edit ≡ true)
+asks-nothing change quiet =
+    let parts = or_parts (not (modifies change)) (is_some change.pointer_edit) quiet in
+    (not-false (modifies change) parts.0, ap not parts.1)
+
+module _ (cell : CellValue) (change : Change) (local : is_local change ≡ true) (none : fault_of cell change ≡ None)
+    (asks : asks_closure change ≡ false) where
+  vector-still : StandsStill StandsFor
+      (map.get cell.vectors change.target) (map.get (changed cell change).vectors change.target)
+  vector-still = by (map.get cell.vectors change.target) refl
+    where
+      gone : (b : Bool) → is_feature change.target ≡ b → map.get cell.vectors change.target ≡ None →
+          map.get (if b
+          then record cell { features = changed_in inserted_feature modified_feature cell.features change }
+          else record cell { vectors = changed_in inserted_vector modified_vector cell.vectors change }).vectors change.target ≡ None
+      gone true so there = there
+      gone false other there =
+          modified-at inserted_vector modified_vector cell.vectors change (asks-nothing change asks).0
+          ∙ ap (option_map (modified_vector change)) there
+
+      by : (o : Option Vector) → map.get cell.vectors change.target ≡ o →
+          StandsStill StandsFor o (map.get (changed cell change).vectors change.target)
+      by None there = gone (is_feature change.target) refl there
+      by (Some vector) there =
+          let after = target-stands cell change local none vector there in
+          subst (λ found. IsSomeAnd found (StandsFor vector)) (sym after.1) after.2
+
+  feature-still : StandsStill ShowsTheSame
+      (map.get cell.features change.target) (map.get (changed cell change).features change.target)
+  feature-still = by (is_feature change.target)
+    where
+      by : (b : Bool) → StandsStill ShowsTheSame (map.get cell.features change.target) (map.get (if b
+          then record cell { features = changed_in inserted_feature modified_feature cell.features change }
+          else record cell { vectors = changed_in inserted_vector modified_vector cell.vectors change }).features change.target)
+      by true =
+          let parts = asks-nothing change asks in
+          subst (λ found. StandsStill ShowsTheSame (map.get cell.features change.target) found)
+          (sym (modified-at inserted_feature modified_feature cell.features change parts.0))
+          (modified-shows change parts.1 (map.get cell.features change.target))
+      by false = still-itself ShowsTheSame shows-itself (map.get cell.features change.target)
+
+-- a change of another name, or one that asks nothing of closure
+abbrev Leaves : Name → Change → Type 0
+Leaves name change = (eq_by_cmp name_cmp name change.target ≡ false) ⊎ (asks_closure change ≡ false)
+
+-- such a change, where it is local, leaves what stands under a name
+left-still : (cell : CellValue) (change : Change) (name : Name) → is_local change ≡ true → fault_of cell change ≡ None →
+    Leaves name change → StandsAsBefore cell (changed cell change) name
+left-still cell change name local none leaves = by (eq_by_cmp name_cmp name change.target) refl leaves
+  where
+    others : eq_by_cmp name_cmp name change.target ≡ false → StandsAsBefore cell (changed cell change) name
+    others apart = record {
+      vector = still-same StandsFor stands-itself
+          (map.get cell.vectors name) (map.get (changed cell change).vectors name)
+          ((vectors-at cell change (local-stays change local)).others name apart);
+      feature = still-same ShowsTheSame shows-itself
+          (map.get cell.features name) (map.get (changed cell change).features name)
+          ((features-at cell change (local-stays change local)).others name apart);
+    }
+
+    by : (b : Bool) → eq_by_cmp name_cmp name change.target ≡ b → Leaves name change →
+        StandsAsBefore cell (changed cell change) name
+    by false apart leaves = others apart
+    by true same (inl apart) = others apart
+    by true same (inr asks) =
+        subst (λ n. StandsAsBefore cell (changed cell change) n) (sym (same_name name change.target same)) (record {
+          vector = vector-still cell change local none asks;
+          feature = feature-still cell change local none asks;
+        })
+
+-- a record has no fault, or all changes leave what is under its name
+sound-or-left : (after : CellValue) (changes : List Change) → are_sound after changes ≡ true → (name : Name) →
+    IsNone (fault_at after name) ⊎ AllByRecursion (Leaves name) changes
+sound-or-left after [] sound name = inr tt
+sound-or-left after (change ∷ rest) sound name =
+    by (asks_closure change) refl sound (λ sound. sound-or-left after rest sound name)
+  where
+    tell : Name → Bool
+    tell name = is_none (fault_at after name)
+
+    left : Leaves name change → IsNone (fault_at after name) ⊎ AllByRecursion (Leaves name) rest →
+        IsNone (fault_at after name) ⊎ AllByRecursion (Leaves name) (change ∷ rest)
+    left leaves (inl none) = inl none
+    left leaves (inr others) = inr (leaves, others)
+
+    looked : (b : Bool) → eq_by_cmp name_cmp name change.target ≡ b → tell change.target ≡ true →
+        IsNone (fault_at after name) ⊎ AllByRecursion (Leaves name) rest →
+        IsNone (fault_at after name) ⊎ AllByRecursion (Leaves name) (change ∷ rest)
+    looked true same none later = inl (subst (λ n. IsNone (fault_at after n)) (sym (same_name name change.target same))
+        (not-true (is_some (fault_at after change.target)) none))
+    looked false apart none later = left (inl apart) later
+
+    by : (b : Bool) → asks_closure change ≡ b →
+        list_all tell (cons_option (when b change.target) (filter_map asked_target rest)) ≡ true →
+        (are_sound after rest ≡ true → IsNone (fault_at after name) ⊎ AllByRecursion (Leaves name) rest) →
+        IsNone (fault_at after name) ⊎ AllByRecursion (Leaves name) (change ∷ rest)
+    by true asks sound later =
+        let parts = and_parts (tell change.target) (are_sound after rest) sound in
+        looked (eq_by_cmp name_cmp name change.target) refl parts.0 (later parts.1)
+    by false asks sound later = left (inr asks) (later sound)
+
+both : {A : Type 0} (P Q : A → Type 0) (xs : List A) → AllByRecursion P xs → AllByRecursion Q xs →
+    AllByRecursion (λ x. P x × Q x) xs
 both P Q [] p q = tt
 both P Q (x ∷ xs) p q = ((p.0, q.0), both P Q xs p.1 q.1)
 
 -- so a closed chart stays closed, by the law of charts
-pub stays-closed : ((before after : CellValue) → IsClosed before → KeepsRecords before after → ((name : Name) → IsNone (fault_at after name) ⊎ HasSame before after name) → IsClosed after)
-    → (chart after : CellValue) (header : Header) (changes : List Change) → IsClosed chart → folded (begun (Some chart) header) changes ≡ Ok after
-    → are_local changes ≡ true → are_sound after changes ≡ true → IsClosed after
+pub stays-closed : ((before after : CellValue) → IsClosed before → KeepsRecords before after →
+    ((name : Name) → IsNone (fault_at after name) ⊎ StandsAsBefore before after name) → IsClosed after) →
+    (chart after : CellValue) (header : Header) (changes : List Change) → IsClosed chart →
+    folded (begun (Some chart) header) changes ≡ Ok after → are_local changes ≡ true → are_sound after changes ≡ true →
+    IsClosed after
 stays-closed law chart after header changes closed made local sound =
-    law chart after closed (keeps-all chart after header changes local made) (λ name. sound-or-same name)
+    law chart after closed (keeps-all chart after header changes local made) (λ name. sound-or-still name)
   where
-    sound-or-same : (name : Name) → IsNone (fault_at after name) ⊎ HasSame chart after name
-    sound-or-same name =
-        elim (named-or-apart after changes (each-sound after changes sound) name) [
+    sound-or-still : (name : Name) → IsNone (fault_at after name) ⊎ StandsAsBefore chart after name
+    sound-or-still name =
+        elim (sound-or-left after changes sound name) [
           | inl none ↦ inl none
-          | inr others ↦ inr (folded-keeps (λ cell. HasSame chart cell name) (λ change. (is_local change ≡ true) × (eq_by_cmp name_cmp name change.target ≡ false))
-              (λ cell change same here none. same-next chart cell change name same here.0 here.1)
-              (begun (Some chart) header) after changes (record { vector = refl; feature = refl })
-              (both (λ change. is_local change ≡ true) (λ change. eq_by_cmp name_cmp name change.target ≡ false) changes (each-local changes local) others) made)
+          | inr left ↦ inr (folded-keeps (λ cell. StandsAsBefore chart cell name)
+              (λ change. (is_local change ≡ true) × Leaves name change)
+              (λ cell change still here none. stands-next chart cell (changed cell change) name still
+              (left-still cell change name here.0 none here.1))
+              (begun (Some chart) header) after changes (stands-begun chart header name)
+              (both (λ change. is_local change ≡ true) (Leaves name) changes (each-local changes local) left) made)
         ]

@@ -1,8 +1,10 @@
 -- A chart that is extended by an update.
-use Rattle.std.specs.Prelude.{Bool, true, not, ◌&&◌, ◌||◌, ◌==◌, List, Option, Some, None, is_none, Result}
-use Rattle.std.specs.List.{list_all}
+use Rattle.std.specs.Prelude.{Bool, true, not, ◌&&◌, ◌||◌, ◌==◌, List, Option, Some, None, is_some, is_none}
+use Rattle.std.specs.Prelude.{Result}
+use Rattle.std.specs.List.{filter_map, list_all}
+use Rattle.chart_model.specs.declared.name.Name.{Name}
 use Rattle.chart_model.specs.declared.update_record.Control.{Control}
-use Rattle.chart_model.specs.Answers.{GivesBy}
+use Rattle.chart_model.specs.Answers.{GivesBy, when}
 use Rattle.chart_model.specs.Codes.{DELETE}
 use Rattle.chart_model.specs.Cell.{CellValue}
 use Rattle.chart_model.specs.Change.{Change}
@@ -30,6 +32,13 @@ is_local change =
 abbrev pub are_local : List Change → Bool
 are_local changes = list_all is_local changes
 
--- no record that a change names has a fault of closure
+-- the changed record itself may get a fault of closure by such a change: it is new, or its pointers are edited
+abbrev pub asks_closure : Change → Bool
+asks_closure change = not (modifies change) || is_some change.pointer_edit
+
+abbrev pub asked_target : Change → Option Name
+asked_target change = when (asks_closure change) change.target
+
+-- no record that may have got a fault of closure has one
 abbrev pub are_sound : CellValue → List Change → Bool
-are_sound chart changes = list_all (λ change. is_none (fault_at chart change.target)) changes
+are_sound chart changes = list_all (λ name. is_none (fault_at chart name)) (filter_map asked_target changes)

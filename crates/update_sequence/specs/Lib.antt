@@ -5,3 +5,4 @@ pub mod Built
 pub mod Rebuilt
 pub mod Sound
 pub mod Extended
+pub mod Others

@@ -10,7 +10,7 @@ use crate::fault::BuildFault;
 use chart_closure::check;
 use chart_model::{Cell, Dataset, Header, UpdateRecord};
 use std::alloc::{AllocError, Global};
-use update_apply::apply_record;
+use update_apply::{Moves, apply_within};
 
 /// The header of a chart after an update: key, agency and scale of the base; edition, update and date
 /// of issue of the update.
@@ -38,7 +38,8 @@ pub(crate) fn begin(alloc: Global, chart: Option<Cell>, header: &Header) -> Cell
     cell
 }
 
-/// Makes the changes, one after the other.
+/// Makes the changes, one after the other. Where they would move more items of lists than the budget of a file has,
+/// memory is wanting.
 #[tactic(auto, unfolding(crate::specs::Built::folded))]
 pub(crate) fn make_all(
     alloc: Global,
@@ -48,8 +49,9 @@ pub(crate) fn make_all(
     ensures { GivesBuilt result (folded cell changes.now) }
 {
     let mut cell = cell;
+    let mut moves = Moves::of_file();
     for change in changes {
-        apply_record(alloc, &mut cell, change)?;
+        apply_within(alloc, &mut cell, change, &mut moves)?;
     }
     Ok(cell)
 }

@@ -1,34 +1,35 @@
 //! A chart that is extended by an update.
 
-ghost use Rattle.std.specs.Prelude.{◌≡◌, ◌↔◌, true, false, map, Contains, is_none, IfOk, OnErr, Some};
-ghost use Rattle.std.specs.List.{list_all};
+ghost use Rattle.std.specs.Prelude.{◌≡◌, ◌↔◌, true, false, Contains, is_none, IfOk, OnErr, Some};
+ghost use Rattle.std.specs.List.{filter_map, list_all};
 ghost use Rattle.std.specs.Option.{option_map};
 ghost use Rattle.chart_closure.specs.Closed.{closure_fault, fault_at, IsClosed};
 ghost use Rattle.chart_model.specs.Answers.{unless};
 ghost use Rattle.update_sequence.specs.declared.fault.BuildFault.TheVariants as of_build;
 ghost use Rattle.update_sequence.specs.Answers.{GivesBuilt};
 ghost use Rattle.update_sequence.specs.Built.{built};
-ghost use Rattle.update_sequence.specs.Extended.{GivesExtended, are_local, are_sound};
+ghost use Rattle.update_sequence.specs.Extended.{GivesExtended, are_local, are_sound, asked_target};
 
 use crate::chart::{begin, make_all};
 use crate::fault::BuildFault;
-use crate::local::are_local;
+use crate::local::{are_local, asked_target};
 use chart_closure::{check, check_at, closed_charts_stay_closed, first_is_least};
 use chart_model::{Cell, Dataset, Name, UpdateRecord};
 use std::alloc::{AllocError, Global};
 
-/// The names of the records that changes change, in the order of the changes.
-fn targets(alloc: Global, changes: &[UpdateRecord]) -> Result<Vec<Name>, AllocError>
-    ensures { IfOk result (λ names. names.items ≡ map (λ change. change.target) changes.now) }
+/// The names of the records that may have got a fault of closure, in the order of the changes.
+fn asked_targets(alloc: Global, changes: &[UpdateRecord]) -> Result<Vec<Name>, AllocError>
+    ensures { IfOk result (λ names. names.items ≡ filter_map asked_target changes.now) }
 {
-    changes.iter().map(|change| change.target).collect(alloc)
+    changes.iter().filter_map(asked_target).collect(alloc)
 }
 
 /// The same, each once: so a record is looked at once, however often it is changed.
-fn changed_names(alloc: Global, changes: &[UpdateRecord]) -> Result<Vec<Name>, AllocError>
-    ensures { IfOk result (λ names. (name : Name) → Contains names.items name ↔ Contains (map (λ change. change.target) changes.now) name) }
+fn asked_names(alloc: Global, changes: &[UpdateRecord]) -> Result<Vec<Name>, AllocError>
+    ensures { IfOk result (λ names. (name : Name) →
+        Contains names.items name ↔ Contains (filter_map asked_target changes.now) name) }
 {
-    let mut names = targets(alloc, changes)?;
+    let mut names = asked_targets(alloc, changes)?;
     names.sort_unstable();
     names.dedup();
     Ok(names)
@@ -41,16 +42,17 @@ fn have_no_fault(chart: &Cell, names: &[Name]) -> bool
     names.iter().all(|name| check_at(chart, *name).is_ok())
 }
 
-/// Whether no record that was changed has a fault of closure.
+/// Whether no record that may have got a fault of closure has one.
 fn are_sound(alloc: Global, chart: &Cell, changes: &[UpdateRecord]) -> Result<bool, AllocError>
     ensures { IfOk result (λ so. so ≡ are_sound chart.now changes.now) }
 {
-    let names = changed_names(alloc, changes)?;
+    let names = asked_names(alloc, changes)?;
     Ok(have_no_fault(chart, names.as_slice()))
 }
 
 /// Finds the fault of a chart that changes have left. Where none of them can break what other records are,
-/// the changed records alone are looked at, unless one of them has a fault: the least has to be told.
+/// the new records and those whose pointers were edited are looked at alone, unless one of them has a
+/// fault: the least has to be told.
 fn check_changed(alloc: Global, chart: &Cell, changes: &[UpdateRecord]) -> Result<(), BuildFault>
     requires { are_local changes.now ≡ true → are_sound chart.now changes.now ≡ true → IsClosed chart.now }
     ensures { GivesExtended result chart.now (unless (option_map of_build.Closure (closure_fault chart.now)) chart.now) }
@@ -64,9 +66,17 @@ fn check_changed(alloc: Global, chart: &Cell, changes: &[UpdateRecord]) -> Resul
     Ok(())
 }
 
-/// The chart that an update makes of a closed one.
+/// Extends a chart by an update: the chart that `build` gives, which shares with this one each record that the
+/// update leaves.
+///
+/// The time is that of the changes and of a pointer for some records, and that of the closure of the whole
+/// chart only where a change can break what other records are, or a changed record has a fault.
+///
+/// # Errors
+///
+/// As `build`.
 #[tactic(auto, unfolding(crate::specs::Built::built))]
-fn extended(alloc: Global, chart: &Cell, dataset: &Dataset) -> Result<Cell, BuildFault>
+pub fn extend(alloc: Global, chart: &Cell, dataset: &Dataset) -> Result<Cell, BuildFault>
     requires stands { dataset.now.cancels ≡ false }
     requires closed { IsClosed chart.now }
     ensures { GivesBuilt result (built (Some chart.now) dataset.now) }
@@ -77,24 +87,4 @@ fn extended(alloc: Global, chart: &Cell, dataset: &Dataset) -> Result<Cell, Buil
     let after = make_all(alloc, first, dataset.changes.as_slice())?;
     check_changed(alloc, &after, dataset.changes.as_slice())?;
     Ok(after)
-}
-
-/// Extends a chart by an update: it becomes the chart that `build` gives. On any refusal it is as it was.
-///
-/// A chart shares its records with its copies, so the time is that of the changes and of a pointer for
-/// some records, and that of the closure of the whole chart only where a change can break what other
-/// records are, or a changed record has a fault.
-///
-/// # Errors
-///
-/// As `build`.
-pub fn extend(alloc: Global, chart: &mut Cell, dataset: &Dataset) -> Result<(), BuildFault>
-    requires stands { dataset.now.cancels ≡ false }
-    requires update { dataset.now.base ≡ false }
-    requires closed { IsClosed chart.old }
-    ensures exact { GivesExtended result chart.new (built (Some chart.old) dataset.now) }
-    ensures err { OnErr result (chart.new ≡ chart.old) }
-{
-    *chart = extended(alloc, chart, dataset)?;
-    Ok(())
 }

@@ -45,7 +45,7 @@ pub fn rebuild<C: Ledger>(
 {
     let mut chart = None;
     for file in files.as_slice() {
-        let Ok(dataset) = read_data_set(alloc, file.as_slice(), steps) else {
+        let Ok(dataset) = read_data_set(alloc, file.get().as_slice(), steps) else {
             return Err(AllocError);
         };
         chart = follow(alloc, chart, &dataset)?;

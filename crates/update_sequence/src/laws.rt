@@ -1,14 +1,16 @@
 //! Laws of the definitions.
 
-ghost use Rattle.std.specs.Prelude.{◌≡◌, ◌≢◌, ℕ, false, List, [], ◌∷◌, ◌++◌, Option, Some, None, Ok, All, IfSome};
+ghost use Rattle.std.specs.Prelude.{◌≡◌, ◌≢◌, ◌⊎◌, ◌↔◌, ℕ, true, false, List, [], ◌∷◌, ◌++◌, Option, Some, None, Ok, All, Contains, map, IfSome};
 ghost use Rattle.std.specs.Option.{option_map};
 ghost use Rattle.std.specs.Result.{IsOk, result_ok};
 ghost use Rattle.chart_closure.specs.Closed.{IsClosed};
+ghost use Rattle.update_sequence.specs.Others.{HasSame};
 ghost use Rattle.chart_model.specs.Answers.{unless};
 ghost use Rattle.chart_model.specs.Cell.{CellValue, IsCell};
 ghost use Rattle.chart_model.specs.Change.{Change, IsChange};
 ghost use Rattle.chart_model.specs.Dataset.{DatasetValue, IsDataset};
 ghost use Rattle.chart_model.specs.State.{IsHolding};
+ghost use Rattle.chart_model.specs.declared.name.Name.{Name};
 ghost use Rattle.chart_model.specs.declared.state.Held.{Held};
 ghost use Rattle.update_sequence.specs.Reading.{data_set_in};
 ghost use Rattle.update_apply.specs.Changed.{changed};
@@ -18,7 +20,7 @@ ghost use Rattle.update_sequence.specs.Built.{built, folded, folded_after, heade
 ghost use Rattle.update_sequence.specs.Judged.{judged};
 ghost use Rattle.update_sequence.specs.declared.effect.Effect.TheVariants.{Replace, Extend, Cancel};
 ghost use Rattle.update_sequence.specs.Rebuilt.{chart_after, held_after, held_by, rebuilt, numbers_of, cancelled};
-ghost use Rattle.update_sequence.specs.Sound.{Follows, IsSoundList, IsFileOf, Leaves};
+ghost use Rattle.update_sequence.specs.Sound.{Follows, IsSoundList, IsFileOf, Leaves, is_sound};
 
 use chart_closure::first_is_least;
 use s57_records::{changes_are_kept, data_sets_are_kept};
@@ -73,6 +75,11 @@ pub fn sound_lists_grow()
     ensures before { (key : List ℕ) (files rest : List (List ℕ)) → files ≢ [] → IsSoundList key (files ++ rest) → IsSoundList key files }
 {}
 
+/// What the test of lists says is whether they are sound.
+pub fn sound_lists_are_tested()
+    ensures { (key : List ℕ) (files : List (List ℕ)) → (is_sound key files ≡ true) ↔ IsSoundList key files }
+{}
+
 /// What is live once a file is taken over: a base file stands alone, any other follows those before it.
 /// The files are a sound list, and what they leave is the held numbers and the chart of the file's effect.
 pub fn accepted_files_follow()
@@ -109,4 +116,10 @@ pub fn changes_are_made_in_turn()
     ensures none { (cell : CellValue) → folded cell [] ≡ Ok cell }
     ensures one { (cell : CellValue) (change : Change) → folded cell (change ∷ []) ≡ unless (option_map of_build.Change (fault_of cell change)) (changed cell change) }
     ensures turn { (cell : CellValue) (first rest : List Change) → folded cell (first ++ rest) ≡ folded_after (folded cell first) rest }
+{}
+
+/// A change of an update names a record, or the record is as it was.
+pub fn other_records_stay()
+    ensures { (chart after : CellValue) (dataset : DatasetValue) (name : Name) → built (Some chart) dataset ≡ Ok after →
+        Contains (map (λ change. change.target) dataset.changes) name ⊎ HasSame chart after name }
 {}

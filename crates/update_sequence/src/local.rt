@@ -1,10 +1,10 @@
-//! Changes that can't break what other records are.
+//! What changes can do to the closure of a chart.
 
 ghost use Rattle.std.specs.Prelude.{◌≡◌};
-ghost use Rattle.update_sequence.specs.Extended.{keeps_coords, is_local, are_local};
+ghost use Rattle.update_sequence.specs.Extended.{asked_target, keeps_coords, is_local, are_local};
 
 use chart_model::codes::{DELETE, FEATURE, INSERT, MODIFY};
-use chart_model::{Control, UpdateRecord};
+use chart_model::{Control, Name, UpdateRecord};
 
 /// Whether an edit of coordinates takes none away.
 fn keeps_coords(edit: Option<Control>) -> bool
@@ -36,4 +36,16 @@ pub(crate) fn are_local(changes: &[UpdateRecord]) -> bool
     ensures { result ≡ are_local changes.now }
 {
     changes.iter().all(is_local)
+}
+
+/// The changed record, where it may itself get a fault of closure by such a change: it is new, or its
+/// pointers are edited.
+pub(crate) fn asked_target(change: &UpdateRecord) -> Option<Name>
+    ensures { result ≡ asked_target change.now }
+{
+    if change.ruin != MODIFY || change.pointer_edit.is_some() {
+        Some(change.target)
+    } else {
+        None
+    }
 }

@@ -54,7 +54,7 @@ fn full_state(alloc: Global, header: Header) -> Result<State, AllocError>
         cancelled: false,
     };
     let mut files = FileList::new(alloc);
-    files.push(Octets::from_vec(Vec::new(alloc)))?;
+    files.push(Shared::of(alloc, Octets::from_vec(Vec::new(alloc)))?)?;
     let chart = Some(full_cell(alloc, header)?);
     let mut cells = HoldingMap::new(alloc);
     cells.insert(header.key, Holding { held, files, chart })?;

@@ -45,49 +45,44 @@ pub(crate) fn seen(chart: &Cell) -> Seen {
     )
 }
 
-/// Extends the chart by an update with these data records, and tells what came of it.
-fn extended(alloc: Global, records: &[&[u8]]) -> Result<(Result<(), BuildFault>, Seen), Fail> {
-    let mut chart = base_chart(alloc)?;
+/// The chart extended by an update with these data records, or why it isn't.
+fn extended(alloc: Global, records: &[&[u8]]) -> Result<Result<Seen, BuildFault>, Fail> {
+    let chart = base_chart(alloc)?;
     let dataset = data_set_of(alloc, records)?;
     if dataset.cancels || dataset.base {
         return Err("it is an update".into());
     }
-    let done = extend(alloc, &mut chart, &dataset);
-    Ok((done, seen(&chart)))
+    match extend(alloc, &chart, &dataset) {
+        Ok(after) => Ok(Ok(seen(&after))),
+        Err(fault) => Ok(Err(fault)),
+    }
 }
 
 #[test]
 fn a_chart_is_extended(rt: HostRuntime) -> Result<(), Fail> {
     let alloc = rt.alloc();
-    assert_eq!(rt;
-        extended(alloc, &[GENERAL, MOVED])?,
-        (Ok(()), (1, 1, 1, Some(8)))
-    );
+    assert_eq!(rt; extended(alloc, &[GENERAL, MOVED])?, Ok((1, 1, 1, Some(8))));
     assert_eq!(rt;
         extended(alloc, &[GENERAL, MOVED, SECOND, POINTING])?,
-        (Ok(()), (1, 2, 2, Some(8)))
+        Ok((1, 2, 2, Some(8)))
     );
     Ok(())
 }
 
 #[test]
-fn a_refused_update_leaves_the_chart(rt: HostRuntime) -> Result<(), Fail> {
+fn an_update_is_refused(rt: HostRuntime) -> Result<(), Fail> {
     let alloc = rt.alloc();
-    let before = (0, 1, 1, Some(100));
     let present = BuildFault::Change(ChangeFault::Present { name: NODE });
-    assert_eq!(rt;
-        extended(alloc, &[GENERAL, MOVED, INSERTED])?,
-        (Err(present), before)
-    );
+    assert_eq!(rt; extended(alloc, &[GENERAL, MOVED, INSERTED])?, Err(present));
     let dangling = ClosureFault::Dangling(Name { rcnm: 100, rcid: 2 }, Name { rcnm: 110, rcid: 2 });
     assert_eq!(rt;
         extended(alloc, &[GENERAL, MOVED, POINTING])?,
-        (Err(BuildFault::Closure(dangling)), before)
+        Err(BuildFault::Closure(dangling))
     );
     let lost = ClosureFault::Dangling(Name { rcnm: 100, rcid: 1 }, NODE);
     assert_eq!(rt;
         extended(alloc, &[GENERAL, DELETED])?,
-        (Err(BuildFault::Closure(lost)), before)
+        Err(BuildFault::Closure(lost))
     );
     Ok(())
 }
@@ -113,7 +108,7 @@ fn a_chart_is_built_on_another(rt: HostRuntime) -> Result<(), Fail> {
     ];
     for (records, wanted) in table {
         assert_eq!(rt; built(alloc, records)?, wanted);
-        assert_eq!(rt; extended(alloc, records)?, (Ok(()), wanted));
+        assert_eq!(rt; extended(alloc, records)?, Ok(wanted));
     }
     Ok(())
 }

@@ -8,7 +8,7 @@ ghost use Rattle.update_sequence.specs.Sound.{Leaves};
 use super::charts::{Seen, seen};
 use super::files::{BASE, CANCELLING, GENERAL, MOVED, NEXT, POINTING, SECOND, file_of};
 use crate::{Effect, accepted_files_follow, build, judge, read_data_set, rebuild};
-use chart_model::{Cell, Dataset, FileList, Header, Held, Key, Octets};
+use chart_model::{Cell, Dataset, FileList, Header, Held, Key, Octets, Shared};
 use chart_ports::Steps;
 use std::alloc::Global;
 use std::marker::Brand;
@@ -61,7 +61,7 @@ fn first<C: Ledger>(
     let effect = judge(None, &dataset)?;
     let cell = build(alloc, None, &dataset)?;
     let mut files = FileList::new(alloc);
-    files.push(Octets::from_vec(bytes))?;
+    files.push(Shared::of(alloc, Octets::from_vec(bytes))?)?;
     match effect {
         Effect::Replace => Ok(Taken {
             files,
@@ -91,7 +91,7 @@ fn next<C: Ledger>(
     }
     let effect = judge(Some(&held), &dataset)?;
     let mut files = files;
-    files.push(Octets::from_vec(bytes))?;
+    files.push(Shared::of(alloc, Octets::from_vec(bytes))?)?;
     match effect {
         Effect::Extend => {
             if dataset.cancels || dataset.base || chart.is_none() {

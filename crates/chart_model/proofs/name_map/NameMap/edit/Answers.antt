@@ -1,8 +1,8 @@
-use Rattle.std.proofs.Common.{ap, sym, ◌∙◌, subst, IfSome}
+use Rattle.std.proofs.Common.{◌≡◌, ap, sym, ◌∙◌, subst, IfSome}
 use Rattle.std.specs.FinMap as map
 use Rattle.chart_model.specs.Names.{edited_in}
 use Rattle.chart_model.specs.Pages.{names_of, IsPaged}
-use Rattle.chart_model.proofs.Outcomes.{on-ok, on-either}
+use Rattle.chart_model.proofs.Outcomes.{on-ok, on-either, some-then}
 use Rattle.chart_model.proofs.Pages.{get-names, placed, on_page, fits-on-page, edit-here, len-edited}
 use Rattle.chart_model.proofs.name_map.NameMap.edit.Goals as goal
 
@@ -11,8 +11,10 @@ edit-requires-clause-fits g c =
     let is = ap (λ m. map.get m c.args.name) (sym c.self.view_is)
     ∙ get-names c.self.inside.pages (placed c.self.inside.pages c.self.invariant.each) c.args.name
     ∙ ap (λ p. on_page c.args.name (map.get c.self.inside.pages p)) (sym c.of.ensures) in
-    fits-on-page (g.E.Edit.fits c.args.by) c.args.name (map.get c.self.inside.pages c.of.result)
-    (subst (λ o. IfSome o (g.E.Edit.fits c.args.by)) is c.requires.fits)
+    let Fits = λ (value : g.row.V.Denot). ((x y : g.row.V.Denot) → g.V.Clone.is_clone x y → y ≡ x) × g.E.Edit.fits c.args.by value in
+    fits-on-page Fits c.args.name (map.get c.self.inside.pages c.of.result)
+    (subst (λ o. IfSome o Fits) is
+    (some-then (g.E.Edit.fits c.args.by) Fits (λ value fits. (c.requires.exact, fits)) (map.get c.args.self.now c.args.name) c.requires.fits))
 
 pub invariant_of-self : goal.invariant_of-self
 invariant_of-self g c =

@@ -9,6 +9,6 @@ invariant_of-self-2 g c = record {
   counted =
       c.in_ok-count.ensures
       ∙ ap (λ m. cond (map.contains_key m c.args.name) (map.len m) (map.len m + 1)) (sym c.self.view_is)
-      ∙ sym (map.len-insert name_cmp-total _ c.args.name c.args.value)
+      ∙ sym (map.len-insert name_cmp-total _ c.args.name c.in_ok-value.value)
       ∙ ap map.len (sym c.in_ok-put.ensures.ok);
 }

@@ -8,7 +8,8 @@ use Rattle.chart_model.proofs.tests.copies.full_state.Goals as goal
 
 pub invariant_of-result : goal.invariant_of-result
 invariant_of-result c =
-    let files = c.in_ok-push.ensures.ok ∙ ap (λ (l : List (List ℕ)). l ++ c.from_vec.result ∷ []) c.new-files.ensures ∙ ap (λ (file : List ℕ). file ∷ []) (c.from_vec.ensures ∙ c.new.ensures.items) in
+    let files = c.in_ok-push.ensures.ok ∙ ap (λ (l : List (List ℕ)). l ++ c.in_ok-of.field-0 ∷ []) c.new-files.ensures
+    ∙ ap (λ (file : List ℕ). file ∷ []) (c.in_ok-of.ensures ∙ c.from_vec.ensures ∙ c.new.ensures.items) in
     record {
       cells = subst (Each IsHolding) (sym c.in_ok-insert.ensures.ok)
           (each-insert key_cmp-total key_cmp-IsAntisymmetric IsHolding c.new-cells.result _ _ (subst (Each IsHolding) (sym c.new-cells.ensures) (each-empty key_cmp IsHolding)) (record {

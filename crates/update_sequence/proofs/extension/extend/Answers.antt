@@ -2,7 +2,7 @@ use Rattle.std.proofs.Common.{◌≡◌, Some, sym, ◌∙◌, ap}
 use Rattle.chart_model.specs.Cell.{CellValue}
 use Rattle.update_sequence.specs.Built.{begun, folded}
 use Rattle.update_sequence.proofs.LocalChanges.{stays-closed}
-use Rattle.update_sequence.proofs.extension.extended.Goals as goal
+use Rattle.update_sequence.proofs.extension.extend.Goals as goal
 
 pub check_changed-requires : goal.check_changed-requires
 check_changed-requires c =

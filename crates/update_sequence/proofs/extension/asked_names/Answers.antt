@@ -5,7 +5,7 @@ use Rattle.std.proofs.lemmas.List.Kept.{Contains-dedup, Contains-from_dedup}
 use Rattle.std.proofs.lemmas.List.Sorted.{Contains-permutation, IsPermutation-sym}
 use Rattle.chart_model.specs.declared.name.Name.{Name}
 use Rattle.update_sequence.proofs.NameLists.{name_eq, name_eq-IsEquivalence, name_eq-same}
-use Rattle.update_sequence.proofs.extension.changed_names.Goals as goal
+use Rattle.update_sequence.proofs.extension.asked_names.Goals as goal
 
 pub returns : goal.returns
 returns c =

@@ -1,0 +1,3 @@
+mod Decided
+mod Names
+mod Texts

@@ -1,0 +1,110 @@
+//! The names whose records differ.
+
+ghost use Rattle.std.specs.Prelude.{◌≡◌, ◌++◌, IfOk, OnOk};
+ghost use Rattle.std.specs.List.{filter};
+ghost use Rattle.std.specs.Option.{option_copied};
+ghost use Rattle.std.specs.FinMap as map;
+ghost use Rattle.chart_difference.specs.Same.{differ};
+ghost use Rattle.chart_difference.specs.Difference.{AreChanged, HasAll, vector_in, feature_in, names_in};
+
+use crate::same::{same_features, same_vectors};
+use chart_model::{Cell, Feature, Name, NameList, NameMap, Vector};
+use std::alloc::{AllocError, Global};
+
+/// The vector record under a name: none where there is no chart.
+fn vector_in(chart: Option<&Cell>, name: Name) -> Option<&Vector>
+    ensures { option_copied result ≡ vector_in (option_copied chart.entry) name }
+{
+    match chart {
+        Some(cell) => cell.vectors.get(name),
+        None => None,
+    }
+}
+
+/// The feature record under a name: none where there is no chart.
+fn feature_in(chart: Option<&Cell>, name: Name) -> Option<&Feature>
+    ensures { option_copied result ≡ feature_in (option_copied chart.entry) name }
+{
+    match chart {
+        Some(cell) => cell.features.get(name),
+        None => None,
+    }
+}
+
+/// Whether the records under a name differ.
+fn differ(old: Option<&Cell>, new: Option<&Cell>, name: Name) -> bool
+    ensures { result ≡ differ (option_copied old.entry) (option_copied new.entry) name }
+{
+    !same_vectors(vector_in(old, name), vector_in(new, name))
+        || !same_features(feature_in(old, name), feature_in(new, name))
+}
+
+/// The names, of these, whose records differ.
+fn keep_changed(
+    alloc: Global,
+    old: Option<&Cell>,
+    new: Option<&Cell>,
+    names: Vec<Name>,
+) -> Result<NameList, AllocError>
+    ensures { IfOk result (λ kept. kept ≡ filter (differ (option_copied old.entry) (option_copied new.entry)) names.items) }
+{
+    let mut kept = NameList::new(alloc);
+    for name in names {
+        if differ(old, new, name) {
+            kept.push(name)?;
+        }
+    }
+    Ok(kept)
+}
+
+/// Of names that have all those whose records differ, these, in order and each once.
+pub fn changed_among(
+    alloc: Global,
+    old: Option<&Cell>,
+    new: Option<&Cell>,
+    names: Vec<Name>,
+) -> Result<NameList, AllocError>
+    requires { HasAll (option_copied old) (option_copied new) names.items }
+    ensures { IfOk result (AreChanged (option_copied old.entry) (option_copied new.entry)) }
+{
+    let mut names = names;
+    names.sort_unstable();
+    names.dedup();
+    keep_changed(alloc, old, new, names)
+}
+
+/// Adds the names of records.
+fn push_names<V: Drop>(names: &mut Vec<Name>, records: &NameMap<V>) -> Result<(), AllocError>
+    ensures { OnOk result (names.new.items ≡ names.old.items ++ map.keys records.now) }
+{
+    for (name, _) in records.iter() {
+        names.push(*name)?;
+    }
+    Ok(())
+}
+
+/// Adds the names of a chart's records: none where there is no chart.
+fn push_all(names: &mut Vec<Name>, chart: Option<&Cell>) -> Result<(), AllocError>
+    ensures { OnOk result (names.new.items ≡ names.old.items ++ names_in (option_copied chart.entry)) }
+{
+    if let Some(cell) = chart {
+        push_names(names, &cell.vectors)?;
+        push_names(names, &cell.features)?;
+    }
+    Ok(())
+}
+
+/// The names whose records differ between two charts of a cell, in order: those that were put, changed or
+/// taken out. Where there is no chart there is no record.
+pub fn changed_names(
+    alloc: Global,
+    old: Option<&Cell>,
+    new: Option<&Cell>,
+) -> Result<NameList, AllocError>
+    ensures { IfOk result (AreChanged (option_copied old.entry) (option_copied new.entry)) }
+{
+    let mut names = Vec::new(alloc);
+    push_all(&mut names, old)?;
+    push_all(&mut names, new)?;
+    changed_among(alloc, old, new, names)
+}

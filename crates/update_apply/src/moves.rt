@@ -1,0 +1,69 @@
+//! How many items of lists the changes of a file may move.
+//!
+//! An edit of a list moves the items behind its place, so that a small file, which edits a long list again
+//! and again, can ask for more work than there is time for. No file that was made from a chart comes near
+//! the budget.
+
+use crate::judge::Kept;
+use chart_model::codes::MODIFY;
+use chart_model::{Control, UpdateRecord};
+use std::alloc::AllocError;
+
+/// The items that are moved for any file.
+const BUDGET: usize = 536_870_912;
+
+/// So many settings at most are done in their places, where each may move all attributes. More are merged.
+const FEW: usize = 32;
+
+/// How many more items are moved for a file.
+#[derive(Debug, Drop)]
+pub struct Moves {
+    left: usize,
+}
+
+impl Moves {
+    /// The budget of a file.
+    pub fn of_file() -> Moves {
+        Moves { left: BUDGET }
+    }
+
+    /// Takes what a change may move of the record that is kept under its name.
+    ///
+    /// # Errors
+    ///
+    /// `AllocError` where less is left.
+    pub(crate) fn take(
+        &mut self,
+        kept: Option<Kept>,
+        change: &UpdateRecord,
+    ) -> Result<(), AllocError> {
+        if let Some(kept) = kept
+            && change.ruin == MODIFY
+        {
+            self.left = self
+                .left
+                .checked_sub(moved(&kept, change))
+                .ok_or(AllocError)?;
+        }
+        Ok(())
+    }
+}
+
+/// The items of a list, where it is edited.
+fn edited(edit: Option<Control>, length: usize) -> usize {
+    match edit {
+        Some(_) => length,
+        None => 0,
+    }
+}
+
+/// The items that a modification may move: those of the lists that it edits, and the attributes for each that it
+/// sets.
+fn moved(kept: &Kept, change: &UpdateRecord) -> usize {
+    let settings = change.attrs.as_slice().len().min(FEW);
+    kept.attrs
+        .saturating_mul(settings)
+        .saturating_add(edited(change.pointer_edit, kept.pointers))
+        .saturating_add(edited(change.coord_edit, kept.coords))
+        .saturating_add(edited(change.related_edit, kept.related))
+}
