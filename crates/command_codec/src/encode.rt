@@ -1,9 +1,11 @@
 //! Bytes of commands.
 
 ghost use Rattle.std.specs.Prelude.{◌≡◌, ◌≤◌, ◌∷◌, ◌++◌, length, IfOk};
+ghost use Rattle.std.specs.Int.{w32, to_be_bytes};
 ghost use Rattle.command_codec.specs.Spelling.{spelling, IsWithinLimit, Spells};
 
 use crate::first_byte::{DROPS, LOADS, ROLLS_BACK};
+use byteorder::{BigEndian, ByteOrder};
 use chart_model::{Command, Octets};
 use std::alloc::{AllocError, Global};
 
@@ -20,6 +22,15 @@ fn joined(alloc: Global, first: u8, number: &[u8], rest: &[u8]) -> Result<Octets
     Ok(Octets::from_vec(bytes))
 }
 
+/// The bytes of a number, the most significant first.
+fn number_bytes(number: u32) -> [u8; 4]
+    ensures { result ≡ to_be_bytes w32 number }
+{
+    let mut bytes = [0; 4];
+    BigEndian::write_u32(&mut bytes, number);
+    bytes
+}
+
 /// The bytes that spell a command. A file in it has at most 8,388,608 bytes.
 pub fn encode_command(alloc: Global, command: &Command) -> Result<Octets, AllocError>
     requires { IsWithinLimit command.now }
@@ -29,7 +40,7 @@ pub fn encode_command(alloc: Global, command: &Command) -> Result<Octets, AllocE
     match command {
         Command::Load(file) => joined(alloc, LOADS, &[], file.as_slice()),
         Command::Rollback(key, update) => {
-            joined(alloc, ROLLS_BACK, &update.to_be_bytes(), key.as_slice())
+            joined(alloc, ROLLS_BACK, &number_bytes(*update), key.as_slice())
         }
         Command::Drop(key) => joined(alloc, DROPS, &[], key.as_slice()),
     }
