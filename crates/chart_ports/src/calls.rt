@@ -1,6 +1,6 @@
 //! The calls of a form in memory: which are to fail, how many were made, and how many failed.
 
-ghost use Rattle.std.specs.Prelude.{◌≡◌, ◌≤◌, ◌↔◌, IsTrue, IsErr, Contains, []};
+ghost use Rattle.std.specs.Prelude.{◌≡◌, ◌≤◌, ◌↔◌, IsTrue, IsErr, OnOk, Contains, []};
 ghost use Rattle.chart_ports.specs.Count.{HasCause, Rose};
 
 use crate::source::Failed;
@@ -58,7 +58,7 @@ pub struct Calls {
 }
 
 impl Calls {
-    ghost use Rattle.chart_ports.specs.Calls.{IsNew, CountsCall, CountsFault};
+    ghost use Rattle.chart_ports.specs.Calls.{IsNew, IsToFail, CountsCall, CountsDeskCall, CountsFault};
 
     /// No call yet.
     pub fn new(failing: FailingCalls) -> Calls
@@ -78,6 +78,31 @@ impl Calls {
     {
         self.made = self.made.saturating_add(1);
         if self.failing.contains(self.made) {
+            return Err(self.count_fault());
+        }
+        Ok(())
+    }
+
+    /// Whether the next call is to fail.
+    pub fn next_fails(&self) -> bool
+        ensures { IsTrue result ↔ IsToFail self.now }
+    {
+        self.failing.contains(self.made.saturating_add(1))
+    }
+
+    /// Counts a call. It fails, and counts a fault, where it is on the list or was refused for want
+    /// of memory or of the place that it speaks of.
+    pub fn end(&mut self, listed: bool, done: bool) -> Result<(), Failed>
+        ensures counted { CountsDeskCall self.old self.new (IsErr result) }
+        ensures cause { HasCause self.old.faults self.new.faults result }
+        ensures listed { IsTrue listed → IsErr result }
+        ensures refused { ¬ IsTrue done → IsErr result }
+        ensures not_listed { OnOk result (¬ IsTrue listed) }
+        ensures done { OnOk result (IsTrue done) }
+        ensures err { IsErr result → IsTrue done → IsTrue listed }
+    {
+        self.made = self.made.saturating_add(1);
+        if listed || !done {
             return Err(self.count_fault());
         }
         Ok(())

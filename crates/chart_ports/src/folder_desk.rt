@@ -1,53 +1,43 @@
-//! The desk of a folder: what is said goes to standard output.
+//! The desk of a folder: the files of a store, and what is said on standard output.
 
-ghost use Rattle.std.specs.Prelude.{◌≡◌, [], false, OnErr, OnOk};
-ghost use Rattle.std.specs.Io.KnownBytes.{Appends};
-ghost use Rattle.chart_ports.specs.Count.{HasCause, one_more};
+ghost use Rattle.std.specs.Prelude.{◌≡◌, ◌≤◌, ⊤, [], false, IsTrue, IfOk, OnErr, OnOk, Ok, length};
+ghost use Rattle.std.proofs.Common.{refl};
+ghost use Rattle.chart_ports.specs.Count.{HasCause, Rose, one_more};
 
 use crate::desk::Desk;
+use crate::pieces::write_pieces;
 use crate::source::Failed;
+use crate::store_files::{StoreFiles, open_files};
 use std::io;
-use std::io::{ErrorKind, Write};
+use std::rt::Files;
 
-// How many signals in all may interrupt the writes of one call before that counts as a fault.
-const INTERRUPTIONS: u8 = 64;
-
-/// The desk of a folder, which says on standard output. It tells contracts nothing of what was said.
+/// The desk of a folder: the files `head`, `bank1` and `bank2` of the folder `chart-store` under the
+/// current one, and standard output, on which it says. It tells contracts nothing of either.
 ///
-/// A write that takes nothing is a fault; one that a signal interrupts is tried again.
+/// The first call on a file makes the folder and the files that aren't there, and opens all three;
+/// they are kept open. Whatever the system refuses is a fault, and so is a write that takes nothing, a
+/// place at 2^63 or behind it, and a sync after which the file isn't found in the folder. A read or a
+/// write that a signal interrupts is tried again, and one that moves a part goes on.
 #[derive(Drop)]
-pub struct FolderDesk<R> {
+pub struct FolderDesk<R: Files> {
     rt: R,
+    files: Option<StoreFiles<R::File>>,
     faults: u64,
 }
 
-// Writes all of the bytes, in order, a piece at a time.
-fn write_pieces<W: Write>(to: &mut W, bytes: &[u8]) -> io::Result<()>
-    ensures { OnOk result (Appends (W.contents to.old) (W.contents to.new) bytes.now) }
-{
-    let mut rest = bytes;
-    let mut interruptions_left = INTERRUPTIONS;
-    while !rest.is_empty() {
-        match to.write(rest) {
-            Ok(0) => return Err(ErrorKind::WriteZero.into()),
-            Ok(count) => rest = &rest[count..],
-            Err(error) if error.kind() == ErrorKind::Interrupted && interruptions_left > 0 => {
-                interruptions_left -= 1;
-            }
-            Err(error) => return Err(error),
-        }
-    }
-    Ok(())
-}
+impl<R: Print + Files> FolderDesk<R> {
+    ghost use Rattle.chart_ports.specs.FolderDesk.{faults_of, is_open};
 
-impl<R: Print> FolderDesk<R> {
-    ghost use Rattle.chart_ports.specs.FolderDesk.{faults_of};
-
-    /// The desk of the current folder.
+    /// The desk of the current folder. Nothing is made or opened yet.
     pub fn new(rt: R) -> FolderDesk<R>
-        ensures { faults_of result ≡ 0 }
+        ensures faults { faults_of result ≡ 0 }
+        ensures closed { is_open result ≡ false }
     {
-        FolderDesk { rt, faults: 0 }
+        FolderDesk {
+            rt,
+            files: None,
+            faults: 0,
+        }
     }
 
     /// How many calls have failed. At 2^64 - 1 the number stays.
@@ -56,28 +46,131 @@ impl<R: Print> FolderDesk<R> {
     {
         self.faults
     }
+
+    // Counts a fault, and gives the error that says so.
+    fn count_fault(&mut self) -> Failed
+        ensures counted { faults_of self.new ≡ one_more (faults_of self.old) }
+        ensures rose { Rose (faults_of self.old) (faults_of self.new) }
+        ensures later { faults_of self.old ≤ faults_of self.new }
+        ensures as_open { is_open self.new ≡ is_open self.old }
+    {
+        self.faults = self.faults.saturating_add(1);
+        Failed
+    }
+
+    // Makes a call on the files, which the first one opens. A failure is counted.
+    fn on_files<T, C: FnOnce(&R, &mut StoreFiles<R::File>) -> io::Result<T>>(
+        &mut self,
+        call: C,
+    ) -> Result<T, Failed>
+        requires { C.IsAlwaysCallable call }
+        ensures answer { IfOk result (λ answer. (rt : _) × (old : _) × (new : _) × C.post call rt old (Ok answer) new) }
+        ensures opened { OnOk result (IsTrue (is_open self.new)) }
+        ensures kept { IsTrue (is_open self.old) → IsTrue (is_open self.new) }
+        ensures cause { HasCause (faults_of self.old) (faults_of self.new) result }
+        ensures counted { OnErr result (faults_of self.new ≡ one_more (faults_of self.old)) }
+        ensures steady { OnOk result (faults_of self.new ≡ faults_of self.old) }
+    {
+        let rt = &self.rt;
+        if let Ok(files) = self.files.get_or_try_insert_with(|| open_files(rt)) {
+            if let Ok(answer) = call(rt, files) {
+                return Ok(answer);
+            }
+        }
+        Err(self.count_fault())
+    }
 }
 
-impl<R: Print> Desk for FolderDesk<R> {
-    ghost use Rattle.chart_ports.specs.FolderDesk.{faults_of};
+impl<R: Print + Files> Desk for FolderDesk<R> {
+    ghost use Rattle.chart_ports.specs.FolderDesk.{faults_of, is_open};
 
     ghost tells = { false };
 
+    ghost contents = { λ _ _. [] };
+
+    ghost may_leave = { λ _ _ _. ⊤ };
+
     ghost said = { λ _. [] };
+
+    ghost clock = { λ _. 0 };
+
+    ghost might = { λ _ _ _ said. said ≡ [] };
 
     ghost faults = { faults_of };
 
+    fn length(&mut self, file: u8) -> Result<u64, Failed>
+        ensures is_file { OnOk result (file ≤ 2) }
+        ensures opened { OnOk result (IsTrue (is_open self.new)) }
+        ensures kept { IsTrue (is_open self.old) → IsTrue (is_open self.new) }
+        ensures cause { HasCause (faults_of self.old) (faults_of self.new) result }
+        ensures counted { OnErr result (faults_of self.new ≡ one_more (faults_of self.old)) }
+        ensures steady { OnOk result (faults_of self.new ≡ faults_of self.old) }
+    {
+        self.on_files(|_, files| files.length(file))
+    }
+
+    fn read_at(&mut self, file: u8, at: u64, buf: &mut [u8]) -> Result<usize, Failed>
+        ensures is_file { OnOk result (file ≤ 2) }
+        ensures within { IfOk result (λ n. n ≤ length buf.old) }
+        ensures opened { OnOk result (IsTrue (is_open self.new)) }
+        ensures kept { IsTrue (is_open self.old) → IsTrue (is_open self.new) }
+        ensures cause { HasCause (faults_of self.old) (faults_of self.new) result }
+        ensures counted { OnErr result (faults_of self.new ≡ one_more (faults_of self.old)) }
+        ensures steady { OnOk result (faults_of self.new ≡ faults_of self.old) }
+    {
+        self.on_files(|_, files| files.read_at(file, at, buf))
+    }
+
+    fn write_at(&mut self, file: u8, at: u64, bytes: &[u8]) -> Result<(), Failed>
+        ensures is_file { OnOk result (file ≤ 2) }
+        ensures opened { OnOk result (IsTrue (is_open self.new)) }
+        ensures kept { IsTrue (is_open self.old) → IsTrue (is_open self.new) }
+        ensures cause { HasCause (faults_of self.old) (faults_of self.new) result }
+        ensures counted { OnErr result (faults_of self.new ≡ one_more (faults_of self.old)) }
+        ensures steady { OnOk result (faults_of self.new ≡ faults_of self.old) }
+    {
+        self.on_files(|_, files| files.write_at(file, at, bytes))
+    }
+
+    fn cut(&mut self, file: u8, length: u64) -> Result<(), Failed>
+        ensures is_file { OnOk result (file ≤ 2) }
+        ensures opened { OnOk result (IsTrue (is_open self.new)) }
+        ensures kept { IsTrue (is_open self.old) → IsTrue (is_open self.new) }
+        ensures cause { HasCause (faults_of self.old) (faults_of self.new) result }
+        ensures counted { OnErr result (faults_of self.new ≡ one_more (faults_of self.old)) }
+        ensures steady { OnOk result (faults_of self.new ≡ faults_of self.old) }
+    {
+        self.on_files(|_, files| files.cut(file, length))
+    }
+
+    fn sync(&mut self, file: u8) -> Result<(), Failed>
+        ensures is_file { OnOk result (file ≤ 2) }
+        ensures opened { OnOk result (IsTrue (is_open self.new)) }
+        ensures kept { IsTrue (is_open self.old) → IsTrue (is_open self.new) }
+        ensures cause { HasCause (faults_of self.old) (faults_of self.new) result }
+        ensures counted { OnErr result (faults_of self.new ≡ one_more (faults_of self.old)) }
+        ensures steady { OnOk result (faults_of self.new ≡ faults_of self.old) }
+    {
+        self.on_files(|rt, files| files.sync(rt, file))
+    }
+
     fn say(&mut self, bytes: &[u8]) -> Result<(), Failed>
+        // What is said opens no file, and so makes none.
+        ensures as_open { is_open self.new ≡ is_open self.old }
+
         ensures cause { HasCause (faults_of self.old) (faults_of self.new) result }
         ensures counted { OnErr result (faults_of self.new ≡ one_more (faults_of self.old)) }
         ensures steady { OnOk result (faults_of self.new ≡ faults_of self.old) }
     {
         match write_pieces(&mut io::writer(&self.rt), bytes) {
             Ok(()) => Ok(()),
-            Err(_) => {
-                self.faults = self.faults.saturating_add(1);
-                Err(Failed)
-            }
+            Err(_) => Err(self.count_fault()),
         }
     }
+
+    ghost present = { λ _ _ _. tt };
+
+    ghost counts_now = { λ _ _ _ _ _ _. refl };
+
+    ghost only_now = { λ _ _ _ _ same. (λ _. tt, same) };
 }

@@ -11,13 +11,20 @@ mod desk;
 mod file_bytes;
 mod folder_desk;
 mod folder_shelf;
+mod images;
+mod log;
 mod memory_desk;
+mod memory_disk;
+mod memory_files;
 mod memory_shelf;
 mod memory_source;
+mod pieces;
+mod replay;
 mod shelf;
 mod source;
 mod std_source;
 mod steps;
+mod store_files;
 #[cfg(test)]
 mod tests;
 
@@ -26,6 +33,7 @@ pub use desk::Desk;
 pub use file_bytes::FileBytes;
 pub use folder_desk::FolderDesk;
 pub use folder_shelf::FolderShelf;
+pub use images::{Fill, Images};
 pub use memory_desk::MemoryDesk;
 pub use memory_shelf::MemoryShelf;
 pub use memory_source::MemorySource;

@@ -4,12 +4,9 @@ ghost use Rattle.std.specs.Prelude.{◌≡◌, ◌+◌, ◌<◌, ◌≤◌, ◌�
 ghost use Rattle.std.specs.Io.KnownBytes.{ReadConsumes};
 ghost use Rattle.chart_ports.specs.Count.{HasCause, LAST, one_more};
 
+use crate::pieces::read_once;
 use crate::source::{Failed, Source};
-use std::io;
-use std::io::{ErrorKind, Input, Read};
-
-// How many signals in a row may interrupt a read before it counts as a fault.
-const INTERRUPTIONS: u8 = 64;
+use std::io::{Input, Read};
 
 /// Standard input. It tells contracts nothing of its bytes.
 ///
@@ -20,21 +17,6 @@ pub struct StdSource<R> {
     given: u64,
     is_at_end: bool,
     faults: u64,
-}
-
-// One read, tried again where a signal interrupts it.
-#[tactic(auto, using(crate::proofs::Reading::read_after))]
-fn read_once<R: Read>(reader: &mut R, buf: &mut [u8]) -> io::Result<usize>
-    ensures within { IfOk result (λ n. n ≤ length buf.old) }
-    ensures read { ReadConsumes (R.remaining reader.old) (R.remaining reader.new) result buf.new }
-{
-    for _ in 0..INTERRUPTIONS {
-        match reader.read(buf) {
-            Err(error) if error.kind() == ErrorKind::Interrupted => {}
-            outcome => return outcome,
-        }
-    }
-    reader.read(buf)
 }
 
 impl<R: Read> StdSource<R> {

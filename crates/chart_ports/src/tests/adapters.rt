@@ -1,6 +1,4 @@
-use crate::{Desk, Failed, Fetched, FolderDesk, FolderShelf, Shelf, ShelfError, Source, StdSource};
-use std::cell::Cell;
-use std::fmt::Display;
+use crate::{Failed, Fetched, FolderShelf, Shelf, ShelfError, Source, StdSource};
 use std::io::{ErrorKind, Read};
 use std::test::Fail;
 use std::{fs, io};
@@ -25,36 +23,6 @@ impl Read for Interrupted {
             }
             4 => Err(ErrorKind::Other.into()),
             _ => Ok(0),
-        }
-    }
-}
-
-/// Takes at most three bytes a write. The second write is interrupted, and the sixth takes nothing.
-#[derive(Drop)]
-struct SlowOutput {
-    writes: Cell<u8>,
-}
-
-impl Print for SlowOutput {
-    fn print<D: Display + Drop>(&self, _value: D) -> io::Result<()> {
-        Ok(())
-    }
-
-    fn println<D: Display + Drop>(&self, _value: D) -> io::Result<()> {
-        Ok(())
-    }
-
-    fn write_all(&self, _bytes: &[u8]) -> io::Result<()> {
-        Ok(())
-    }
-
-    fn write_some(&self, bytes: &[u8]) -> io::Result<usize> {
-        let write = self.writes.get().saturating_add(1);
-        self.writes.set(write);
-        match write {
-            2 => Err(ErrorKind::Interrupted.into()),
-            6 => Ok(0),
-            _ => Ok(bytes.len().min(3)),
         }
     }
 }
@@ -139,21 +107,5 @@ fn a_name_may_have_255_bytes(rt: HostRuntime) -> Result<(), Fail> {
         )
     );
     assert_eq!(rt; shelf.faults(), 1);
-    Ok(())
-}
-
-#[test]
-fn a_desk_says_in_pieces(rt: HostRuntime) -> Result<(), Fail> {
-    let mut desk = FolderDesk::new(SlowOutput {
-        writes: Cell::new(0),
-    });
-    // The pieces of the first have 3, 3 and 2 bytes; the second ends at a write that takes nothing.
-    assert_eq!(rt; desk.say(b"12345678"), Ok(()));
-    assert_eq!(rt; desk.faults(), 0);
-    assert_eq!(rt; desk.say(b"123456"), Err(Failed));
-    assert_eq!(rt; desk.faults(), 1);
-    let mut real = FolderDesk::new(&rt);
-    assert_eq!(rt; real.say(b"said\n"), Ok(()));
-    assert_eq!(rt; real.faults(), 0);
     Ok(())
 }

@@ -5,7 +5,7 @@ use crate::{
 use std::alloc::{AllocError, Global};
 use std::test::Fail;
 
-fn failing(alloc: Global, numbers: &[u64]) -> Result<FailingCalls, AllocError> {
+pub fn failing(alloc: Global, numbers: &[u64]) -> Result<FailingCalls, AllocError> {
     Ok(FailingCalls::from_vec(numbers.to_vec(alloc)?))
 }
 
@@ -89,7 +89,7 @@ fn a_shelf_answers_by_name_and_size(rt: HostRuntime) -> Result<(), Fail> {
 #[test]
 fn a_desk_tears_what_it_fails_to_say(rt: HostRuntime) -> Result<(), Fail> {
     let alloc = rt.alloc();
-    let mut desk = MemoryDesk::with_room(alloc, failing(alloc, &[2])?, 16)?;
+    let mut desk = MemoryDesk::new(alloc, failing(alloc, &[2])?);
     let calls: [(&[u8], Result<(), Failed>, &[u8]); 4] = [
         (b"one\n", Ok(()), b"one\n"),
         (b"three\n!", Err(Failed), b"one\nthr"),

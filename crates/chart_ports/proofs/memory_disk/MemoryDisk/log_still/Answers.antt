@@ -1,0 +1,21 @@
+use Rattle.std.proofs.Common.{sym, arith}
+use Rattle.chart_ports.proofs.Logging.{files_same, said_same}
+use Rattle.chart_ports.proofs.memory_disk.MemoryDisk.log_still.Goals as goal
+
+pub invariant_of-self-clause-files_in_step : goal.invariant_of-self-clause-files_in_step
+invariant_of-self-clause-files_in_step c =
+    files_same c.args.self.now.start _ _ _ _ _ c.push_call.result c.push_call.ensures.ok c.push_call.ensures.err
+    c.args.self.now.files_in_step (sym (c.requires.files _))
+
+pub invariant_of-self-clause-said_in_step : goal.invariant_of-self-clause-said_in_step
+invariant_of-self-clause-said_in_step c =
+    said_same c.args.self.now.start _ _ _ _ _ c.push_call.result c.push_call.ensures.ok c.push_call.ensures.err
+    c.args.self.now.said_in_step (sym (c.requires.said _))
+
+pub returns-clause-kept : goal.returns-clause-kept
+returns-clause-kept c = λ calls n room. record {
+  log = c.push_call.ensures.log_room calls room.log;
+  pool = c.push_call.ensures.pool_room n (omega (arith, room.pool));
+  said = omega (arith, room.said);
+  files = room.files;
+}
