@@ -1,0 +1,97 @@
+-- A bank that was opened is in step.
+use Rattle.std.proofs.Common.{◌≡◌, inl, inr, ℕ, ◌<◌, ◌≤◌, List, [], ◌∷◌, ◌++◌, length, Result, Ok}
+use Rattle.std.proofs.Common.{Err, IfOk, refl, sym, ◌∙◌, ap, subst, arith}
+use Rattle.std.proofs.lemmas.List.{drop_all}
+use Rattle.chart_ports.specs.Disk.{Only, Torn, written}
+use Rattle.bank_journal.specs.declared.bank.Bank.{Bank}
+use Rattle.bank_journal.specs.declared.content.BankContent.{BankContent}
+use Rattle.bank_journal.specs.declared.fault.BankFault.{BankFault}
+use Rattle.bank_journal.specs.Bank.{nothing, HasContent, gate_of, ReadsAs}
+use Rattle.bank_journal.specs.Handle.{place_of}
+use Rattle.bank_journal.specs.Moments.{IsInStep, nine_zeros}
+use Rattle.bank_journal.specs.Reading.{bank_of}
+use Rattle.bank_journal.proofs.Readings.{reading_tells, short_bank}
+
+-- ---- a bank of at most nine bytes
+
+zeros_have_nothing : HasContent nine_zeros nothing
+zeros_have_nothing = record {
+  size = 0 ∷ 0 ∷ 0 ∷ 0 ∷ 0 ∷ 0 ∷ 0 ∷ [];
+  records = 0 ∷ [];
+  last = 0 ∷ [];
+  parts = refl;
+  seven = refl;
+  counted = refl;
+  bodies = refl;
+  shut = record { gate = 0; behind = []; parts = refl; closed = omega arith };
+}
+
+pub zeros_written : (old : List ℕ) → length old ≤ 9 → written 0 nine_zeros old ≡ nine_zeros
+zeros_written old short = ap (λ (l : List ℕ). nine_zeros ++ l) (drop_all 9 old short)
+
+pub zeros_in_step : (old next : List ℕ) (may_leave : List ℕ → Type 0) → length old ≤ 9 → next ≡ written 0 nine_zeros old
+    → Only next may_leave → IsInStep next may_leave 8 nothing
+zeros_in_step old next may_leave short next_is settled =
+    let is : next ≡ nine_zeros = next_is ∙ zeros_written old short in
+    record {
+      has = subst (λ (l : List ℕ). HasContent l nothing) (sym is) zeros_have_nothing;
+      reads = short_bank next (omega (arith, ap length is));
+      gate = refl;
+      settled = settled;
+    }
+
+-- whatever stands in them reads as nothing
+pub torn_zeros : (old image : List ℕ) → length old ≤ 9 → Torn 0 9 old image → bank_of image ≡ bank_of old
+torn_zeros old image short torn = short_bank image (omega (arith, torn.no_longer)) ∙ sym (short_bank old short)
+
+-- ---- a longer one
+
+has_read : (bytes : List ℕ) (content : BankContent) → 9 < length bytes → ReadsAs bytes content
+    → HasContent bytes content
+has_read bytes content long (inl short) = absurd (omega (arith, short.0))
+has_read bytes content long (inr has) = has.1
+
+pub read_in_step : (old next : List ℕ) (may_leave : List ℕ → Type 0) (place : ℕ) (content : BankContent)
+    → 9 < length old → bank_of old ≡ Ok content → place ≡ gate_of content → next ≡ old → Only next may_leave
+    → IsInStep next may_leave place content
+read_in_step old next may_leave place content long reads gate same settled =
+    let has = has_read old content long (reading_tells old content reads) in
+    record {
+      has = subst (λ (l : List ℕ). HasContent l content) (sym same) has;
+      reads = ap bank_of same ∙ reads;
+      gate = gate;
+      settled = settled;
+    }
+
+-- ---- by the answers of the parts
+
+pub zeros_opened : (old next checkpoint : List ℕ) (bodies : List (List ℕ)) (may_leave : List ℕ → Type 0) (place : ℕ)
+    → length old ≤ 9 → next ≡ written 0 nine_zeros old → Only next may_leave → place ≡ 8 → checkpoint ≡ [] → bodies ≡ []
+    → IsInStep next may_leave place (record { checkpoint = checkpoint; bodies = bodies })
+zeros_opened old next checkpoint bodies may_leave place short next_is settled place_is no_checkpoint no_bodies =
+    let step = zeros_in_step old next may_leave short next_is settled in
+    let same : nothing ≡ record { checkpoint = checkpoint; bodies = bodies } = λ i. record
+    { checkpoint = sym no_checkpoint i; bodies = sym no_bodies i } in
+    subst (λ (p : ℕ). IsInStep next may_leave p (record { checkpoint = checkpoint; bodies = bodies })) (sym place_is)
+    (subst (IsInStep next may_leave 8) same step)
+
+abbrev pub Opened : Type 0
+Opened = Result (Bank × BankContent) BankFault
+
+pub read_opened_in_step : (old next bytes : List ℕ) (may_leave : List ℕ → Type 0) (result : Opened) → bytes ≡ old
+    → 9 < length bytes → IfOk result (λ opened. bank_of bytes ≡ Ok opened.1)
+    → IfOk result (λ opened. place_of opened.0 ≡ gate_of opened.1) → next ≡ old → Only next may_leave
+    → IfOk result (λ opened. IsInStep next may_leave (place_of opened.0) opened.1)
+read_opened_in_step old next bytes may_leave (Ok opened) same long reads gate kept settled =
+    read_in_step old next may_leave (place_of opened.0) opened.1 (omega (arith, ap length same)) (ap bank_of (sym same)
+    ∙ reads) gate kept settled
+read_opened_in_step old next bytes may_leave (Err fault) same long reads gate kept settled = tt
+
+pub empty_content : (old : List ℕ) (result : Opened) → length old ≤ 9 → IfOk result (λ opened. opened.1 ≡ nothing)
+    → IfOk result (λ opened. bank_of old ≡ Ok opened.1)
+empty_content old (Ok opened) short none = short_bank old short ∙ ap (λ (c : BankContent). Ok c) (sym none)
+empty_content old (Err fault) short none = tt
+
+pub still_settled : (may_leave then_may : List ℕ → Type 0) (old next : List ℕ) → Only old may_leave
+    → ((image : List ℕ) → then_may image → may_leave image) → next ≡ old → Only next then_may
+still_settled may_leave then_may old next settled less same = λ image left. settled image (less image left) ∙ sym same

@@ -1,0 +1,6 @@
+pub mod Bank
+pub mod Fault
+pub mod Handle
+pub mod Moments
+pub mod ReadFault
+pub mod Reading

@@ -1,0 +1,106 @@
+//! The content of a bank, from its bytes.
+
+ghost use Rattle.std.specs.Prelude.{◌≡◌, ◌+◌, ◌<◌, ◌≤◌, Ok, Err, IfOk, IfErr, IfSome, IfNone, length, drop};
+ghost use Rattle.std.specs.List.{sum_by};
+ghost use Rattle.byteorder.specs.Endian.{big_number};
+ghost use Rattle.bank_journal.specs.declared.reading.ReadFault.TheVariants.{NoMemory};
+ghost use Rattle.bank_journal.specs.Bank.{HasHeader, checkpoint_length, gate_of};
+ghost use Rattle.bank_journal.specs.Reading.{body_in, bodies_in, content_of, bank_of};
+ghost use Rattle.bank_journal.specs.ReadFault.{FaultHas};
+
+use crate::content::{BankContent, BodyList};
+use byteorder::{BigEndian, ByteOrder};
+use chart_model::Octets;
+use std::alloc::{AllocError, Global};
+
+/// Why bytes give no content.
+#[derive(Clone, Copy)]
+pub(crate) enum ReadFault {
+    /// They have no reading: their first fault is at this place.
+    Foreign(usize),
+    NoMemory,
+}
+
+impl From<AllocError> for ReadFault {
+    ghost from_gives = { λ _ e. e ≡ NoMemory };
+
+    fn from(_: AllocError) -> ReadFault {
+        ReadFault::NoMemory
+    }
+}
+
+/// The body whose length in four bytes begins the bytes, where a gate can stand behind it.
+fn body_at(bytes: &[u8]) -> Option<&[u8]>
+    ensures body { IfSome result (λ body. body.now ≡ body_in bytes.now) }
+    ensures counted { IfSome result (λ body. length body.now ≡ big_number 4 bytes.now) }
+    ensures fits { IfSome result (λ body. 4 + big_number 4 bytes.now < length bytes.now) }
+    ensures none { IfNone result (length bytes.now ≤ 4 + big_number 4 bytes.now) }
+{
+    if bytes.len() <= 4 {
+        return None;
+    }
+    let size = BigEndian::read_u32(bytes) as usize;
+    let rest = &bytes[4..];
+    if size < rest.len() {
+        Some(&rest[..size])
+    } else {
+        None
+    }
+}
+
+/// The bodies of the records from a gate on, and the place of the closed gate that ends them.
+fn read_bodies(alloc: Global, bytes: &[u8], first: usize) -> Result<(BodyList, usize), ReadFault>
+    requires { first < length bytes.now }
+    ensures bodies { IfOk result (λ found. bodies_in 0 (drop first bytes.now) ≡ Ok found.0) }
+    ensures gate { IfOk result (λ found. found.1 ≡ first + sum_by (λ body. 5 + length body) found.0) }
+    ensures inside { IfOk result (λ found. found.1 < length bytes.now) }
+    ensures fault { IfErr result (FaultHas (λ place.
+        content_of bytes.now (bodies_in 0 (drop first bytes.now)) ≡ Err place)) }
+{
+    let mut bodies = BodyList::new(alloc);
+    let mut at = first;
+    while bytes[at] % 2 == 1 {
+        let Some(body) = body_at(&bytes[at + 1..]) else {
+            return Err(ReadFault::Foreign(at));
+        };
+        bodies.push(Octets::from_vec(Vec::from_slice(alloc, body)?))?;
+        at += 5 + body.len();
+    }
+    Ok((bodies, at))
+}
+
+/// The place behind the checkpoint, where the header is sound.
+fn first_gate(bytes: &[u8]) -> Option<usize>
+    requires { 9 < length bytes.now }
+    ensures some { IfSome result (λ gate. HasHeader bytes.now) }
+    ensures place { IfSome result (λ gate. gate ≡ 8 + checkpoint_length bytes.now) }
+    ensures none { IfNone result (¬ HasHeader bytes.now) }
+{
+    let length = BigEndian::read_uint(&bytes[1..], 7);
+    if bytes[0] == 0 && length < (bytes.len() - 8) as u64 {
+        Some(8 + length as usize)
+    } else {
+        None
+    }
+}
+
+/// The content of a bank of more than nine bytes, and the place of its closed gate. The checkpoint and each body
+/// are copied once.
+///
+/// # Errors
+///
+/// `Foreign` exactly where the bytes have no reading, with the place of their first fault; `NoMemory`.
+pub(crate) fn read_bank(alloc: Global, bytes: &[u8]) -> Result<(BankContent, usize), ReadFault>
+    requires { 9 < length bytes.now }
+    ensures content { IfOk result (λ found. bank_of bytes.now ≡ Ok found.0) }
+    ensures gate { IfOk result (λ found. found.1 ≡ gate_of found.0) }
+    ensures inside { IfOk result (λ found. found.1 < length bytes.now) }
+    ensures fault { IfErr result (FaultHas (λ place. bank_of bytes.now ≡ Err place)) }
+{
+    let Some(first) = first_gate(bytes) else {
+        return Err(ReadFault::Foreign(0));
+    };
+    let (bodies, gate) = read_bodies(alloc, bytes, first)?;
+    let checkpoint = Octets::from_vec(Vec::from_slice(alloc, &bytes[8..first])?);
+    Ok((BankContent { checkpoint, bodies }, gate))
+}
