@@ -15,7 +15,8 @@ use Rattle.chart_model.specs.Keys.{key_cmp}
 use Rattle.chart_model.specs.State.{StateValue, IsFileLength}
 use Rattle.chart_model.specs.declared.state.Holding.{Holding}
 use Rattle.chart_model.proofs.Keys.{key_cmp-total, key_cmp-IsAntisymmetric}
-use Rattle.update_sequence.specs.Reading.{data_set_in}
+use Rattle.iso8211_records.specs.RecordFile.{data_records_in}
+use Rattle.update_sequence.specs.Reading.{data_set_in, tags_read}
 use Rattle.update_sequence.specs.Judged.{judged}
 use Rattle.update_sequence.specs.Built.{built}
 use Rattle.update_sequence.specs.Rebuilt.{held_by}
@@ -27,8 +28,8 @@ use Rattle.chart_store.specs.declared.refusal.Refusal.TheVariants.{FileLong, Sto
 use Rattle.chart_store.specs.Refusal.{refusal_of_read, refusal_of_sequence, refusal_of_build}
 use Rattle.chart_store.specs.Fault.{or_refused}
 use Rattle.chart_store.specs.Loaded.{HoldingsByKey, nothing_held, files_of, files_after, buildable, holding_of}
-use Rattle.chart_store.specs.Loaded.{FILE_LIMIT, STORE_LIMIT, live_bytes, store_within, within_limit, cells_within}
-use Rattle.chart_store.specs.Loaded.{Loaded, put, accepted, loaded}
+use Rattle.chart_store.specs.Loaded.{FILE_LIMIT, STORE_LIMIT, live_bytes, store_within, within_limit, cells_within, come_to}
+use Rattle.chart_store.specs.Loaded.{Outcome, put, accepted_file, loaded}
 use Rattle.chart_store.specs.Live.{IsLive, AreLive, state_or, state_after, state_by}
 use Rattle.chart_store.specs.Taken.{held_of, chart_of, held_after, chart_after, cell_after, placed, taken}
 use Rattle.chart_store.proofs.Holdings.{AreLive-nothing, AreLive-insert}
@@ -88,24 +89,24 @@ store_within-is cells after e = go (leb (live_bytes cells) STORE_LIMIT) e
 
 -- ---- what a file is that is accepted
 
-put-is : (state : StateValue) (key : List ℕ) (here : Holding) (done : Loaded) → put state key here ≡ Ok done →
+put-is : (state : StateValue) (key : List ℕ) (here : Holding) (done : Outcome) → put state key here ≡ Ok done →
     (key ≡ done.key) × (map.insert state.cells key here ≡ done.state.cells)
 put-is state key here done e =
     let b = bound_is (store_within (map.insert state.cells key here)) _ done e in
     let same = ok_is b.2 in (
-      ap (λ (d : Loaded). d.key) same,
+      ap (λ (d : Outcome). d.key) same,
       ap (λ (s : StateValue). s.cells)
-          (store_within-is (map.insert state.cells key here) b.0 b.1 ∙ ap (λ (d : Loaded). d.state) same),
+          (store_within-is (map.insert state.cells key here) b.0 b.1 ∙ ap (λ (d : Outcome). d.state) same),
     )
 
 -- a file that was accepted is a data set, and its cell alone is put in
-pub record IsLoaded (state : StateValue) (file : List ℕ) (done : Loaded) : Type 0 where
+pub record IsLoaded (state : StateValue) (file : List ℕ) (done : Outcome) : Type 0 where
   pub dataset : DatasetValue
   pub short : IsFileLength (length file)
   pub reads : data_set_in file ≡ Ok dataset
-  pub accepts : accepted state dataset file (files_of (map.get state.cells dataset.header.key)) ≡ Ok done
+  pub accepts : accepted_file state dataset file (files_of (map.get state.cells dataset.header.key)) ≡ Ok done
 
-pub loaded-is : (state : StateValue) (file : List ℕ) (done : Loaded) → loaded state file ≡ Ok done →
+pub loaded-is : (state : StateValue) (file : List ℕ) (done : Outcome) → loaded state file ≡ Ok done →
     IsLoaded state file done
 unfolding loaded
 loaded-is state file done e =
@@ -116,16 +117,16 @@ loaded-is state file done e =
       dataset = r.0;
       short = w.1;
       reads = ap data_set_in w.0 ∙ refused_is refusal_of_read (data_set_in b.0) r.0 r.1;
-      accepts = ap (λ (l : List ℕ). accepted state r.0 l (files_of (map.get state.cells r.0.header.key))) w.0 ∙ r.2;
+      accepts = ap (λ (l : List ℕ). accepted_file state r.0 l (files_of (map.get state.cells r.0.header.key))) w.0 ∙ r.2;
     }
 
-pub record IsPut (state : StateValue) (dataset : DatasetValue) (done : Loaded) : Type 0 where
+pub record IsPut (state : StateValue) (dataset : DatasetValue) (done : Outcome) : Type 0 where
   pub here : Holding
   pub keyed : dataset.header.key ≡ done.key
   pub cells : map.insert state.cells dataset.header.key here ≡ done.state.cells
 
 pub accepted-is : (state : StateValue) (dataset : DatasetValue) (file : List ℕ) (files : List (List ℕ))
-    (done : Loaded) → accepted state dataset file files ≡ Ok done → IsPut state dataset done
+    (done : Outcome) → accepted_file state dataset file files ≡ Ok done → IsPut state dataset done
 accepted-is state dataset file files done e =
     judging (or_fault_as refusal_of_sequence (judged (held_by files) dataset))
     (cells_within state.cells dataset.header.key)
@@ -152,7 +153,7 @@ accepted-is state dataset file files done e =
 
 -- ---- another key
 
-apart : (q key : List ℕ) → q ≢ key → eq_by_cmp key_cmp q key ≡ false
+pub apart : (q key : List ℕ) → q ≢ key → eq_by_cmp key_cmp q key ≡ false
 apart q key other = elim (cases_Bool (eq_by_cmp key_cmp q key)) [
   | inl is_so ↦ absurd (other (key_cmp-IsAntisymmetric q key (tied (key_cmp q key) is_so)))
   | inr is_not ↦ is_not
@@ -163,7 +164,7 @@ apart q key other = elim (cases_Bool (eq_by_cmp key_cmp q key)) [
     tied Equal e = refl
     tied Greater e = absurd (let f : false ≡ true = e in cc)
 
-pub loaded-alone : (state : StateValue) (file : List ℕ) (done : Loaded) (key : List ℕ) →
+pub loaded-alone : (state : StateValue) (file : List ℕ) (done : Outcome) (key : List ℕ) →
     loaded state file ≡ Ok done → key ≢ done.key → map.get done.state.cells key ≡ map.get state.cells key
 loaded-alone state file done key e other =
     let l = loaded-is state file done e in
@@ -177,16 +178,16 @@ loaded-alone state file done key e other =
 
 pub loaded-reads : (state : StateValue) (file : List ℕ) (dataset : DatasetValue) → length file ≤ FILE_LIMIT →
     data_set_in file ≡ Ok dataset →
-    loaded state file ≡ accepted state dataset file (files_of (map.get state.cells dataset.header.key))
+    loaded state file ≡ accepted_file state dataset file (files_of (map.get state.cells dataset.header.key))
 unfolding loaded
 loaded-reads state file dataset short reads =
     ap (λ (r : Result (List ℕ) Refusal). r >>= λ bytes. or_refused refusal_of_read (data_set_in bytes) >>= λ ds.
-    accepted state ds bytes (files_of (map.get state.cells ds.header.key))) (within-short file short)
-    ∙ ap (λ (r : Result DatasetValue ReadFault). or_refused refusal_of_read r >>= λ ds. accepted state ds file
+    accepted_file state ds bytes (files_of (map.get state.cells ds.header.key))) (within-short file short)
+    ∙ ap (λ (r : Result DatasetValue ReadFault). or_refused refusal_of_read r >>= λ ds. accepted_file state ds file
     (files_of (map.get state.cells ds.header.key))) reads
 
 module _ (laws : Laws) where
-  next-live : (before : Option Holding) (dataset : DatasetValue) (file : List ℕ) (effect : Effect)
+  pub next-live : (before : Option Holding) (dataset : DatasetValue) (file : List ℕ) (effect : Effect)
       (chart : Option CellValue) → WasLive dataset.header.key before → data_set_in file ≡ Ok dataset →
       IsFileLength (length file) → judged (held_of before) dataset ≡ Ok effect →
       chart_after (chart_of before) effect dataset ≡ Ok chart →
@@ -209,7 +210,7 @@ module _ (laws : Laws) where
       (live-cancel laws before dataset file h reads short judges)
 
   taken-live : (state : StateValue) (dataset : DatasetValue) (file : List ℕ) (before : Option Holding)
-      (done : Loaded) → AreLive state.cells → WasLive dataset.header.key before → data_set_in file ≡ Ok dataset →
+      (done : Outcome) → AreLive state.cells → WasLive dataset.header.key before → data_set_in file ≡ Ok dataset →
       IsFileLength (length file) → taken state dataset file before ≡ Ok done → AreLive done.state.cells
   taken-live state dataset file before done live h reads short e =
       let j = bound_is (or_fault_as refusal_of_sequence (judged (held_of before) dataset)) _ done e in
@@ -217,13 +218,13 @@ module _ (laws : Laws) where
       let p = bound_is (placed state dataset file before j.0) _ done w.2 in
       let c = bound_is (chart_after (chart_of before) j.0 dataset) _ p.0 p.1 in
       subst AreLive
-      (ap (λ (s : StateValue). s.cells) (store_within-is _ p.0 c.2) ∙ ap (λ (d : Loaded). d.state.cells) (ok_is p.2))
+      (ap (λ (s : StateValue). s.cells) (store_within-is _ p.0 c.2) ∙ ap (λ (d : Outcome). d.state.cells) (ok_is p.2))
       (AreLive-insert state.cells dataset.header.key _ live
       (next-live before dataset file j.0 c.0 h reads short (fault_is refusal_of_sequence
       (judged (held_of before) dataset) j.0 j.1) c.1))
 
   -- a file that is accepted keeps all cells what their files leave
-  pub loaded-live : (state : StateValue) (file : List ℕ) (done : Loaded) → AreLive state.cells →
+  pub loaded-live : (state : StateValue) (file : List ℕ) (done : Outcome) → AreLive state.cells →
       loaded state file ≡ Ok done → AreLive done.state.cells
   loaded-live state file done live e =
       let l = loaded-is state file done e in
@@ -235,7 +236,7 @@ module _ (laws : Laws) where
       AreLive (state_after state file).cells
   state_after-live state file live = go (loaded state file) refl
     where
-      go : (r : Result Loaded Refusal) → loaded state file ≡ r → AreLive (state_or state r).cells
+      go : (r : Result Outcome Refusal) → loaded state file ≡ r → AreLive (state_or state r).cells
       go (Ok done) e = loaded-live state file done live e
       go (Err refusal) e = live
 
@@ -256,3 +257,15 @@ module _ (laws : Laws) where
       loaded-reads state file dataset short reads
       ∙ accepted-taken laws state dataset file (map.get state.cells dataset.header.key) (live dataset.header.key)
       reads short
+
+-- ---- the data records that are come to
+
+pub come_to-short : (file : List ℕ) → length file ≤ FILE_LIMIT → come_to file ≡ data_records_in tags_read file
+come_to-short file short =
+    ap (λ (b : Bool). cond b (data_records_in tags_read file) 0)
+    (let fits : leb (length file) FILE_LIMIT ≡ true = grind (arith, nat_tests) in fits)
+
+pub come_to-long : (file : List ℕ) → FILE_LIMIT < length file → come_to file ≡ 0
+come_to-long file long =
+    ap (λ (b : Bool). cond b (data_records_in tags_read file) 0)
+    (let passes : leb (length file) FILE_LIMIT ≡ false = grind (arith, nat_tests) in passes)

@@ -14,7 +14,6 @@ use Rattle.chart_store.specs.declared.fault.SubmitFault.TheVariants.{Refused, No
 use Rattle.chart_store.specs.Refusal.{refusal_of_file, refusal_of_records, refusal_of_read, refusal_of_change}
 use Rattle.chart_store.specs.Refusal.{refusal_of_build}
 use Rattle.chart_store.specs.Fault.{told, fault_of, or_refused}
-use Rattle.chart_store.specs.Taken.{GivesNow}
 
 -- the fault is the refusal that there is, or want of memory
 abbrev pub Fails : {A : Type 0} → SubmitFault → Result A Refusal → Type 0
@@ -46,9 +45,3 @@ Fails-build (of_build.Change fault) wanted h =
     Fails-told (refusal_of_change fault) (or_refused refusal_of_build wanted) (ap (or_refused refusal_of_build) h)
 Fails-build (of_build.Closure fault) wanted h = ap (or_refused refusal_of_build) h
 Fails-build of_build.NoMemory wanted h = tt
-
--- what follows from a value that was to be answered
-pub GivesNow-map : {A B : Type 0} (r : Result (Unit {0}) SubmitFault) (x : A) (f : A →
-    B) (wanted : Result A Refusal) → GivesNow r x wanted → GivesNow r (f x) (wanted >>= (λ y. Ok (f y)))
-GivesNow-map (Ok done) x f wanted h = ap (λ w. w >>= (λ y. Ok (f y))) h
-GivesNow-map (Err fault) x f wanted h = Fails-stop fault wanted (λ y. Ok (f y)) h

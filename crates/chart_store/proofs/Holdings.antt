@@ -2,8 +2,8 @@
 use Rattle.std.proofs.Common.{◌≡◌, ℕ, ◌+◌, ◌-◌, ◌<◌, ◌≤◌, leb, Ok, Err, Bool, true, false, cond, List, [], ◌∷◌}
 use Rattle.std.proofs.Common.{◌++◌, length, sum_by, Option, Some, None, arith, refl, sym, ◌∙◌, ap, subst}
 use Rattle.std.specs.Cmp.{tied_itself}
-use Rattle.std.specs.Option.{unwrap_or, is_some}
-use Rattle.std.specs.Prelude.{IsSome, map as list_map}
+use Rattle.std.specs.Prelude.{is_some, map as list_map}
+use Rattle.std.proofs.Common.{IfSome}
 use Rattle.std.specs.declared.cmp.Ordering.{Ordering}
 use Rattle.std.specs.declared.cmp.Ordering.TheVariants.{Less, Equal, Greater}
 use Rattle.std.specs.Ordering.{is_eq, eq_by_cmp}
@@ -15,14 +15,15 @@ use Rattle.chart_model.specs.declared.state.Held.{Held}
 use Rattle.chart_model.specs.declared.state.Holding.{Holding}
 use Rattle.chart_model.specs.Cell.{CellValue}
 use Rattle.chart_model.proofs.Keys.{key_cmp-total, key_cmp-IsAntisymmetric}
-use Rattle.chart_model.proofs.Maps.{each-empty, each-insert}
+use Rattle.chart_model.proofs.Maps.{each-empty, each-insert, each-remove}
 use Rattle.chart_model.proofs.Trees.{entries-empty}
 use Rattle.update_sequence.specs.declared.effect.Effect.{Effect}
 use Rattle.update_sequence.specs.declared.effect.Effect.TheVariants.{Replace, Extend, Cancel}
 use Rattle.chart_store.specs.Loaded.{HoldingsByKey, files_of, files_after, bytes_of, live_bytes, STORE_LIMIT}
 use Rattle.chart_store.specs.Loaded.{store_within, nothing_held}
 use Rattle.chart_store.specs.Live.{IsLive, AreLive, IsCounted, IsStore}
-use Rattle.chart_store.specs.Taken.{cell_after, replaced_bytes}
+use Rattle.chart_store.specs.Next.{cells_with, CanStand}
+use Rattle.chart_store.specs.Taken.{replaced_bytes}
 use Rattle.chart_store.specs.declared.refusal.Refusal.TheVariants.{StoreFull}
 use Rattle.std.proofs.lemmas.Bool.Decides.{nat_tests}
 use Rattle.chart_store.proofs.Weights.{weight_found, weight-insert, weight-get}
@@ -91,99 +92,51 @@ tied Less e = absurd (let f : false ≡ true = e in cc)
 tied Equal e = refl
 tied Greater e = absurd (let f : false ≡ true = e in cc)
 
--- what was put in last stays
-pub insert-insert : (cells : HoldingsByKey) (key : List ℕ) (x y : Holding) →
-    map.insert (map.insert cells key x) key y ≡ map.insert cells key y
-insert-insert cells key x y = map.same_map key_cmp-total key_cmp-IsAntisymmetric _ _ (λ q. grind (arith, map.gets))
-
--- a value that is there, put in again, changes nothing
-pub insert-same : (cells : HoldingsByKey) (key : List ℕ) (here : Holding) → map.get cells key ≡ Some here →
-    map.insert cells key here ≡ cells
-insert-same cells key here is = map.same_map key_cmp-total key_cmp-IsAntisymmetric _ _ (λ q.
-    map.get-insert key_cmp-total cells key here q
-    ∙ elim (eq_by_cmp key_cmp q key) as (λ b. eq_by_cmp key_cmp q key ≡ b → cond b (Some here) (map.get cells q) ≡
-    map.get cells q) [
-      | true ↦ λ e. sym is ∙ map.get_tied key_cmp-total cells q key (tied (key_cmp q key) e)
-      | false ↦ λ e. refl
-    ] refl)
-
--- A cell that is taken out against a stand-in, and put in again.
-
 same_key : (key : List ℕ) → eq_by_cmp key_cmp key key ≡ true
 same_key key = ap is_eq (tied_itself key_cmp-total key)
 
-get-put : (cells : HoldingsByKey) (key : List ℕ) (here : Holding) → map.get (map.insert cells key here) key ≡ Some here
+-- what is held of the cell once this is put in place
+pub get-with : (cells : HoldingsByKey) (key : List ℕ) (holding : Option Holding) →
+    map.get (cells_with cells key holding) key ≡ holding
+get-with cells key None =
+    map.get-remove key_cmp-total cells key key ∙ ap (λ (b : Bool). cond b None (map.get cells key)) (same_key key)
+get-with cells key (Some here) =
+    map.get-insert key_cmp-total cells key here key ∙ ap (λ (b : Bool). cond b (Some here) (map.get cells key)) (same_key key)
+
+pub get-put : (cells : HoldingsByKey) (key : List ℕ) (here : Holding) → map.get (map.insert cells key here) key ≡ Some here
 get-put cells key here = map.get-insert key_cmp-total cells key here key
     ∙ ap (λ (b : Bool). cond b (Some here) (map.get cells key)) (same_key key)
 
--- what a swap leaves of the map
-abbrev pub swapped : HoldingsByKey → List ℕ → Holding → HoldingsByKey
-swapped cells key here = cond (map.contains_key cells key) (map.insert cells key here) cells
+-- a cell that is there, taken out and put in again
+pub remove-insert : (cells : HoldingsByKey) (key : List ℕ) (here : Holding) → map.get cells key ≡ Some here →
+    map.insert (map.remove cells key) key here ≡ cells
+remove-insert cells key here is = map.same_map key_cmp-total key_cmp-IsAntisymmetric _ _ (λ q.
+    map.get-insert key_cmp-total (map.remove cells key) key here q
+    ∙ elim (eq_by_cmp key_cmp q key) as (λ b. eq_by_cmp key_cmp q key ≡ b → cond b (Some here)
+    (map.get (map.remove cells key) q) ≡ map.get cells q) [
+      | true ↦ λ e. sym is ∙ map.get_tied key_cmp-total cells q key (tied (key_cmp q key) e)
+      | false ↦ λ e. map.get-remove key_cmp-total cells key q ∙ ap (λ (b : Bool). cond b None (map.get cells q)) e
+    ] refl)
 
-swapped-held : (cells : HoldingsByKey) (key : List ℕ) (old here : Holding) → map.get cells key ≡ Some old →
-    swapped cells key here ≡ map.insert cells key here
-swapped-held cells key old here is = ap (λ (o : Option Holding). cond (is_some o) (map.insert cells key here) cells) is
+pub get-taken : (cells : HoldingsByKey) (key : List ℕ) → map.get (map.remove cells key) key ≡ None
+get-taken cells key = map.get-remove key_cmp-total cells key key
+    ∙ ap (λ (b : Bool). cond b None (map.get cells key)) (same_key key)
 
-pub swapped-swapped : (cells : HoldingsByKey) (key : List ℕ) (other here : Holding) → IsSome (map.get cells key) →
-    swapped (swapped cells key other) key here ≡ map.insert cells key here
-swapped-swapped cells key other here h =
-    elim (map.get cells key) as (λ o. map.get cells key ≡ o → IsSome o → swapped (swapped cells key other) key here ≡
-    map.insert cells key here) [
-      | None ↦ λ is some. absurd (let f : false ≡ true = some in cc)
-      | Some old ↦ λ is some.
-          ap (λ (m : HoldingsByKey). swapped m key here) (swapped-held cells key old other is)
-          ∙ swapped-held (map.insert cells key other) key other here (get-put cells key other)
-          ∙ insert-insert cells key other here
-    ] refl h
+-- the bytes without those of a cell that is taken away
+pub live_bytes-remove : (cells : HoldingsByKey) (key : List ℕ) (here : Holding) → map.get cells key ≡ Some here →
+    live_bytes (map.remove cells key) + bytes_of here.files ≡ live_bytes cells
+live_bytes-remove cells key here is =
+    omega (
+      arith,
+      live_bytes-insert (map.remove cells key) key here,
+      ap (λ (o : Option Holding). bytes_of (files_of o)) (get-taken cells key),
+      ap live_bytes (remove-insert cells key here is),
+    )
 
--- what was taken out, put in again
-pub swapped-back : (cells : HoldingsByKey) (key : List ℕ) (other : Holding) → IsSome (map.get cells key) →
-    swapped (swapped cells key other) key (unwrap_or (map.get cells key) other) ≡ cells
-swapped-back cells key other h =
-    swapped-swapped cells key other (unwrap_or (map.get cells key) other) h
-    ∙ elim (map.get cells key) as (λ o. map.get cells key ≡ o → IsSome o → map.insert cells key (unwrap_or o other) ≡
-    cells) [
-      | None ↦ λ is some. absurd (let f : false ≡ true = some in cc)
-      | Some old ↦ λ is some. insert-same cells key old is
-    ] refl h
-
-pub files_of-taken : (before : Option Holding) (other : Holding) → IsSome before →
-    (unwrap_or before other).files ≡ files_of before
-files_of-taken None other h = absurd (let f : false ≡ true = h in cc)
-files_of-taken (Some here) other h = refl
-
--- the files of a cell that was taken out don't grow
-pub follow-back : (cells first last : HoldingsByKey) (key : List ℕ) (other here : Holding) (files : List (List ℕ)) →
-    IsSome (map.get cells key)
-    → here ≡ unwrap_or (map.get cells key) other → first ≡ swapped cells key other → files ≡ here.files
-    → last ≡ swapped first key (record { held = here.held; files = files; chart = here.chart }) → last ≡ cells
-follow-back cells first last key other here files h taken out same back =
-    back
-    ∙ ap (λ (fs : List (List ℕ)). swapped first key (record { held = here.held; files = fs; chart = here.chart })) same
-    ∙ ap (swapped first key) taken
-    ∙ ap (λ (m : HoldingsByKey). swapped m key (unwrap_or (map.get cells key) other)) out
-    ∙ swapped-back cells key other h
-
--- they do, and the cell is another
-pub follow-done : (cells first last : HoldingsByKey) (key : List ℕ) (other here : Holding) (files : List (List ℕ))
-    (file : List ℕ) (held : Held) (chart : Option CellValue) → IsSome (map.get cells key)
-    → here ≡ unwrap_or (map.get cells key) other → first ≡ swapped cells key other → files ≡ here.files ++ file ∷ []
-    → last ≡ swapped first key (record { held = held; files = files; chart = chart })
-    → last ≡ map.insert cells key (record {
-      held = held;
-      files = files_of (map.get cells key) ++ file ∷ [];
-      chart = chart;
-    })
-follow-done cells first last key other here files file held chart h taken out more back =
-    let all : files ≡ files_of (map.get cells key) ++ file ∷ []
-    = more ∙ ap (λ (x : Holding). x.files ++ file ∷ []) taken ∙ ap (λ (fs : List (List ℕ)). fs ++ file ∷ [])
-    (files_of-taken (map.get cells key) other h) in
-    back
-    ∙ ap (λ (fs : List (List ℕ)). swapped first key (record { held = held; files = fs; chart = chart })) all
-    ∙ ap (λ (m : HoldingsByKey). swapped m key (record
-    { held = held; files = files_of (map.get cells key) ++ file ∷ []; chart = chart })) out
-    ∙ swapped-swapped cells key other (record
-    { held = held; files = files_of (map.get cells key) ++ file ∷ []; chart = chart }) h
+pub bytes_of-held : (cells : HoldingsByKey) (key : List ℕ) (here : Holding) → map.get cells key ≡ Some here →
+    bytes_of here.files ≤ live_bytes cells
+bytes_of-held cells key here is =
+    subst (λ (o : Option Holding). bytes_of (files_of o) ≤ live_bytes cells) is (bytes_of-le-live_bytes cells key)
 
 -- ---- states
 
@@ -209,6 +162,66 @@ pub AreLive-insert : (cells : HoldingsByKey) (key : List ℕ) (here : Holding) �
     AreLive (map.insert cells key here)
 AreLive-insert cells key here h x = each-insert key_cmp-total key_cmp-IsAntisymmetric IsLive cells key here h x
 
+-- ---- a cell put in place, or taken away
+
+pub IsState-with : (state : StateValue) (key : List ℕ) (holding : Option Holding) → IsState state →
+    IfSome holding (IsHolding key) → IsState (record { cells = cells_with state.cells key holding })
+IsState-with state key None h x = record { cells = each-remove key_cmp-total IsHolding state.cells key h.cells }
+IsState-with state key (Some here) h x = IsState-insert state key here h x
+
+pub AreLive-with : (cells : HoldingsByKey) (key : List ℕ) (holding : Option Holding) → AreLive cells →
+    IfSome holding (IsLive key) → AreLive (cells_with cells key holding)
+AreLive-with cells key None h x = each-remove key_cmp-total IsLive cells key h
+AreLive-with cells key (Some here) h x = AreLive-insert cells key here h x
+
+pub IsStore-with : (state : StateValue) (key : List ℕ) (holding : Option Holding) (old bytes : ℕ) →
+    IsStore state old → CanStand state.cells key holding bytes →
+    IsStore (record { cells = cells_with state.cells key holding }) bytes
+IsStore-with state key holding old bytes h can = record {
+  count = record { counted = can.counted; within = can.within };
+  live = AreLive-with state.cells key holding h.live can.live;
+}
+
+-- a cell of which the first files are kept
+pub can-keep : (cells : HoldingsByKey) (key : List ℕ) (here next : Holding) (rest : List (List ℕ)) (all own less : ℕ)
+    → map.get cells key ≡ Some here → here.files ≡ next.files ++ rest → IsLive key next → all ≡ live_bytes cells →
+    all ≤ STORE_LIMIT → own ≡ bytes_of here.files → less ≡ bytes_of next.files →
+    CanStand cells key (Some next) (all - own + less)
+can-keep cells key here next rest all own less there parts live counted within owns keeps =
+    let put = live_bytes-insert cells key next in
+    let was = ap (λ (o : Option Holding). bytes_of (files_of o)) there in
+    let kept = ap bytes_of parts ∙ sum_by-append length next.files rest in
+    let held = bytes_of-held cells key here there in
+    record {
+      live = live;
+      there = λ none. absurd (let f : true ≡ false = none in cc);
+      counted = omega (arith, put, was, counted, owns, keeps, held);
+      within = omega (arith, counted, within, owns, keeps, held, kept);
+    }
+
+-- a cell that is taken away
+pub can-drop : (cells : HoldingsByKey) (key : List ℕ) (here : Holding) (all own : ℕ)
+    → map.get cells key ≡ Some here → all ≡ live_bytes cells → all ≤ STORE_LIMIT → own ≡ bytes_of here.files →
+    CanStand cells key None (all - own)
+can-drop cells key here all own there counted within owns = record {
+  live = tt;
+  there = λ _. ap is_some there;
+  counted = omega (arith, live_bytes-remove cells key here there, counted, owns);
+  within = omega (arith, within);
+}
+
+-- a file that is taken over
+pub can-take : (cells : HoldingsByKey) (key : List ℕ) (effect : Effect) (file : List ℕ) (here : Holding) (bytes : ℕ)
+    → here.files ≡ files_after (files_of (map.get cells key)) effect file → IsLive key here →
+    bytes ≡ live_bytes cells - replaced_bytes (map.get cells key) effect + length file → bytes ≤ STORE_LIMIT →
+    CanStand cells key (Some here) bytes
+can-take cells key effect file here bytes files live counted within = record {
+  live = live;
+  there = λ none. absurd (let f : true ≡ false = none in cc);
+  counted = counted ∙ sym (live_bytes-put cells key effect file here (live_bytes cells) refl files);
+  within = within;
+}
+
 pub IsStore-nothing : IsStore nothing_held 0
 IsStore-nothing = record { count = IsCounted-nothing; live = AreLive-nothing }
 
@@ -227,67 +240,3 @@ store_within-room cells count is within =
     ap (λ (n : ℕ). cond (leb n STORE_LIMIT) (Ok (record { cells = cells })) (Err (StoreFull n))) is
     ∙ ap (λ (b : Bool). cond b (Ok (record { cells = cells })) (Err (StoreFull count)))
     (let yes : leb count STORE_LIMIT ≡ true = grind (arith, nat_tests) in yes)
-
--- ---- a cell put in
-
--- the cells with this one, its files as they follow
-abbrev pub cells_after : StateValue → List ℕ → Effect → Held → Option CellValue → List ℕ → HoldingsByKey
-cells_after state key effect held chart file =
-    map.insert state.cells key (cell_after (map.get state.cells key) effect held chart file)
-
-pub IsState-after : (state : StateValue) (cells : HoldingsByKey) (key : List ℕ) (effect : Effect) (held : Held)
-    (chart : Option CellValue) (file : List ℕ)
-    → cells ≡ cells_after state key effect held chart file → IsState state →
-    IsHolding key (cell_after (map.get state.cells key) effect held chart file)
-    → IsState (record { cells = cells })
-IsState-after state cells key effect held chart file e h is =
-    subst (λ (m : HoldingsByKey). IsState (record { cells = m })) (sym e) (IsState-insert state key _ h is)
-
--- the count that is kept of the bytes, after the file
-pub count-after : (state : StateValue) (count replaced : ℕ) (before : Option Holding) (key : List ℕ)
-    (effect : Effect) (held : Held) (chart : Option CellValue) (file bytes : List ℕ)
-    → count ≡ live_bytes state.cells → before ≡ map.get state.cells key → replaced ≡ replaced_bytes before effect →
-    bytes ≡ file
-    → live_bytes (cells_after state key effect held chart file) ≡ count - replaced + length bytes
-count-after state count replaced before key effect held chart file bytes counted found same whole =
-    live_bytes-put state.cells key effect file _ count counted refl
-    ∙ ap (λ (n : ℕ). count - n + length file) (sym (same ∙ ap (λ (o : Option Holding). replaced_bytes o effect) found))
-    ∙ ap (λ (l : List ℕ). count - replaced + length l) (sym whole)
-
-pub put-full : (state now : StateValue) (count replaced : ℕ) (before : Option Holding) (key : List ℕ)
-    (effect : Effect) (held : Held) (chart : Option CellValue) (file bytes : List ℕ)
-    → state ≡ now → count ≡ live_bytes state.cells → before ≡ map.get state.cells key →
-    replaced ≡ replaced_bytes before effect → bytes ≡ file
-    → STORE_LIMIT < count - replaced + length bytes
-    → store_within (cells_after now key effect held chart file) ≡ Err (StoreFull (count - replaced + length bytes))
-put-full state now count replaced before key effect held chart file bytes seen counted found same whole over =
-    ap (λ (s : StateValue). store_within (cells_after s key effect held chart file)) (sym seen)
-    ∙ store_within-full (cells_after state key effect held chart file) (count - replaced + length bytes)
-    (count-after state count replaced before key effect held chart file bytes counted found same whole) over
-
-pub put-counted : (state after : StateValue) (count replaced : ℕ) (before : Option Holding) (key : List ℕ)
-    (effect : Effect) (held : Held) (chart : Option CellValue) (file bytes : List ℕ)
-    → after ≡ record { cells = cells_after state key effect held chart file } → count ≡ live_bytes state.cells →
-    before ≡ map.get state.cells key → replaced ≡ replaced_bytes before effect → bytes ≡ file
-    → count - replaced + length bytes ≤ STORE_LIMIT
-    → IsCounted after (count - replaced + length bytes)
-put-counted state after count replaced before key effect held chart file bytes done counted found same whole within =
-    record {
-      counted = sym (ap (λ (s : StateValue). live_bytes s.cells) done ∙ count-after state count replaced before key
-          effect held chart file bytes counted found same whole);
-      within = within;
-    }
-
-pub put-done : (state now after : StateValue) (count replaced : ℕ) (before : Option Holding) (key : List ℕ)
-    (effect : Effect) (held : Held) (chart : Option CellValue) (file bytes : List ℕ)
-    → state ≡ now → after ≡ record { cells = cells_after state key effect held chart file } →
-    count ≡ live_bytes state.cells → before ≡ map.get state.cells key →
-    replaced ≡ replaced_bytes before effect → bytes ≡ file
-    → count - replaced + length bytes ≤ STORE_LIMIT
-    → store_within (cells_after now key effect held chart file) ≡ Ok after
-put-done state now after count replaced before key effect held chart file bytes seen done counted found same whole
-    within =
-    ap (λ (s : StateValue). store_within (cells_after s key effect held chart file)) (sym seen)
-    ∙ store_within-room (cells_after state key effect held chart file) (count - replaced + length bytes)
-    (count-after state count replaced before key effect held chart file bytes counted found same whole) within
-    ∙ ap Ok (sym done)

@@ -1,8 +1,11 @@
 mod Weights
 mod Holdings
 mod Answering
-mod Extending
 mod Judging
 mod Loading
 mod Accepting
 mod Placing
+mod Keeping
+mod Commanding
+mod Differing
+mod Taking

@@ -25,7 +25,7 @@ use Rattle.chart_store.specs.declared.refusal.Refusal.{Refusal}
 use Rattle.chart_store.specs.Refusal.{refusal_of_sequence, refusal_of_build}
 use Rattle.chart_store.specs.Fault.{or_refused}
 use Rattle.chart_store.specs.Loaded.{files_of, files_after, buildable, holding_of}
-use Rattle.chart_store.specs.Loaded.{cells_within, store_within, Loaded, put, accepted}
+use Rattle.chart_store.specs.Loaded.{cells_within, store_within, Outcome, put, accepted_file}
 use Rattle.chart_store.specs.Live.{IsLive}
 use Rattle.chart_store.specs.Taken.{held_of, chart_of, held_after, cell_after, placed}
 use Rattle.chart_store.specs.Taken.{taken}
@@ -166,7 +166,7 @@ module _ (laws : Laws) where
 
   pub accepted-taken : (state : StateValue) (dataset : DatasetValue) (file : List ℕ) (before : Option Holding) →
       WasLive dataset.header.key before → data_set_in file ≡ Ok dataset →
-      IsFileLength (length file) → accepted state dataset file (files_of before) ≡ taken state dataset file before
+      IsFileLength (length file) → accepted_file state dataset file (files_of before) ≡ taken state dataset file before
   accepted-taken state dataset file before h reads short =
       ap (λ (n : Option Held). or_fault_as refusal_of_sequence (judged n dataset) >>= λ effect. cells_within
       state.cells dataset.header.key >>= λ _.
@@ -175,8 +175,8 @@ module _ (laws : Laws) where
       (held-before dataset.header.key before h)
       ∙ go (judged (held_of before) dataset) refl
     where
-      room : (r : Result (Unit {0}) Refusal) (x y : Result Loaded Refusal) → x ≡ y → (r >>= λ _. x) ≡ (r >>= λ _. y)
-      room r x y e = ap (λ (z : Result Loaded Refusal). r >>= λ _. z) e
+      room : (r : Result (Unit {0}) Refusal) (x y : Result Outcome Refusal) → x ≡ y → (r >>= λ _. x) ≡ (r >>= λ _. y)
+      room r x y e = ap (λ (z : Result Outcome Refusal). r >>= λ _. z) e
 
       go : (r : Result Effect SequenceFault) → judged (held_of before) dataset ≡ r →
           (or_fault_as refusal_of_sequence r >>= λ effect. cells_within state.cells dataset.header.key >>= λ _.

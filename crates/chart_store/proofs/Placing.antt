@@ -1,33 +1,62 @@
 -- What is put in as it was judged is what the files of its cell leave.
-use Rattle.std.proofs.Common.{◌≡◌, ◌≢◌, ℕ, true, false, List, length, Option, Some, None, IsSome, Ok, refl}
-use Rattle.std.proofs.Common.{sym, ◌∙◌, ap, subst}
+use Rattle.std.proofs.Common.{◌≡◌, ◌≢◌, ℕ, ◌+◌, ◌-◌, ◌<◌, ◌≤◌, true, false, List, length, Option, Some, None, IfSome, IsSome, IfOk}
+use Rattle.std.proofs.Common.{Result, Ok, Err, refl, sym, ◌∙◌, ap, subst}
 use Rattle.std.proofs.lemmas.Bool.{true≢false}
 use Rattle.std.specs.FinMap as map
+use Rattle.chart_closure.specs.Closed.{IsClosed}
+use Rattle.chart_difference.specs.Difference.{AreChanged}
+use Rattle.chart_model.specs.Answers.{◌>>=◌}
 use Rattle.chart_model.specs.Cell.{CellValue}
-use Rattle.chart_model.specs.Dataset.{DatasetValue}
-use Rattle.chart_model.specs.State.{IsFileLength, IsHolding}
+use Rattle.chart_model.specs.Dataset.{DatasetValue, IsDataset}
+use Rattle.chart_model.specs.State.{StateValue, IsFileLength, IsHolding}
+use Rattle.chart_model.specs.declared.name.Name.{Name}
 use Rattle.chart_model.specs.declared.state.Held.{Held}
 use Rattle.chart_model.specs.declared.state.Holding.{Holding}
 use Rattle.update_sequence.specs.Reading.{data_set_in}
 use Rattle.update_sequence.specs.Judged.{judged}
-use Rattle.update_sequence.specs.Built.{built}
-use Rattle.update_sequence.specs.Rebuilt.{numbers_of}
+use Rattle.update_sequence.specs.Rebuilt.{held_by, rebuilt}
+use Rattle.update_sequence.specs.Sound.{IsSoundList}
 use Rattle.update_sequence.specs.declared.effect.Effect.{Effect}
 use Rattle.update_sequence.specs.declared.effect.Effect.TheVariants.{Replace, Extend, Cancel}
-use Rattle.chart_store.specs.Loaded.{HoldingsByKey}
+use Rattle.chart_store.specs.declared.refusal.Refusal.{Refusal}
+use Rattle.chart_store.specs.declared.fault.SubmitFault.{SubmitFault}
+use Rattle.chart_store.specs.declared.next.Next.{Next}
+use Rattle.chart_store.specs.Next.{GivesNextState}
+use Rattle.chart_store.specs.Loaded.{HoldingsByKey, store_within}
 use Rattle.chart_store.specs.Live.{IsLive}
-use Rattle.chart_store.specs.Taken.{held_of, chart_of, held_after, cell_after, IsExtension}
-use Rattle.chart_store.proofs.Judging.{effect_says}
-use Rattle.chart_store.proofs.Loading.{Laws, WasLive, live-replace, live-extend, live-cancel}
+use Rattle.chart_store.specs.Taken.{held_of, chart_of, held_after, chart_after, cell_after, placed, MayBuild}
+use Rattle.chart_store.proofs.Judging.{effect_says, stands_by_base}
+use Rattle.chart_store.proofs.Accepting.{next-live}
+use Rattle.chart_store.proofs.Loading.{Laws, WasLive}
 
-moved : (cells : HoldingsByKey) (key k : List ℕ) (effect e : Effect) (held h : Held) (chart : Option CellValue)
-    (file : List ℕ) → key ≡ k → effect ≡ e → held ≡ h →
-    IsLive k (cell_after (map.get cells k) e h chart file) → IsLive key
-    (cell_after (map.get cells key) effect held chart file)
-moved cells key k effect e held h chart file keyed is numbers live =
-    subst (λ (q : List ℕ). IsLive q (cell_after (map.get cells q) effect held chart file)) (sym keyed)
-    (subst (λ (x : Effect). IsLive k (cell_after (map.get cells k) x held chart file)) (sym is)
-    (subst (λ (n : Held). IsLive k (cell_after (map.get cells k) e n chart file)) (sym numbers) live))
+some_is : {A : Type 0} {x y : A} → ◌≡◌ {A = Option A} (Some x) (Some y) → x ≡ y
+some_is e = cc
+
+-- ---- what is live
+
+-- what is live can be held
+pub live-held : ((key : List ℕ) (files : List (List ℕ)) → IsSoundList key files → (held : Held) ×
+    (held_by files ≡ Some held) × IsHolding key (record { held = held; files = files; chart = rebuilt files }))
+    → (key : List ℕ) (here : Holding) → IsLive key here → IsHolding key here
+live-held holds key here h =
+    let x = holds key here.files h.sound in
+    let same : x.0 ≡ here.held = some_is (sym x.1 ∙ h.numbers) in
+    subst (λ (held : Held). IsHolding key (record { held = held; files = here.files; chart = here.chart })) same
+    (subst (λ (chart : Option CellValue). IsHolding key (record { held = x.0; files = here.files; chart = chart }))
+    h.builds x.2)
+
+pub live-held-if : ((key : List ℕ) (files : List (List ℕ)) → IsSoundList key files → (held : Held) ×
+    (held_by files ≡ Some held) × IsHolding key (record { held = held; files = files; chart = rebuilt files }))
+    → (key : List ℕ) (holding : Option Holding) → IfSome holding (IsLive key) → IfSome holding (IsHolding key)
+live-held-if holds key None h = tt
+live-held-if holds key (Some here) h = live-held holds key here h
+
+-- the chart of a cell that is held is closed
+closed-before : ((key : List ℕ) (files : List (List ℕ)) → IsSoundList key files → IfSome (rebuilt files) IsClosed)
+    → (key : List ℕ) (before : Option Holding) → WasLive key before → IfSome (chart_of before) IsClosed
+closed-before closed key None h = tt
+closed-before closed key (Some here) h =
+    subst (λ (chart : Option CellValue). IfSome chart IsClosed) h.builds (closed key here.files h.sound)
 
 -- a cell that isn't cancelled has a chart
 has_chart : (key : List ℕ) (before : Option Holding) (here : Held) → ((holding : Holding) → IsLive key holding →
@@ -38,54 +67,93 @@ has_chart key (Some holding) here holds live is stands = is_there holding.chart
     (λ none. true≢false (sym ((holds holding live).cancelled.0 none) ∙ ap (λ (x : Held). x.cancelled) (some_is is)
     ∙ stands))
   where
-    some_is : {x y : Held} → ◌≡◌ {A = Option Held} (Some x) (Some y) → x ≡ y
-    some_is e = cc
-
     is_there : (o : Option CellValue) → o ≢ None → IsSome o
     is_there None h = absurd (h refl)
     is_there (Some chart) h = refl
 
-module _ (laws : Laws) (cells : HoldingsByKey) (key : List ℕ) (dataset : DatasetValue) (file : List ℕ)
-    (effect : Effect) (held : Held)
-    (keyed : key ≡ dataset.header.key) (reads : data_set_in file ≡ Ok dataset) (short : IsFileLength (length file))
-    (live : WasLive dataset.header.key (map.get cells dataset.header.key))
-    (judges : judged (held_of (map.get cells dataset.header.key)) dataset ≡ Ok effect)
-    (numbers : held ≡ held_after (map.get cells dataset.header.key) effect dataset.header) where
-  as_judged : (e : Effect) → effect ≡ e → judged (held_of (map.get cells dataset.header.key)) dataset ≡ Ok e
-  as_judged e is = judges ∙ ap Ok is
+-- ---- what was judged
 
-  with_numbers : (e : Effect) → effect ≡ e → held ≡ held_after (map.get cells dataset.header.key) e dataset.header
-  with_numbers e is = numbers ∙ ap (λ (x : Effect). held_after (map.get cells dataset.header.key) x dataset.header) is
+-- the laws of sound lists
+pub record Holds : Type 0 where
+  pub held : (key : List ℕ) (files : List (List ℕ)) → IsSoundList key files → (held : Held) ×
+      (held_by files ≡ Some held) × IsHolding key (record { held = held; files = files; chart = rebuilt files })
+  pub closed : (key : List ℕ) (files : List (List ℕ)) → IsSoundList key files → IfSome (rebuilt files) IsClosed
 
-  pub base_by : effect ≡ Replace → dataset.base ≡ true
-  base_by is = effect_says (held_of (map.get cells dataset.header.key)) dataset Replace (as_judged Replace is)
+pub may-build : (holds : Holds) (key : List ℕ) (before : Option Holding) (dataset : DatasetValue) (effect : Effect) →
+    IsDataset dataset → WasLive key before → judged (held_of before) dataset ≡ Ok effect →
+    MayBuild (chart_of before) effect dataset
+may-build holds key before dataset Replace is live judges =
+    let says = effect_says (held_of before) dataset Replace judges in
+    record {
+      stands = λ _. stands_by_base dataset is says;
+      base = λ _. says;
+      there = λ e. absurd cc;
+      closed = closed-before holds.closed key before live;
+    }
+may-build holds key before dataset Extend is live judges =
+    let says = effect_says (held_of before) dataset Extend judges in
+    record {
+      stands = λ _. says.stands;
+      base = λ e. absurd cc;
+      there = λ _. has_chart key before says.here (λ holding h. live-held holds.held key holding h) live says.is says.lives;
+      closed = closed-before holds.closed key before live;
+    }
+may-build holds key before dataset Cancel is live judges = record {
+  stands = λ other. absurd (other refl);
+  base = λ e. absurd cc;
+  there = λ e. absurd cc;
+  closed = closed-before holds.closed key before live;
+}
 
-  pub place-replace : (cell : CellValue) → effect ≡ Replace → built None dataset ≡ Ok cell →
-      IsLive key (cell_after (map.get cells key) effect held (Some cell) file)
-  place-replace cell is builds =
-      moved cells key dataset.header.key effect Replace held (numbers_of dataset.header) (Some cell) file keyed is
-      (with_numbers Replace is)
-      (live-replace laws (map.get cells dataset.header.key) dataset file cell reads short (as_judged Replace is) builds)
+-- what is put in, where the chart is built
+pub placed-by : (state : StateValue) (dataset : DatasetValue) (file : List ℕ) (effect : Effect) (held : Held)
+    (chart : Option CellValue) → chart_after (chart_of (map.get state.cells dataset.header.key)) effect dataset ≡ Ok chart
+    → held ≡ held_after (map.get state.cells dataset.header.key) effect dataset.header
+    → placed state dataset file (map.get state.cells dataset.header.key) effect ≡ store_within
+    (map.insert state.cells dataset.header.key (cell_after (map.get state.cells dataset.header.key) effect held chart file))
+placed-by state dataset file effect held chart builds numbers =
+    ap (λ (r : Result (Option CellValue) Refusal). r >>= (λ c. store_within (map.insert state.cells dataset.header.key
+    (cell_after (map.get state.cells dataset.header.key) effect
+    (held_after (map.get state.cells dataset.header.key) effect dataset.header) c file)))) builds
+    ∙ ap (λ (h : Held). store_within (map.insert state.cells dataset.header.key
+    (cell_after (map.get state.cells dataset.header.key) effect h chart file))) (sym numbers)
 
-  pub place-cancel : effect ≡ Cancel → IsLive key (cell_after (map.get cells key) effect held None file)
-  place-cancel is =
-      moved cells key dataset.header.key effect Cancel held (held_after (map.get cells dataset.header.key) Cancel
-      dataset.header) None file keyed is (with_numbers Cancel is)
-      (live-cancel laws (map.get cells dataset.header.key) dataset file live reads short (as_judged Cancel is))
+-- ---- by what the calls ensure
 
-  pub place-extend : ((holding : Holding) → IsLive dataset.header.key holding →
-      IsHolding dataset.header.key holding) → effect ≡ Extend → IsExtension cells key held dataset file
-  place-extend holds is =
-      let says = effect_says (held_of (map.get cells dataset.header.key)) dataset Extend (as_judged Extend is) in
-      record {
-        stands = says.stands;
-        update = says.update;
-        there = subst (λ (q : List ℕ). IsSome (chart_of (map.get cells q))) (sym keyed)
-            (has_chart dataset.header.key (map.get cells dataset.header.key) says.here holds live says.is says.lives);
-        live = λ cell builds.
-            moved cells key dataset.header.key Extend Extend held (numbers_of dataset.header) (Some cell) file keyed
-            refl (with_numbers Extend is)
-            (live-extend laws (map.get cells dataset.header.key) dataset file cell live reads short
-            (as_judged Extend is)
-            (subst (λ (q : List ℕ). built (chart_of (map.get cells q)) dataset ≡ Ok cell) keyed builds));
-      }
+-- the chart that is held, as it is found
+pub chart-found : (cells now : HoldingsByKey) (key own : List ℕ) (before : Option Holding) (chart : Option CellValue) →
+    chart ≡ chart_of before → before ≡ map.get now key → now ≡ cells → key ≡ own → chart ≡ chart_of (map.get cells own)
+chart-found cells now key own before chart is found shown keyed =
+    is ∙ ap chart_of (found ∙ ap (λ (m : HoldingsByKey). map.get m key) shown ∙ ap (map.get cells) keyed)
+
+module _ (state : StateValue) (dataset : DatasetValue) (file : List ℕ) (effect : Effect) (held : Held)
+    (chart : Option CellValue) (key : List ℕ) (keyed : key ≡ dataset.header.key)
+    (numbers : held ≡ held_after (map.get state.cells dataset.header.key) effect dataset.header)
+    (builds : chart_after (chart_of (map.get state.cells dataset.header.key)) effect dataset ≡ Ok chart) where
+  pub live-by : (laws : Laws) → WasLive dataset.header.key (map.get state.cells dataset.header.key) →
+      data_set_in file ≡ Ok dataset → IsFileLength (length file) →
+      judged (held_of (map.get state.cells dataset.header.key)) dataset ≡ Ok effect →
+      IsLive key (cell_after (map.get state.cells key) effect held chart file)
+  live-by laws live reads short judges =
+      subst (λ (k : List ℕ). IsLive k (cell_after (map.get state.cells k) effect held chart file)) (sym keyed)
+      (subst (λ (h : Held). IsLive dataset.header.key
+      (cell_after (map.get state.cells dataset.header.key) effect h chart file)) (sym numbers)
+      (next-live laws (map.get state.cells dataset.header.key) dataset file effect chart live reads short judges builds))
+
+  pub placed-in : (r : Result Next SubmitFault) → GivesNextState r state (store_within (map.insert state.cells key
+      (cell_after (map.get state.cells key) effect held chart file))) →
+      GivesNextState r state (placed state dataset file (map.get state.cells dataset.header.key) effect)
+  placed-in r gives =
+      subst (GivesNextState r state)
+      (ap (λ (k : List ℕ). store_within (map.insert state.cells k
+      (cell_after (map.get state.cells k) effect held chart file))) keyed
+      ∙ sym (placed-by state dataset file effect held chart builds numbers)) gives
+
+-- the names that are told
+pub changed-in : (r : Result Next SubmitFault) (before chart : Option CellValue) (changed : List Name) →
+    IfOk r (λ next. next.changed ≡ changed) → IfOk r (λ next. chart_of next.holding ≡ chart) →
+    AreChanged before chart changed → IfOk r (λ next. AreChanged before (chart_of next.holding) next.changed)
+changed-in (Ok next) before chart changed named found are =
+    subst (λ (c : Option CellValue). AreChanged before c next.changed) (sym found)
+    (subst (AreChanged before chart) (sym named) are)
+changed-in (Err fault) before chart changed named found are = tt

@@ -3,3 +3,6 @@ pub mod Fault
 pub mod Loaded
 pub mod Live
 pub mod Taken
+pub mod Kept
+pub mod Outcome
+pub mod Next

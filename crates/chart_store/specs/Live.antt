@@ -5,7 +5,7 @@ use Rattle.chart_model.specs.State.{StateValue}
 use Rattle.chart_model.specs.declared.state.Holding.{Holding}
 use Rattle.update_sequence.specs.Sound.{Leaves}
 use Rattle.chart_store.specs.declared.refusal.Refusal.{Refusal}
-use Rattle.chart_store.specs.Loaded.{HoldingsByKey, nothing_held, live_bytes, STORE_LIMIT, Loaded, loaded}
+use Rattle.chart_store.specs.Loaded.{HoldingsByKey, nothing_held, live_bytes, STORE_LIMIT, Outcome, loaded}
 
 -- the live files of the cell are a sound list, and numbers and chart are those that they leave
 abbrev pub IsLive : List ℕ → Holding → Type 0
@@ -27,7 +27,7 @@ pub record IsStore (state : StateValue) (bytes : ℕ) : Type 0 where
 -- ---- files, one after the other
 
 -- a refusal leaves all as it was
-abbrev pub state_or : StateValue → Result Loaded Refusal → StateValue
+abbrev pub state_or : StateValue → Result Outcome Refusal → StateValue
 state_or state (Ok done) = done.state
 state_or state (Err refusal) = state
 

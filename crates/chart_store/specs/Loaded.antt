@@ -9,7 +9,8 @@ use Rattle.chart_model.specs.State.{StateValue}
 use Rattle.chart_model.specs.declared.dataset.Header.{Header}
 use Rattle.chart_model.specs.declared.state.Held.{Held}
 use Rattle.chart_model.specs.declared.state.Holding.{Holding}
-use Rattle.update_sequence.specs.Reading.{data_set_in}
+use Rattle.iso8211_records.specs.RecordFile.{data_records_in}
+use Rattle.update_sequence.specs.Reading.{tags_read, data_set_in}
 use Rattle.update_sequence.specs.Judged.{judged}
 use Rattle.update_sequence.specs.Built.{built}
 use Rattle.update_sequence.specs.Rebuilt.{numbers_of, held_by, rebuilt}
@@ -19,7 +20,7 @@ use Rattle.update_sequence.specs.declared.fault.BuildFault.{BuildFault}
 use Rattle.chart_store.specs.declared.refusal.Refusal.{Refusal}
 use Rattle.chart_store.specs.declared.refusal.Refusal.TheVariants.{FileLong, CellsFull, StoreFull}
 use Rattle.chart_store.specs.declared.fault.SubmitFault.{SubmitFault}
-use Rattle.chart_store.specs.declared.load.Accepted.{Accepted}
+use Rattle.chart_store.specs.declared.taken.Taken.{Taken}
 use Rattle.chart_store.specs.Refusal.{refusal_of_read, refusal_of_sequence, refusal_of_build}
 use Rattle.chart_store.specs.Fault.{GivesBy, or_refused}
 
@@ -98,38 +99,43 @@ store_within cells =
 
 -- ---- a file
 
--- a file that was accepted: its cell, the numbers that are held of it now, and all that is held
-pub record Loaded : Type 0 where
+-- What a command that is accepted leaves: its cell, the numbers that are held of it now, and all that is held. Of a
+-- cell that is taken away they are the numbers that were.
+pub record Outcome : Type 0 where
   pub key : List ℕ
   pub held : Held
   pub state : StateValue
 
 -- the cells with this one put in, as far as there is room
-abbrev pub put : StateValue → List ℕ → Holding → Result Loaded Refusal
+abbrev pub put : StateValue → List ℕ → Holding → Result Outcome Refusal
 put state key here = do
   after ← store_within (map.insert state.cells key here)
   Ok (record { key = key; held = here.held; state = after })
 
 -- a file and the data set that it is, by the live files of the cell
-abbrev pub accepted : StateValue → DatasetValue → List ℕ → List (List ℕ) → Result Loaded Refusal
-accepted state dataset file files = do
+abbrev pub accepted_file : StateValue → DatasetValue → List ℕ → List (List ℕ) → Result Outcome Refusal
+accepted_file state dataset file files = do
   effect ← or_fault_as refusal_of_sequence (judged (held_by files) dataset)
   _ ← cells_within state.cells dataset.header.key
   _ ← or_refused refusal_of_build (buildable files effect dataset)
   put state dataset.header.key (holding_of (files_after files effect file) dataset.header)
 
 -- what is held once the file is accepted, or the first refusal
-unfoldable pub loaded : StateValue → List ℕ → Result Loaded Refusal
+unfoldable pub loaded : StateValue → List ℕ → Result Outcome Refusal
 loaded state file = do
   bytes ← within_limit file
   dataset ← or_refused refusal_of_read (data_set_in bytes)
-  accepted state dataset bytes (files_of (map.get state.cells dataset.header.key))
+  accepted_file state dataset bytes (files_of (map.get state.cells dataset.header.key))
+
+-- the data records that are come to: of a file of more bytes none
+abbrev pub come_to : List ℕ → ℕ
+come_to file = if nat_le (length file) FILE_LIMIT then data_records_in tags_read file else 0
 
 -- ---- answers
 
-abbrev pub loaded_with : StateValue → Accepted → Loaded
+abbrev pub loaded_with : StateValue → Taken → Outcome
 loaded_with state cell = record { key = cell.key; held = cell.held; state = state }
 
 -- the answer with what is held now is what was to be answered, unless memory ran out
-abbrev pub GivesLoaded : Result Accepted SubmitFault → StateValue → Result Loaded Refusal → Type 0
+abbrev pub GivesLoaded : Result Taken SubmitFault → StateValue → Result Outcome Refusal → Type 0
 GivesLoaded answer state wanted = GivesBy (loaded_with state) answer wanted

@@ -1,9 +1,9 @@
 -- The same step by what is held of the cell, which the code looks at: of a live cell it is what its files leave.
-use Rattle.std.specs.Prelude.{◌≡◌, ℕ, false, List, [], ◌∷◌, ◌++◌}
-use Rattle.std.specs.Prelude.{Option, Some, None, IsSome, unwrap_or, Result, Ok}
+use Rattle.std.specs.Prelude.{◌≡◌, ◌≢◌, ℕ, true, false, List, Option, Some, None, IsSome, IfSome, unwrap_or, Result, Ok}
 use Rattle.std.specs.Option.{option_map, option_and_then}
 use Rattle.std.specs.FinMap as map
 use Rattle.chart_model.specs.Answers.{◌>>=◌, or_fault_as}
+use Rattle.chart_closure.specs.Closed.{IsClosed}
 use Rattle.chart_model.specs.Cell.{CellValue}
 use Rattle.chart_model.specs.Dataset.{DatasetValue}
 use Rattle.chart_model.specs.State.{StateValue}
@@ -16,11 +16,9 @@ use Rattle.update_sequence.specs.Rebuilt.{numbers_of, cancelled}
 use Rattle.update_sequence.specs.declared.effect.Effect.{Effect}
 use Rattle.update_sequence.specs.declared.effect.Effect.TheVariants.{Replace, Extend, Cancel}
 use Rattle.chart_store.specs.declared.refusal.Refusal.{Refusal}
-use Rattle.chart_store.specs.declared.fault.SubmitFault.{SubmitFault}
 use Rattle.chart_store.specs.Refusal.{refusal_of_sequence, refusal_of_build}
-use Rattle.chart_store.specs.Fault.{GivesBy, or_refused}
-use Rattle.chart_store.specs.Loaded.{HoldingsByKey, files_of, files_after, bytes_of, cells_within, store_within, Loaded}
-use Rattle.chart_store.specs.Live.{IsLive}
+use Rattle.chart_store.specs.Fault.{or_refused}
+use Rattle.chart_store.specs.Loaded.{HoldingsByKey, files_of, files_after, bytes_of, cells_within, store_within, Outcome}
 
 abbrev pub held_of : Option Holding → Option Held
 held_of before = option_map (λ (here : Holding). here.held) before
@@ -61,7 +59,7 @@ placed state dataset file before effect = do
   store_within (map.insert state.cells dataset.header.key (cell_by before effect dataset.header chart file))
 
 -- a data set and its file
-abbrev pub taken : StateValue → DatasetValue → List ℕ → Option Holding → Result Loaded Refusal
+abbrev pub taken : StateValue → DatasetValue → List ℕ → Option Holding → Result Outcome Refusal
 taken state dataset file before = do
   effect ← or_fault_as refusal_of_sequence (judged (held_of before) dataset)
   _ ← cells_within state.cells dataset.header.key
@@ -74,37 +72,9 @@ replaced_bytes before Replace = bytes_of (files_of before)
 replaced_bytes before Extend = 0
 replaced_bytes before Cancel = 0
 
--- ---- a chart that is extended in its place
-
--- a cell extended by an update and its file
-abbrev pub extended : Holding → Held → DatasetValue → List ℕ → Result Holding Refusal
-extended here held dataset file = do
-  chart ← chart_built here.chart dataset
-  Ok (record { held = held; files = here.files ++ file ∷ []; chart = chart })
-
--- the cells, with one of them extended
-abbrev pub extended_in : HoldingsByKey → List ℕ → Held → DatasetValue → List ℕ → Result HoldingsByKey Refusal
-extended_in cells key held dataset file = do
-  chart ← chart_built (chart_of (map.get cells key)) dataset
-  Ok (map.insert cells key (cell_after (map.get cells key) Extend held chart file))
-
--- the same, as far as there is room
-abbrev pub extended_within : HoldingsByKey → List ℕ → Held → DatasetValue → List ℕ → Result StateValue Refusal
-extended_within cells key held dataset file = do
-  after ← extended_in cells key held dataset file
-  store_within after
-
--- a cell with a chart can be extended by an update, and is then one that can be held
-pub record IsExtension (cells : HoldingsByKey) (key : List ℕ) (held : Held) (dataset : DatasetValue) (file : List ℕ)
-    : Type 0 where
-  pub stands : dataset.cancels ≡ false
-  pub update : dataset.base ≡ false
-  pub there : IsSome (chart_of (map.get cells key))
-  pub live : (chart : CellValue) → built (chart_of (map.get cells key)) dataset ≡ Ok chart →
-      IsLive key (cell_after (map.get cells key) Extend held (Some chart) file)
-
--- ---- answers
-
--- a value as it is now is what was to be, unless memory ran out
-abbrev pub GivesNow : {A : Type 0} → Result (Unit {0}) SubmitFault → A → Result A Refusal → Type 0
-GivesNow answer now wanted = GivesBy (λ done. now) answer wanted
+-- a data set that was judged can be built on the chart
+pub record MayBuild (chart : Option CellValue) (effect : Effect) (dataset : DatasetValue) : Type 0 where
+  pub stands : effect ≢ Cancel → dataset.cancels ≡ false
+  pub base : effect ≡ Replace → dataset.base ≡ true
+  pub there : effect ≡ Extend → IsSome chart
+  pub closed : IfSome chart IsClosed

@@ -1,19 +1,20 @@
-//! Cells put in by their keys.
+//! What is held of one cell.
 
-ghost use Rattle.std.specs.Prelude.{◌≡◌, ◌-◌, true, false, length, take, None, IfSome, IsSome, OnOk, OnErr};
+ghost use Rattle.std.specs.Prelude.{◌≡◌, IfOk, IsSome, IsOk, OnOk, OnErr};
 ghost use Rattle.std.specs.Option.{option_copied};
 ghost use Rattle.std.specs.FinMap as map;
-ghost use Rattle.chart_closure.specs.Closed.{IsClosed};
-ghost use Rattle.update_sequence.specs.declared.effect.Effect.TheVariants.{Replace, Extend};
-ghost use Rattle.chart_store.specs.Taken.{held_of, chart_of, chart_built, cell_after, extended, extended_in, GivesNow};
+ghost use Rattle.update_sequence.specs.declared.effect.Effect.TheVariants.{Extend};
+ghost use Rattle.chart_store.specs.Fault.{Gives};
+ghost use Rattle.chart_store.specs.Loaded.{files_of, files_after};
+ghost use Rattle.chart_store.specs.Next.{cells_with};
+ghost use Rattle.chart_store.specs.Taken.{held_of, chart_of, chart_after, MayBuild};
 
 use crate::fault::SubmitFault;
-use chart_model::{Cell, Dataset, FileList, Held, Holding, HoldingMap, Key, Octets};
+use chart_model::{Cell, Dataset, FileList, Held, Holding, HoldingMap, Key, Octets, Shared};
 use std::alloc::{AllocError, Global};
-use std::mem;
-use update_sequence::{Effect, extend};
+use update_sequence::{Effect, build, extend};
 
-/// What is held of a cell: its numbers.
+/// The numbers of a cell.
 pub(crate) fn held_of(before: Option<&Holding>) -> Option<&Held>
     ensures { option_copied result ≡ held_of (option_copied before.entry) }
 {
@@ -23,7 +24,7 @@ pub(crate) fn held_of(before: Option<&Holding>) -> Option<&Held>
     }
 }
 
-/// What is held of a cell: its chart, unless it is cancelled.
+/// The chart of a cell, unless it is cancelled.
 pub(crate) fn chart_of(before: Option<&Holding>) -> Option<&Cell>
     ensures { option_copied result ≡ chart_of (option_copied before.entry) }
 {
@@ -33,151 +34,76 @@ pub(crate) fn chart_of(before: Option<&Holding>) -> Option<&Cell>
     }
 }
 
-/// Puts a file's cell in, with this file alone.
-fn begin(
+/// The live files once a file is taken over: a base file stands alone, any other follows those before it, whose bytes
+/// are shared.
+pub(crate) fn files_after(
     alloc: Global,
-    cells: &mut HoldingMap,
-    key: Key,
-    held: Held,
-    chart: Option<Cell>,
-    file: Octets,
-) -> Result<(), AllocError>
-    ensures ok { OnOk result (cells.new ≡ map.insert cells.old key (cell_after None Replace held chart file)) }
-    ensures err { OnErr result (cells.new ≡ cells.old) }
-{
-    let mut files = FileList::new(alloc);
-    files.push(file)?;
-    cells.insert(key, Holding { held, files, chart })
-}
-
-/// Puts a file behind the live files of its cell, which is held.
-fn follow(
-    alloc: Global,
-    cells: &mut HoldingMap,
-    key: Key,
-    held: Held,
-    chart: Option<Cell>,
-    file: Octets,
-) -> Result<(), AllocError>
-    requires { IsSome (map.get cells.old key) }
-    ensures ok { OnOk result (cells.new ≡ map.insert cells.old key
-        (cell_after (map.get cells.old key) Extend held chart file)) }
-    ensures err { OnErr result (cells.new ≡ cells.old) }
-{
-    // While the cell is edited, one without a file stands in for it.
-    let mut here = Holding {
-        held,
-        files: FileList::new(alloc),
-        chart: None,
-    };
-    cells.swap(key, &mut here);
-    if let Err(error) = here.files.push(file) {
-        cells.swap(key, &mut here);
-        return Err(error);
-    }
-    here.held = held;
-    here.chart = chart;
-    cells.swap(key, &mut here);
-    Ok(())
-}
-
-/// Puts a file in: it replaces the live files of its cell or follows them.
-pub(crate) fn put_in(
-    alloc: Global,
-    cells: &mut HoldingMap,
-    key: Key,
+    before: Option<&Holding>,
     effect: Effect,
-    held: Held,
-    chart: Option<Cell>,
     file: Octets,
-) -> Result<(), AllocError>
-    ensures ok { OnOk result (cells.new ≡ map.insert cells.old key
-        (cell_after (map.get cells.old key) effect held chart file)) }
-    ensures err { OnErr result (cells.new ≡ cells.old) }
+) -> Result<FileList, AllocError>
+    ensures { IfOk result (λ files. files ≡ files_after (files_of (option_copied before.entry)) effect file) }
 {
-    if effect == Effect::Replace || !cells.contains(key) {
-        begin(alloc, cells, key, held, chart, file)
-    } else {
-        follow(alloc, cells, key, held, chart, file)
-    }
+    let file = Shared::of(alloc, file)?;
+    let mut files = match (before, effect) {
+        (Some(here), Effect::Extend | Effect::Cancel) => here.files.clone()?,
+        _ => FileList::new(alloc),
+    };
+    files.push(file)?;
+    Ok(files)
 }
 
-/// Takes out the last of the files.
-fn take_last(alloc: Global, files: &mut FileList)
-    ensures { files.new ≡ take (length files.old - 1) files.old }
-{
-    let mut list = mem::replace(files, FileList::new(alloc)).into_vec();
-    list.pop();
-    *files = FileList::from_vec(list);
-}
-
-/// Extends the chart of a cell by an update. On any refusal it is as it was.
-fn extend_chart(
+/// The chart that an update makes of the one that is held.
+fn chart_extended(
     alloc: Global,
-    chart: &mut Option<Cell>,
+    chart: Option<&Cell>,
     dataset: &Dataset,
-) -> Result<(), SubmitFault>
-    requires stands { dataset.now.cancels ≡ false }
-    requires update { dataset.now.base ≡ false }
-    requires there { IsSome chart.old }
-    requires closed { IfSome chart.old IsClosed }
-    ensures after { GivesNow result chart.new (chart_built chart.old dataset.now) }
-    ensures err { OnErr result (chart.new ≡ chart.old) }
+) -> Result<Option<Cell>, SubmitFault>
+    requires { MayBuild (option_copied chart) Extend dataset.now }
+    ensures { Gives result (chart_after (option_copied chart.entry) Extend dataset.now) }
 {
     match chart {
-        Some(chart) => Ok(extend(alloc, chart, dataset)?),
+        Some(chart) => Ok(Some(extend(alloc, chart, dataset)?)),
         None => unreachable!(),
     }
 }
 
-/// Extends a cell by an update and its file. On any refusal it is as it was.
-fn extend_holding(
+/// The chart once a data set is taken over: none where it cancels the cell.
+pub(crate) fn chart_after(
     alloc: Global,
-    here: &mut Holding,
-    held: Held,
+    chart: Option<&Cell>,
+    effect: Effect,
     dataset: &Dataset,
-    file: Octets,
-) -> Result<(), SubmitFault>
-    requires stands { dataset.now.cancels ≡ false }
-    requires update { dataset.now.base ≡ false }
-    requires there { IsSome here.old.chart }
-    requires closed { IfSome here.old.chart IsClosed }
-    ensures after { GivesNow result here.new (extended here.old held dataset.now file) }
-    ensures err { OnErr result (here.new ≡ here.old) }
+) -> Result<Option<Cell>, SubmitFault>
+    requires { MayBuild (option_copied chart) effect dataset.now }
+    ensures { Gives result (chart_after (option_copied chart.entry) effect dataset.now) }
 {
-    here.files.push(file)?;
-    if let Err(fault) = extend_chart(alloc, &mut here.chart, dataset) {
-        take_last(alloc, &mut here.files);
-        return Err(fault);
+    match effect {
+        Effect::Replace => Ok(Some(build(alloc, None, dataset)?)),
+        Effect::Extend => chart_extended(alloc, chart, dataset),
+        Effect::Cancel => Ok(None),
     }
-    here.held = held;
-    Ok(())
 }
 
-/// Extends the cell of this key, which has a chart, by an update and its file. On any refusal nothing changes.
-pub(crate) fn extend_in(
-    alloc: Global,
+/// Puts a cell in place of what is held of it, or takes it away, and gives what was held. It takes memory only where
+/// the cell is a new one; where there is none nothing changes.
+pub(crate) fn set_in(
     cells: &mut HoldingMap,
     key: Key,
-    held: Held,
-    dataset: &Dataset,
-    file: Octets,
-) -> Result<(), SubmitFault>
-    requires stands { dataset.now.cancels ≡ false }
-    requires update { dataset.now.base ≡ false }
-    requires there { IsSome (chart_of (map.get cells.old key)) }
-    requires closed { IfSome (chart_of (map.get cells.old key)) IsClosed }
-    ensures after { GivesNow result cells.new (extended_in cells.old key held dataset.now file) }
+    holding: Option<Holding>,
+) -> Result<Option<Holding>, AllocError>
+    ensures ok { OnOk result (cells.new ≡ cells_with cells.old key holding) }
+    ensures before { IfOk result (λ before. before ≡ map.get cells.old key) }
     ensures err { OnErr result (cells.new ≡ cells.old) }
+    ensures free { IsSome (map.get cells.old key) → IsOk result }
 {
-    // While the cell is edited, one without a file stands in for it.
-    let mut here = Holding {
-        held,
-        files: FileList::new(alloc),
-        chart: None,
+    let Some(mut holding) = holding else {
+        return Ok(cells.remove(key));
     };
-    cells.swap(key, &mut here);
-    let done = extend_holding(alloc, &mut here, held, dataset, file);
-    cells.swap(key, &mut here);
-    done
+    if cells.contains(key) {
+        cells.swap(key, &mut holding);
+        return Ok(Some(holding));
+    }
+    cells.insert(key, holding)?;
+    Ok(None)
 }

@@ -1,15 +1,22 @@
 //! Laws of the definitions.
 
-ghost use Rattle.std.specs.Prelude.{◌≡◌, ◌≢◌, ℕ, List, Ok, Err};
+ghost use Rattle.std.specs.Prelude.{◌≡◌, ◌≢◌, ℕ, List, [], ◌∷◌, ◌++◌, Some, None, Ok, Err};
 ghost use Rattle.std.specs.FinMap as map;
 ghost use Rattle.chart_model.specs.Dataset.{DatasetValue};
 ghost use Rattle.chart_model.specs.State.{StateValue};
+ghost use Rattle.chart_model.specs.declared.command.Command.{Command};
 ghost use Rattle.update_sequence.specs.Reading.{data_set_in};
 ghost use Rattle.chart_store.specs.declared.refusal.Refusal.{Refusal};
-ghost use Rattle.chart_store.specs.Loaded.{Loaded, loaded};
+ghost use Rattle.chart_store.specs.Loaded.{Outcome, nothing_held, loaded};
+ghost use Rattle.chart_store.specs.Kept.{MayKeep, IsKept, kept_by};
 ghost use Rattle.chart_store.specs.Live.{AreLive, state_after, state_by};
+ghost use Rattle.chart_store.specs.Outcome.{IsKeyOf, outcome, state_with, after, charts};
+ghost use Rattle.chart_store.specs.Taken.{chart_of};
 
-use update_sequence::{accepted_files_follow, one_file_more};
+use update_sequence::{
+    accepted_files_follow, one_file_more, sound_lists_are_held, sound_lists_are_tested,
+    sound_lists_grow,
+};
 
 /// After any files, loaded one after the other from nothing held and each accepted or refused, the live files
 /// of each cell are a sound list, and its numbers and its chart are those that these whole files leave. One file
@@ -24,10 +31,54 @@ pub fn live_files_leave_what_is_held()
 
 /// A file that is accepted is one of its key, and changes the cell of that key alone. A refused one changes none.
 pub fn loads_change_their_cell_alone()
-    ensures keyed { (state : StateValue) (file : List ℕ) (done : Loaded) →
+    ensures keyed { (state : StateValue) (file : List ℕ) (done : Outcome) →
         loaded state file ≡ Ok done → (dataset : DatasetValue) × (data_set_in file ≡ Ok dataset) × (dataset.header.key ≡ done.key) }
-    ensures alone { (state : StateValue) (file : List ℕ) (done : Loaded) (key : List ℕ) →
+    ensures alone { (state : StateValue) (file : List ℕ) (done : Outcome) (key : List ℕ) →
         loaded state file ≡ Ok done → key ≢ done.key → map.get done.state.cells key ≡ map.get state.cells key }
     ensures refused { (state : StateValue) (file : List ℕ) (refusal : Refusal) →
         loaded state file ≡ Err refusal → state_after state file ≡ state }
 {}
+
+/// After any commands, one after the other from nothing held and each accepted or refused, the live files of each
+/// cell are a sound list, and its numbers and its chart are those that these whole files leave. One command more
+/// keeps that.
+pub fn commands_leave_what_is_held()
+    ensures live { (commands : List Command) → AreLive (after nothing_held commands).cells }
+    ensures more { (state : StateValue) (command : Command) → AreLive state.cells → AreLive (state_with state command).cells }
+    ensures charts { (state : StateValue) (key : List ℕ) → AreLive state.cells → chart_of (map.get state.cells key) ≡ charts state key }
+{
+    one_file_more();
+    accepted_files_follow();
+    sound_lists_grow();
+    sound_lists_are_tested();
+    sound_lists_are_held();
+}
+
+/// Commands are carried out in turn: one more changes what those before it leave.
+pub fn commands_follow_in_turn()
+    ensures none { (state : StateValue) → after state [] ≡ state }
+    ensures more { (state : StateValue) (commands : List Command) (command : Command) →
+        after state (commands ++ command ∷ []) ≡ state_with (after state commands) command }
+{}
+
+/// A command that is accepted speaks of its key, and changes the cell of that key alone. A refused one changes none.
+pub fn commands_change_their_cell_alone()
+    ensures keyed { (state : StateValue) (command : Command) (done : Outcome) →
+        outcome state command ≡ Ok done → IsKeyOf command done.key }
+    ensures alone { (state : StateValue) (command : Command) (done : Outcome) (key : List ℕ) →
+        outcome state command ≡ Ok done → key ≢ done.key → map.get done.state.cells key ≡ map.get state.cells key }
+    ensures refused { (state : StateValue) (command : Command) (refusal : Refusal) →
+        outcome state command ≡ Err refusal → state_with state command ≡ state }
+{}
+
+/// What a rollback keeps is the shortest list that the files begin with, that is sound, and that ends with a file
+/// that has the number and doesn't cancel the cell. It keeps none only where there is no such list.
+pub fn rollbacks_keep_the_shortest_list()
+    ensures kept { (key : List ℕ) (number : ℕ) (files kept : List (List ℕ)) →
+        kept_by key number files ≡ Some kept → IsKept key number files kept }
+    ensures none { (key : List ℕ) (number : ℕ) (files kept rest : List (List ℕ)) →
+        kept_by key number files ≡ None → files ≡ kept ++ rest → ¬ MayKeep key number kept }
+{
+    sound_lists_grow();
+    sound_lists_are_tested();
+}

@@ -1,37 +1,41 @@
 //! Files that are loaded.
 
-ghost use Rattle.std.specs.Prelude.{◌≡◌, ◌+◌, ◌≤◌, Ok, length, IfSome, OnErr};
+ghost use Rattle.std.specs.Prelude.{◌≡◌, ◌≢◌, ◌+◌, ◌-◌, ◌≤◌, Ok, Err, length, IfOk, IfSome};
 ghost use Rattle.std.specs.Option.{option_copied};
 ghost use Rattle.std.specs.FinMap as map;
 ghost use Rattle.chart_model.specs.State.{IsFileLength};
-ghost use Rattle.iso8211_records.specs.RecordFile.{data_records_in};
-ghost use Rattle.update_sequence.specs.Reading.{tags_read, data_set_in};
+ghost use Rattle.update_sequence.specs.Reading.{data_set_in};
 ghost use Rattle.update_sequence.specs.Judged.{judged};
-ghost use Rattle.chart_store.specs.Loaded.{loaded, GivesLoaded};
+ghost use Rattle.chart_difference.specs.Difference.{AreChanged};
+ghost use Rattle.chart_store.specs.Loaded.{loaded, bytes_of, files_of, live_bytes, store_within, come_to};
 ghost use Rattle.chart_store.specs.Live.{IsLive, AreLive};
-ghost use Rattle.chart_store.specs.Taken.{held_of, held_after, placed, taken, GivesNow};
+ghost use Rattle.chart_store.specs.Next.{IsNext, GivesNext, GivesNextState};
+ghost use Rattle.chart_store.specs.Taken.{held_of, chart_of, held_after, cell_after, replaced_bytes, placed, taken};
 
+use crate::changed::changed_by_file;
 use crate::fault::SubmitFault;
-use crate::holding::held_of;
-use crate::live::{CELLS_LIMIT, LiveCells};
+use crate::holding::{chart_after, chart_of, files_after, held_of};
+use crate::live::{CELLS_LIMIT, LiveCells, STORE_LIMIT, bytes_of};
+use crate::next::Next;
 use crate::refusal::Refusal;
-use chart_model::{Dataset, Header, Held, Holding, Key, Octets};
+use chart_model::{Cell, Dataset, Header, Held, Holding, Key, NameList, Octets};
 use chart_ports::Steps;
 use std::alloc::Global;
 use std::sync::ledger::Ledger;
 use update_sequence::{
-    Effect, accepted_files_follow, build, files_are_data_sets, judge, one_file_more, read_data_set,
+    Effect, accepted_files_follow, files_are_data_sets, judge, one_file_more, read_data_set,
     sound_lists_are_held,
 };
 
 /// The most bytes of a file that is loaded.
 pub const FILE_LIMIT: u64 = 8_388_608;
 
-/// The cell of a file that was accepted, and the numbers that are held of it now.
-#[derive(Clone, Copy, Debug)]
-pub struct Accepted {
-    pub key: Key,
-    pub held: Held,
+/// What a file makes of its cell: the numbers and the chart then, and the names whose records differ.
+#[derive(Drop)]
+struct Made {
+    held: Held,
+    chart: Option<Cell>,
+    changed: NameList,
 }
 
 /// The numbers that are held of a cell after a file.
@@ -53,52 +57,118 @@ fn held_after(before: Option<&Holding>, effect: Effect, header: &Header) -> Held
     }
 }
 
-/// Puts a data set and its file in, as it was judged: by its effect and the numbers that are held then.
-fn place(
+/// The bytes of the live files that a file replaces.
+fn replaced_bytes(before: Option<&Holding>, effect: Effect) -> u64
+    requires { bytes_of (files_of (option_copied before)) ≤ STORE_LIMIT }
+    ensures { result ≡ replaced_bytes (option_copied before.entry) effect }
+{
+    match (before, effect) {
+        (Some(here), Effect::Replace) => bytes_of(here.files.as_slice()),
+        _ => 0,
+    }
+}
+
+/// The bytes of all live files once a file is taken over.
+fn bytes_after(live: &LiveCells, key: Key, effect: Effect, file: &[u8]) -> u64
+    requires { IsFileLength (length file.now) }
+    ensures { result ≡ live_bytes live.now.cells - replaced_bytes (map.get live.now.cells key) effect + length file.now }
+{
+    let before = live.cells().get(key);
+    live.bytes() - replaced_bytes(before, effect) + file.len() as u64
+}
+
+/// What is held once a file is taken over, where there is room for it.
+fn with_file(
     alloc: Global,
+    live: &LiveCells,
+    key: Key,
+    effect: Effect,
+    made: Made,
+    file: Octets,
+) -> Result<Next, SubmitFault>
+    requires short { IsFileLength (length file) }
+    requires live { IsLive key (cell_after (map.get live.now.cells key) effect made.held made.chart file) }
+    ensures after { GivesNextState result live.now (store_within (map.insert live.now.cells key
+        (cell_after (map.get live.now.cells key) effect made.held made.chart file))) }
+    ensures stands { IfOk result (IsNext live.now) }
+    ensures key { IfOk result (λ next. next.key ≡ key) }
+    ensures held { IfOk result (λ next. next.held ≡ made.held) }
+    ensures changed { IfOk result (λ next. next.changed ≡ made.changed) }
+    ensures chart { IfOk result (λ next. chart_of next.holding ≡ made.chart) }
+{
+    let bytes = bytes_after(live, key, effect, file.as_slice());
+    if bytes > STORE_LIMIT {
+        return Err(SubmitFault::Refused(Refusal::StoreFull(bytes)));
+    }
+    let files = files_after(alloc, live.cells().get(key), effect, file)?;
+    let Made {
+        held,
+        chart,
+        changed,
+    } = made;
+    Ok(Next {
+        key,
+        held,
+        holding: Some(Holding { held, files, chart }),
+        bytes,
+        changed,
+    })
+}
+
+/// What is held once a data set and its file are taken over, as they were judged: by the effect and the numbers that are
+/// held then.
+fn placed(
+    alloc: Global,
+    live: &LiveCells,
     dataset: &Dataset,
     file: Octets,
-    live: &mut LiveCells,
     effect: Effect,
     held: Held,
-) -> Result<(), SubmitFault>
+) -> Result<Next, SubmitFault>
     requires reads { data_set_in file ≡ Ok dataset.now }
     requires short { IsFileLength (length file) }
-    requires live { IfSome (map.get live.old.cells dataset.now.header.key) (IsLive dataset.now.header.key) }
-    requires judged { judged (held_of (map.get live.old.cells dataset.now.header.key)) dataset.now ≡ Ok effect }
-    requires held { held ≡ held_after (map.get live.old.cells dataset.now.header.key) effect dataset.now.header }
-    ensures placed { GivesNow result live.new
-        (placed live.old dataset.now file (map.get live.old.cells dataset.now.header.key) effect) }
-    ensures err { OnErr result (live.new ≡ live.old) }
+    requires live { IfSome (map.get live.now.cells dataset.now.header.key) (IsLive dataset.now.header.key) }
+    requires judged { judged (held_of (map.get live.now.cells dataset.now.header.key)) dataset.now ≡ Ok effect }
+    requires held { held ≡ held_after (map.get live.now.cells dataset.now.header.key) effect dataset.now.header }
+    ensures after { GivesNextState result live.now
+        (placed live.now dataset.now file (map.get live.now.cells dataset.now.header.key) effect) }
+    ensures stands { IfOk result (IsNext live.now) }
+    ensures key { IfOk result (λ next. next.key ≡ dataset.now.header.key) }
+    ensures held { IfOk result (λ next. next.held ≡ held) }
+    ensures changed { IfOk result (λ next.
+        AreChanged (chart_of (map.get live.now.cells dataset.now.header.key)) (chart_of next.holding) next.changed) }
 {
     files_are_data_sets();
     one_file_more();
     accepted_files_follow();
     sound_lists_are_held();
     let key = dataset.header.key;
-    match effect {
-        Effect::Replace => {
-            let chart = build(alloc, None, dataset)?;
-            live.put(alloc, key, effect, held, Some(chart), file)
-        }
-        Effect::Extend => live.extend(alloc, key, held, dataset, file),
-        Effect::Cancel => live.put(alloc, key, effect, held, None, file),
-    }
+    let before = chart_of(live.cells().get(key));
+    let chart = chart_after(alloc, before, effect, dataset)?;
+    let changed = changed_by_file(alloc, before, chart.as_ref(), effect, dataset)?;
+    let made = Made {
+        held,
+        chart,
+        changed,
+    };
+    with_file(alloc, live, key, effect, made, file)
 }
 
-/// Takes over a data set and its file.
-fn take(
+/// What is held once a data set and its file are taken over.
+fn next_of_data_set(
     alloc: Global,
+    live: &LiveCells,
     dataset: &Dataset,
     file: Octets,
-    live: &mut LiveCells,
-) -> Result<Accepted, SubmitFault>
+) -> Result<Next, SubmitFault>
     requires reads { data_set_in file ≡ Ok dataset.now }
     requires short { IsFileLength (length file) }
-    ensures taken { GivesLoaded result live.new
-        (taken live.old dataset.now file (map.get live.old.cells dataset.now.header.key)) }
-    ensures err { OnErr result (live.new ≡ live.old) }
-    ensures was { AreLive live.old.cells }
+    ensures after { GivesNext result live.now
+        (taken live.now dataset.now file (map.get live.now.cells dataset.now.header.key)) }
+    ensures stands { IfOk result (IsNext live.now) }
+    ensures changed { IfOk result (λ next.
+        AreChanged (chart_of (map.get live.now.cells next.key)) (chart_of next.holding) next.changed) }
+    ensures live { AreLive live.now.cells }
 {
     let key = dataset.header.key;
     let before = live.cells().get(key);
@@ -107,34 +177,29 @@ fn take(
     if live.is_full_for(key) {
         return Err(SubmitFault::Refused(Refusal::CellsFull(CELLS_LIMIT)));
     }
-    place(alloc, dataset, file, live, effect, held)?;
-    Ok(Accepted { key, held })
+    placed(alloc, live, dataset, file, effect, held)
 }
 
-impl LiveCells {
-    /// Loads a cell file: a base file replaces what is held of its cell, an update extends it, and an update of
-    /// edition 0 cancels it. Each data record that is come to is a step.
-    ///
-    /// # Errors
-    ///
-    /// The first refusal; `NoMemory`. What is held is then as it was.
-    #[tactic(auto, unfolding(crate::specs::Loaded::loaded))]
-    pub fn load<C: Ledger>(
-        &mut self,
-        alloc: Global,
-        file: Octets,
-        steps: &mut Steps<C>,
-    ) -> Result<Accepted, SubmitFault>
-        ensures loaded { GivesLoaded result self.new (loaded self.old file) }
-        ensures err { OnErr result (self.new ≡ self.old) }
-        ensures at_most { steps.new ≤ steps.old + data_records_in tags_read file }
-    {
-        one_file_more();
-        accepted_files_follow();
-        if file.as_slice().len() as u64 > FILE_LIMIT {
-            return Err(SubmitFault::Refused(Refusal::FileLong(FILE_LIMIT)));
-        }
-        let dataset = read_data_set(alloc, file.as_slice(), steps)?;
-        take(alloc, &dataset, file, self)
+/// What is held once a file is loaded. Each data record that is come to is a step.
+#[tactic(auto, unfolding(crate::specs::Loaded::loaded))]
+pub(crate) fn next_of_file<C: Ledger>(
+    alloc: Global,
+    live: &LiveCells,
+    file: Octets,
+    steps: &mut Steps<C>,
+) -> Result<Next, SubmitFault>
+    ensures after { GivesNext result live.now (loaded live.now file) }
+    ensures stands { IfOk result (IsNext live.now) }
+    ensures changed { IfOk result (λ next.
+        AreChanged (chart_of (map.get live.now.cells next.key)) (chart_of next.holding) next.changed) }
+    ensures read { result ≢ Err SubmitFault.NoMemory → steps.new ≡ steps.old + come_to file }
+    ensures at_most { steps.new ≤ steps.old + come_to file }
+{
+    one_file_more();
+    accepted_files_follow();
+    if file.as_slice().len() as u64 > FILE_LIMIT {
+        return Err(SubmitFault::Refused(Refusal::FileLong(FILE_LIMIT)));
     }
+    let dataset = read_data_set(alloc, file.as_slice(), steps)?;
+    next_of_data_set(alloc, live, &dataset, file)
 }

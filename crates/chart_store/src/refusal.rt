@@ -1,8 +1,8 @@
-//! Why a store refuses a file.
+//! Why a store refuses a command.
 
 use chart_model::{Foid, Key, Name};
 
-/// Why a store refuses a file: one variant for each row of the table of refusals, in the order of their codes, with
+/// Why a store refuses a command: one variant for each row of the table of refusals, in the order of their codes, with
 /// the values that it names. Want of memory is none of them.
 ///
 /// An offset is a place in the file, counted from 0. Data records are counted from 1.
@@ -115,4 +115,16 @@ pub enum Refusal {
     CellsFull(usize),
     /// 62: the live files would have so many bytes.
     StoreFull(u64),
+    /// 63: a bank has so many bytes in use, and the command needs so many more.
+    BankFull {
+        length: u64,
+        need: u64,
+    },
+    /// 73: no cell is held under this key.
+    NoCell(Key),
+    /// 74: no file that doesn't cancel the cell has this update number.
+    NoUpdate {
+        key: Key,
+        update: u32,
+    },
 }

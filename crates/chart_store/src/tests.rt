@@ -1,9 +1,9 @@
-//! Loads worked out by hand.
+//! Commands worked out by hand.
 
 ghost use Rattle.std.specs.Prelude.{◌≡◌, ◌<◌};
 
-use crate::{Accepted, LiveCells, Refusal, SubmitFault};
-use chart_model::{HoldingMap, Octets};
+use crate::{LiveCells, SubmitFault, Taken};
+use chart_model::{Command, HoldingMap, Key, NameList, Octets};
 use chart_ports::Steps;
 use std::alloc::{AllocError, Global};
 use std::marker::Brand;
@@ -69,11 +69,43 @@ fn file_of(alloc: Global, records: &[&[u8]]) -> Result<Octets, AllocError> {
     Ok(Octets::from_vec(bytes))
 }
 
-/// What was answered, as a text.
-fn answered(alloc: Global, answer: Result<Accepted, SubmitFault>) -> Result<String, AllocError> {
+/// A command of the cell of these files.
+#[derive(Clone, Copy)]
+enum Given<'a> {
+    /// Loads a file with these data records.
+    Load(&'a [&'a [u8]]),
+    Rollback(u32),
+    Drop,
+}
+
+/// The command itself.
+fn command_of(alloc: Global, given: Given) -> Result<Command, Fail> {
+    let key = Key::from_bytes(b"AA5TEST1").ok_or("a key")?;
+    Ok(match given {
+        Given::Load(records) => Command::Load(file_of(alloc, records)?),
+        Given::Rollback(update) => Command::Rollback(key, update),
+        Given::Drop => Command::Drop(key),
+    })
+}
+
+/// Names as a text.
+fn names_of(alloc: Global, names: &NameList) -> Result<String, AllocError> {
+    let mut text = String::new(alloc);
+    for name in names.as_slice() {
+        text.push_str(format!(in alloc; " {}/{}", name.rcnm, name.rcid)?.as_str())?;
+    }
+    Ok(text)
+}
+
+/// What was answered, as a text: the numbers, and the names whose records differ.
+fn answered(alloc: Global, answer: Result<Taken, SubmitFault>) -> Result<String, AllocError> {
     match answer {
-        Ok(Accepted { held, .. }) => {
-            format!(in alloc; "{} {} {}", held.edition, held.update, held.cancelled)
+        Ok(Taken { held, changed, .. }) => {
+            let names = names_of(alloc, &changed)?;
+            format!(in alloc;
+                "{} {} {}{names}",
+                held.edition, held.update, held.cancelled
+            )
         }
         Err(SubmitFault::Refused(refusal)) => format!(in alloc; "{refusal:?}"),
         Err(SubmitFault::NoMemory) => String::from_str(alloc, "no memory"),
@@ -98,12 +130,12 @@ fn shown(alloc: Global, cells: &HoldingMap) -> Result<String, AllocError> {
     Ok(text)
 }
 
-/// Loads files of these records one after the other, and tells what each was answered and what was held then.
-fn loads_with<C: Ledger>(
+/// Gives commands one after the other, and tells what each was answered and what was held then.
+fn tell_with<C: Ledger>(
     alloc: Global,
-    files: &[&[&[u8]]],
+    commands: &[Given],
     blank: Blank,
-) -> Result<Vec<(String, String)>, AllocError>
+) -> Result<Vec<(String, String)>, Fail>
     requires name { blank.name ≡ C.name }
     requires parts { blank.parts ≡ C.parts }
     requires share { 0 < C.parts }
@@ -111,48 +143,65 @@ fn loads_with<C: Ledger>(
     let mut steps = Steps::<C>::new(blank);
     let mut live = LiveCells::new(alloc);
     let mut told = Vec::new(alloc);
-    for records in files {
-        let answer = live.load(alloc, file_of(alloc, records)?, &mut steps);
+    for given in commands {
+        let answer = live.take(alloc, command_of(alloc, *given)?, &mut steps);
         told.push((answered(alloc, answer)?, shown(alloc, live.cells())?))?;
     }
     Ok(told)
 }
 
 /// The same, with a counter of its own.
-fn loads(alloc: Global, files: &[&[&[u8]]]) -> Result<Vec<(String, String)>, AllocError> {
-    loads_with::<Brand>(alloc, files, Blank::new(1))
+fn tell(alloc: Global, commands: &[Given]) -> Result<Vec<(String, String)>, Fail> {
+    tell_with::<Brand>(alloc, commands, Blank::new(1))
 }
 
 #[test]
-fn files_are_loaded_one_after_the_other(rt: HostRuntime) -> Result<(), Fail> {
+fn commands_are_given_one_after_the_other(rt: HostRuntime) -> Result<(), Fail> {
     let alloc = rt.alloc();
-    let files: [(&[&[u8]], &str, &str); 9] = [
-        (&[UPDATE, MOVED], "NoBase", ""),
-        (&[GENERAL, RECORDS], "1 0 false", "0 1 0 1;"),
-        (&[GENERAL, RECORDS], "1 0 false", "0 1 0 1;"),
-        (&[SECOND, MOVED], "Gap { wanted: 1, given: 2 }", "0 1 0 1;"),
+    let base = Given::Load(&[GENERAL, RECORDS]);
+    let table: [(Given, &str, &str); 18] = [
+        (Given::Load(&[UPDATE, MOVED]), "NoBase", ""),
+        (base, "1 0 false 100/1 110/1", "0 1 0 1;"),
+        (base, "1 0 false", "0 1 0 1;"),
         (
-            &[UPDATE, MOVED, INSERTED],
+            Given::Load(&[SECOND, MOVED]),
+            "Gap { wanted: 1, given: 2 }",
+            "0 1 0 1;",
+        ),
+        (
+            Given::Load(&[UPDATE, MOVED, INSERTED]),
             "Present { name: Name { rcnm: 110, rcid: 1 } }",
             "0 1 0 1;",
         ),
-        (&[UPDATE, MOVED], "1 1 false", "1 2 1 1;"),
-        (&[CANCEL], "1 1 true", "1 3;"),
-        (&[SECOND, MOVED], "Cancelled", "1 3;"),
+        (Given::Load(&[UPDATE, MOVED]), "1 1 false 110/1", "1 2 1 1;"),
+        (Given::Rollback(2), "NoUpdate", "1 2 1 1;"),
+        (Given::Load(&[CANCEL]), "1 1 true 100/1 110/1", "1 3;"),
+        (Given::Load(&[SECOND, MOVED]), "Cancelled", "1 3;"),
         (
-            &[GENERAL, RECORDS],
+            base,
             "StaleBase { held_edition: 1, held_update: 1, edition: 1, update: 0 }",
             "1 3;",
         ),
+        // The cancelling file has the number 3, and isn't one to roll back to.
+        (Given::Rollback(3), "NoUpdate", "1 3;"),
+        (Given::Rollback(1), "1 1 false 100/1 110/1", "1 2 1 1;"),
+        (Given::Rollback(0), "1 0 false 110/1", "0 1 0 1;"),
+        (Given::Load(&[UPDATE, MOVED]), "1 1 false 110/1", "1 2 1 1;"),
+        (Given::Drop, "1 1 false 100/1 110/1", ""),
+        (Given::Drop, "NoCell", ""),
+        (Given::Rollback(0), "NoCell", ""),
+        (base, "1 0 false 100/1 110/1", "0 1 0 1;"),
     ];
-    let mut records = Vec::new(alloc);
-    for (file, _, _) in files {
-        records.push(file)?;
+    let mut commands = Vec::new(alloc);
+    for (command, _, _) in table {
+        commands.push(command)?;
     }
-    let told = loads(alloc, records.as_slice())?;
-    assert_eq!(rt; told.len(), files.len());
-    for (told, (_, answer, held)) in told.iter().zip(files) {
-        assert!(rt; told.0.as_str().starts_with(answer));
+    let told = tell(alloc, commands.as_slice())?;
+    assert_eq!(rt; told.len(), table.len());
+    for (told, (_, answer, held)) in told.iter().zip(table) {
+        let whole = answer.starts_with(|first: char| first.is_ascii_digit());
+        assert!(rt; told.0.as_str().starts_with(answer), "{}", told.0);
+        assert!(rt; !whole || told.0.as_str() == answer, "{}", told.0);
         assert_eq!(rt; told.1.as_str(), held);
     }
     Ok(())
@@ -196,7 +245,7 @@ fn last_of(alloc: Global, count: u8) -> Result<(usize, String, String), Fail> {
 #[test]
 fn thirty_two_cells_are_held(rt: HostRuntime) -> Result<(), Fail> {
     let alloc = rt.alloc();
-    let cases = [(32, "1 0 false"), (33, "CellsFull(32)")];
+    let cases = [(32, "1 0 false 100/1 110/1"), (33, "CellsFull(32)")];
     for (count, answer) in cases {
         let told = last_of(alloc, count)?;
         assert_eq!(rt; told.0, 32);

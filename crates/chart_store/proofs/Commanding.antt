@@ -1,0 +1,223 @@
+-- What a command that is accepted leaves.
+use Rattle.std.proofs.Common.{◌≡◌, ◌≢◌, ℕ, List, [], ◌∷◌, ◌++◌, Option, Some, None, IfSome, Result, Ok, Err, refl, sym}
+use Rattle.std.proofs.Common.{◌∙◌, ap, subst, fold, Bool, cond}
+use Rattle.std.specs.Prelude.{unwrap_or}
+use Rattle.std.specs.FinMap as map
+use Rattle.chart_model.specs.Answers.{◌>>=◌, or_fault}
+use Rattle.chart_model.specs.State.{StateValue}
+use Rattle.chart_model.specs.declared.command.Command.{Command}
+use Rattle.chart_model.specs.declared.command.Command.TheVariants.{Load, Rollback, Drop}
+use Rattle.chart_model.specs.declared.state.Held.{Held}
+use Rattle.chart_model.specs.declared.state.Holding.{Holding}
+use Rattle.update_sequence.specs.Rebuilt.{held_by, rebuilt}
+use Rattle.update_sequence.specs.Sound.{IsSoundList}
+use Rattle.chart_store.specs.declared.refusal.Refusal.{Refusal}
+use Rattle.chart_store.specs.declared.refusal.Refusal.TheVariants.{NoCell, NoUpdate}
+use Rattle.chart_store.specs.Kept.{kept_by}
+use Rattle.chart_store.specs.Live.{IsLive, AreLive, state_or}
+use Rattle.chart_store.specs.Loaded.{Outcome, HoldingsByKey, nothing_held, loaded}
+use Rattle.chart_store.specs.Next.{cells_with, outcome_by}
+use Rattle.chart_store.specs.declared.next.Next.{Next}
+use Rattle.chart_store.specs.Outcome.{left_by, rolled_back, dropped, outcome, state_with, after, charts, IsKeyOf}
+use Rattle.chart_store.specs.Taken.{chart_of}
+use Rattle.chart_model.proofs.Keys.{key_cmp-total}
+use Rattle.chart_store.proofs.Accepting.{loaded-is, accepted-is, loaded-alone, loaded-live, apart}
+use Rattle.chart_store.proofs.Holdings.{AreLive-nothing, AreLive-with}
+use Rattle.chart_store.proofs.Keeping.{Sounds, kept-begins}
+use Rattle.chart_store.proofs.Loading.{Laws, chart-before}
+use Rattle.chart_store.proofs.Placing.{Holds}
+
+ok_is : {A E : Type 0} {x y : A} → ◌≡◌ {A = Result A E} (Ok x) (Ok y) → x ≡ y
+ok_is e = cc
+
+-- ---- a rollback and a drop that are accepted
+
+pub record IsRolledBack (state : StateValue) (key : List ℕ) (number : ℕ) (done : Outcome) : Type 0 where
+  pub here : Holding
+  pub kept : List (List ℕ)
+  pub there : map.get state.cells key ≡ Some here
+  pub keeps : kept_by key number here.files ≡ Some kept
+  pub leaves : record {
+    key = key;
+    held = (left_by here.held kept).held;
+    state = record { cells = map.insert state.cells key (left_by here.held kept) };
+  } ≡ done
+
+pub rolled_back-is : (state : StateValue) (key : List ℕ) (number : ℕ) (done : Outcome) →
+    rolled_back state key number ≡ Ok done → IsRolledBack state key number done
+rolled_back-is state key number done e = held (map.get state.cells key) refl e
+  where
+    left : Holding → List (List ℕ) → Outcome
+    left here kept = record {
+      key = key;
+      held = (left_by here.held kept).held;
+      state = record { cells = map.insert state.cells key (left_by here.held kept) };
+    }
+
+    found : (here : Holding) → map.get state.cells key ≡ Some here → (o : Option (List (List ℕ))) →
+        kept_by key number here.files ≡ o →
+        (or_fault (NoUpdate key number) o >>= λ kept. Ok (left here kept)) ≡ Ok done →
+        IsRolledBack state key number done
+    found here there None keeps e = absurd cc
+    found here there (Some kept) keeps e =
+        record { here = here; kept = kept; there = there; keeps = keeps; leaves = ok_is e }
+
+    held : (o : Option Holding) → map.get state.cells key ≡ o →
+        (or_fault (NoCell key) o >>= λ here. or_fault (NoUpdate key number) (kept_by key number here.files) >>= λ kept.
+        Ok (left here kept)) ≡ Ok done → IsRolledBack state key number done
+    held None there e = absurd cc
+    held (Some here) there e = found here there (kept_by key number here.files) refl e
+
+-- what is held once these files are kept
+pub rolled-by : (state : StateValue) (key : List ℕ) (number : ℕ) (here : Holding) (kept : List (List ℕ)) (held : Held)
+    (next : Next) → map.get state.cells key ≡ Some here → kept_by key number here.files ≡ Some kept →
+    held_by kept ≡ Some held → next.key ≡ key → next.held ≡ held →
+    next.holding ≡ Some (record { held = held; files = kept; chart = rebuilt kept }) →
+    rolled_back state key number ≡ Ok (outcome_by state next)
+rolled-by state key number here kept held next there keeps numbers keyed holds is =
+    ap (λ (o : Option Holding). or_fault (NoCell key) o >>= λ h. or_fault (NoUpdate key number)
+    (kept_by key number h.files) >>= λ k. Ok (left h k)) there
+    ∙ ap (λ (o : Option (List (List ℕ))). or_fault (NoUpdate key number) o >>= λ k. Ok (left here k)) keeps
+    ∙ ap (λ (o : Option Held). Ok (record {
+      key = key;
+      held = unwrap_or o here.held;
+      state = record {
+        cells = map.insert state.cells key (record
+            { held = unwrap_or o here.held; files = kept; chart = rebuilt kept });
+      };
+    })) numbers
+    ∙ (λ i. Ok (record {
+      key = sym keyed i;
+      held = sym holds i;
+      state = record { cells = cells_with state.cells (sym keyed i) (sym is i) };
+    }))
+  where
+    left : Holding → List (List ℕ) → Outcome
+    left h k = record {
+      key = key;
+      held = (left_by h.held k).held;
+      state = record { cells = map.insert state.cells key (left_by h.held k) };
+    }
+
+pub record IsDropped (state : StateValue) (key : List ℕ) (done : Outcome) : Type 0 where
+  pub here : Holding
+  pub there : map.get state.cells key ≡ Some here
+  pub leaves : record {
+    key = key;
+    held = here.held;
+    state = record { cells = map.remove state.cells key };
+  } ≡ done
+
+pub dropped-is : (state : StateValue) (key : List ℕ) (done : Outcome) → dropped state key ≡ Ok done →
+    IsDropped state key done
+dropped-is state key done e = held (map.get state.cells key) refl e
+  where
+    held : (o : Option Holding) → map.get state.cells key ≡ o →
+        (or_fault (NoCell key) o >>= λ here. Ok (record {
+          key = key;
+          held = here.held;
+          state = record
+              { cells = map.remove state.cells key };
+        })) ≡ Ok done → IsDropped state key done
+    held None there e = absurd cc
+    held (Some here) there e = record { here = here; there = there; leaves = ok_is e }
+
+-- ---- what is live
+
+left-live : (sounds : Sounds) (holds : Holds) (key : List ℕ) (number : ℕ) (before : Held)
+    (files kept : List (List ℕ)) → kept_by key number files ≡ Some kept → IsLive key (left_by before kept)
+left-live sounds holds key number before files kept keeps =
+    let sound : IsSoundList key kept = (sounds.tested key kept).0 (kept-begins key number files kept keeps).sound in
+    let numbers = (holds.held key kept sound).1 in
+    record {
+      sound = sound;
+      numbers = numbers ∙ ap Some (sym (ap (λ (o : Option Held). unwrap_or o before) numbers));
+      builds = refl;
+    }
+
+module _ (laws : Laws) (sounds : Sounds) (holds : Holds) where
+  outcome-live : (state : StateValue) (command : Command) (done : Outcome) → AreLive state.cells →
+      outcome state command ≡ Ok done → AreLive done.state.cells
+  unfolding outcome
+  outcome-live state (Load file) done live e = loaded-live laws state file done live e
+  outcome-live state (Rollback key number) done live e =
+      let r = rolled_back-is state key number done e in
+      subst (λ (d : Outcome). AreLive d.state.cells) r.leaves
+      (AreLive-with state.cells key (Some (left_by r.here.held r.kept)) live
+      (left-live sounds holds key number r.here.held r.here.files r.kept r.keeps))
+  outcome-live state (Drop key) done live e =
+      let d = dropped-is state key done e in
+      subst (λ (d : Outcome). AreLive d.state.cells) d.leaves (AreLive-with state.cells key None live tt)
+
+  pub state_with-live : (state : StateValue) (command : Command) → AreLive state.cells →
+      AreLive (state_with state command).cells
+  state_with-live state command live = go (outcome state command) refl
+    where
+      go : (r : Result Outcome Refusal) → outcome state command ≡ r → AreLive (state_or state r).cells
+      go (Ok done) e = outcome-live state command done live e
+      go (Err refusal) e = live
+
+  commands-live : (state : StateValue) (commands : List Command) → AreLive state.cells →
+      AreLive (fold state_with state commands).cells
+  commands-live state [] live = live
+  commands-live state (command ∷ commands) live =
+      commands-live (state_with state command) commands (state_with-live state command live)
+
+  pub after-live : (commands : List Command) → AreLive (after nothing_held commands).cells
+  unfolding after
+  after-live commands = commands-live nothing_held commands AreLive-nothing
+
+fold-push : (state : StateValue) (commands : List Command) (command : Command) →
+    fold state_with state (commands ++ command ∷ []) ≡ state_with (fold state_with state commands) command
+fold-push state [] command = refl
+fold-push state (first ∷ commands) command = fold-push (state_with state first) commands command
+
+pub after-push : (state : StateValue) (commands : List Command) (command : Command) →
+    after state (commands ++ command ∷ []) ≡ state_with (after state commands) command
+unfolding after
+after-push state commands command = fold-push state commands command
+
+pub after-none : (state : StateValue) → after state [] ≡ state
+unfolding after
+after-none state = refl
+
+-- the chart that is held is the one that the live files build
+pub charts-live : (laws : Laws) (state : StateValue) (key : List ℕ) → AreLive state.cells →
+    chart_of (map.get state.cells key) ≡ charts state key
+charts-live laws state key live = sym (chart-before laws key (map.get state.cells key) (live key))
+
+-- ---- the cell of a command
+
+pub outcome-keyed : (state : StateValue) (command : Command) (done : Outcome) → outcome state command ≡ Ok done →
+    IsKeyOf command done.key
+unfolding outcome
+outcome-keyed state (Load file) done e =
+    let l = loaded-is state file done e in
+    let p = accepted-is state l.dataset file _ done l.accepts in
+    (l.dataset, l.reads, p.keyed)
+outcome-keyed state (Rollback key number) done e =
+    ap (λ (d : Outcome). d.key) (rolled_back-is state key number done e).leaves
+outcome-keyed state (Drop key) done e = ap (λ (d : Outcome). d.key) (dropped-is state key done e).leaves
+
+get-apart : (cells : HoldingsByKey) (key other : List ℕ) (holding : Option Holding) → other ≢ key →
+    map.get (cells_with cells key holding) other ≡ map.get cells other
+get-apart cells key other None h =
+    map.get-remove key_cmp-total cells key other
+    ∙ ap (λ (b : Bool). cond b None (map.get cells other)) (apart other key h)
+get-apart cells key other (Some here) h =
+    map.get-insert key_cmp-total cells key here other
+    ∙ ap (λ (b : Bool). cond b (Some here) (map.get cells other)) (apart other key h)
+
+pub outcome-alone : (state : StateValue) (command : Command) (done : Outcome) (key : List ℕ) →
+    outcome state command ≡ Ok done → key ≢ done.key → map.get done.state.cells key ≡ map.get state.cells key
+unfolding outcome
+outcome-alone state (Load file) done key e other = loaded-alone state file done key e other
+outcome-alone state (Rollback own number) done key e other =
+    let r = rolled_back-is state own number done e in
+    ap (λ (d : Outcome). map.get d.state.cells key) (sym r.leaves)
+    ∙ get-apart state.cells own key (Some (left_by r.here.held r.kept))
+    (λ same. other (same ∙ ap (λ (d : Outcome). d.key) r.leaves))
+outcome-alone state (Drop own) done key e other =
+    let d = dropped-is state own done e in
+    ap (λ (d : Outcome). map.get d.state.cells key) (sym d.leaves)
+    ∙ get-apart state.cells own key None (λ same. other (same ∙ ap (λ (d : Outcome). d.key) d.leaves))

@@ -1,0 +1,13 @@
+-- the files so far are kept, and none of them has the number
+use Rattle.std.proofs.Common.{◌≡◌, ◌+◌, ◌≤◌, false, take}
+use Rattle.std.specs.List.{AllByRecursion}
+use Rattle.update_sequence.specs.Rebuilt.{data_records_of}
+use Rattle.chart_store.specs.Kept.{has_update}
+use Rattle.chart_store.proofs.rollback.kept_by.Given as goal
+
+abbrev pub invariant-loop-file : goal.invariant-loop-file
+invariant-loop-file g l = record {
+  kept : l.kept ≡ take l.file-index l.files;
+  none : AllByRecursion (λ file. has_update l.number file ≡ false) (take l.file-index l.files);
+  steps : l.steps ≤ l.fn.steps + data_records_of (take l.file-index l.files);
+}

@@ -1,0 +1,86 @@
+-- What is kept begins the files that are held.
+use Rattle.std.proofs.Common.{◌≡◌, ◌++◌, length, sym, ap, arith, ◌∙◌}
+use Rattle.std.proofs.lemmas.List.Sums.{sum_by-append}
+use Rattle.chart_store.specs.Loaded.{bytes_of}
+use Rattle.chart_store.proofs.Holdings.{bytes_of-held, can-keep}
+use Rattle.chart_store.proofs.Keeping.{kept-begins, data_records-kept}
+use Rattle.chart_store.proofs.rollback.next_with.Goals as goal
+
+pub rebuild-requires : goal.rebuild-requires
+rebuild-requires g c =
+    let b = kept-begins c.args.key c.requires.kept.0 c.args.here.now.files c.args.kept.files c.requires.kept.1 in
+    (c.args.key, (c.sound_lists_are_tested.ensures c.args.key c.args.kept.files).0 b.sound)
+
+pub returns-in_err-chart-clause-at_most : goal.returns-in_err-chart-clause-at_most
+returns-in_err-chart-clause-at_most g c =
+    let b = kept-begins c.args.key c.requires.kept.0 c.args.here.now.files c.args.kept.files c.requires.kept.1 in
+    omega (arith, c.rebuild.ensures.at_most, data_records-kept c.args.here.now.files c.args.kept.files b.rest b.begins)
+
+pub returns-in_err-changed-clause-at_most : goal.returns-in_err-changed-clause-at_most
+returns-in_err-changed-clause-at_most g c =
+    let b = kept-begins c.args.key c.requires.kept.0 c.args.here.now.files c.args.kept.files c.requires.kept.1 in
+    omega (arith, c.rebuild.ensures.at_most, data_records-kept c.args.here.now.files c.args.kept.files b.rest b.begins)
+
+pub returns-clause-at_most : goal.returns-clause-at_most
+returns-clause-at_most g c =
+    let b = kept-begins c.args.key c.requires.kept.0 c.args.here.now.files c.args.kept.files c.requires.kept.1 in
+    omega (arith, c.rebuild.ensures.at_most, data_records-kept c.args.here.now.files c.args.kept.files b.rest b.begins)
+
+pub bytes_of-requires : goal.bytes_of-requires
+bytes_of-requires g c =
+    omega (
+      arith,
+      c.bytes.ensures.bytes,
+      c.bytes.ensures.within,
+      bytes_of-held c.args.live.now.cells c.args.key c.args.here.now c.requires.here,
+      ap bytes_of c.as_slice.ensures,
+    )
+
+pub overflow_sub-bytes : goal.overflow_sub-bytes
+overflow_sub-bytes g c =
+    omega (
+      arith,
+      c.bytes.ensures.bytes,
+      c.bytes_of.ensures,
+      bytes_of-held c.args.live.now.cells c.args.key c.args.here.now c.requires.here,
+      ap bytes_of c.as_slice.ensures,
+    )
+
+pub bytes_of-requires-2 : goal.bytes_of-requires-2
+bytes_of-requires-2 g c =
+    let b = kept-begins c.args.key c.requires.kept.0 c.args.here.now.files c.args.kept.files c.requires.kept.1 in
+    omega (
+      arith,
+      c.bytes.ensures.bytes,
+      c.bytes.ensures.within,
+      bytes_of-held c.args.live.now.cells c.args.key c.args.here.now c.requires.here,
+      ap bytes_of b.begins ∙ sum_by-append length c.args.kept.files b.rest,
+      ap bytes_of c.as_slice-2.ensures,
+    )
+
+pub overflow_add-bytes : goal.overflow_add-bytes
+overflow_add-bytes g c =
+    let b = kept-begins c.args.key c.requires.kept.0 c.args.here.now.files c.args.kept.files c.requires.kept.1 in
+    omega (
+      arith,
+      c.bytes.ensures.bytes,
+      c.bytes.ensures.within,
+      c.bytes_of.ensures,
+      c.bytes_of-2.ensures,
+      bytes_of-held c.args.live.now.cells c.args.key c.args.here.now c.requires.here,
+      ap bytes_of b.begins ∙ sum_by-append length c.args.kept.files b.rest,
+      ap bytes_of c.as_slice.ensures,
+      ap bytes_of c.as_slice-2.ensures,
+    )
+
+pub returns-clause-stands : goal.returns-clause-stands
+returns-clause-stands g c =
+    let b = kept-begins c.args.key c.requires.kept.0 c.args.here.now.files c.args.kept.files c.requires.kept.1 in
+    can-keep c.args.live.now.cells c.args.key c.args.here.now _ b.rest _ _ _ c.requires.here b.begins
+    (record {
+      sound = (c.sound_lists_are_tested.ensures c.args.key c.args.kept.files).0 b.sound;
+      numbers = c.requires.held;
+      builds = sym c.in_ok-chart.ensures.chart;
+    })
+    c.bytes.ensures.bytes c.bytes.ensures.within (c.bytes_of.ensures ∙ ap bytes_of c.as_slice.ensures)
+    (c.bytes_of-2.ensures ∙ ap bytes_of c.as_slice-2.ensures)

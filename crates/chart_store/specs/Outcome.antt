@@ -1,0 +1,114 @@
+-- A command that is given: by the live files it is accepted, or refused.
+use Rattle.std.specs.Prelude.{◌≡◌, ◌+◌, ◌*◌, ℕ, nat_lt, if◌then◌else◌, List, [], fold, length}
+use Rattle.std.specs.Prelude.{Option, Some, None, unwrap_or, Result, Ok, Err}
+use Rattle.std.specs.FinMap as map
+use Rattle.chart_model.specs.Answers.{◌>>=◌, or_fault}
+use Rattle.chart_model.specs.Cell.{CellValue}
+use Rattle.chart_model.specs.Dataset.{DatasetValue}
+use Rattle.chart_model.specs.State.{StateValue}
+use Rattle.chart_model.specs.declared.command.Command.{Command}
+use Rattle.chart_model.specs.declared.command.Command.TheVariants.{Load, Rollback, Drop}
+use Rattle.chart_model.specs.declared.state.Held.{Held}
+use Rattle.chart_model.specs.declared.state.Holding.{Holding}
+use Rattle.command_codec.specs.Spelling.{spelling}
+use Rattle.update_sequence.specs.Reading.{data_set_in}
+use Rattle.update_sequence.specs.Rebuilt.{held_by, rebuilt, data_records_of}
+use Rattle.chart_store.specs.declared.refusal.Refusal.{Refusal}
+use Rattle.chart_store.specs.declared.refusal.Refusal.TheVariants.{BankFull, NoCell, NoUpdate}
+use Rattle.chart_store.specs.Kept.{kept_by}
+use Rattle.chart_store.specs.Live.{state_or}
+use Rattle.chart_store.specs.Loaded.{files_of, Outcome, loaded, come_to}
+
+-- ---- a rollback, and a drop
+
+-- What is held of a cell by whole files that are kept of it. Files that are kept leave numbers.
+abbrev pub left_by : Held → List (List ℕ) → Holding
+left_by before files = record { held = unwrap_or (held_by files) before; files = files; chart = rebuilt files }
+
+-- the first files are kept, up to the one with this update number
+abbrev pub rolled_back : StateValue → List ℕ → ℕ → Result Outcome Refusal
+rolled_back state key number = do
+  here ← or_fault (NoCell key) (map.get state.cells key)
+  kept ← or_fault (NoUpdate key number) (kept_by key number here.files)
+  Ok (record {
+    key = key;
+    held = (left_by here.held kept).held;
+    state = record { cells = map.insert state.cells key (left_by here.held kept) };
+  })
+
+-- the cell is taken away: the numbers are those that were held of it
+abbrev pub dropped : StateValue → List ℕ → Result Outcome Refusal
+dropped state key = do
+  here ← or_fault (NoCell key) (map.get state.cells key)
+  Ok (record { key = key; held = here.held; state = record { cells = map.remove state.cells key } })
+
+-- ---- a command
+
+-- what is held once the command is accepted, or its first refusal, but for the room in the bank
+unfoldable pub outcome : StateValue → Command → Result Outcome Refusal
+outcome state (Load file) = loaded state file
+outcome state (Rollback key number) = rolled_back state key number
+outcome state (Drop key) = dropped state key
+
+-- the cell that a command speaks of
+abbrev pub IsKeyOf : Command → List ℕ → Type 0
+IsKeyOf (Load file) key = (dataset : DatasetValue) × (data_set_in file ≡ Ok dataset) × (dataset.header.key ≡ key)
+IsKeyOf (Rollback own number) key = own ≡ key
+IsKeyOf (Drop own) key = own ≡ key
+
+-- how many data records are come to at most: those of a file that is loaded once, those of a cell's files that is
+-- rolled back twice
+abbrev pub most_steps : StateValue → Command → ℕ
+most_steps state (Load file) = come_to file
+most_steps state (Rollback key number) = 2 * data_records_of (files_of (map.get state.cells key))
+most_steps state (Drop key) = 0
+
+-- ---- the room in the bank
+
+-- the most bytes of a bank
+abbrev pub BANK_LIMIT : ℕ
+BANK_LIMIT = 268435456
+
+-- The bytes of a bank up to and with its closed gate. While a save is under way the record goes to the other bank too:
+-- there they are the bytes of that one.
+pub record Room : Type 0 where
+  pub used : ℕ
+  pub other : Option ℕ
+
+-- what a command takes of it: its spelling, the length of that in four bytes, and a gate
+abbrev pub need : Command → ℕ
+need command = length (spelling command) + 5
+
+abbrev pub bank_within : ℕ → ℕ → Result (Unit {0}) Refusal
+bank_within used more = if nat_lt BANK_LIMIT (used + more) then Err (BankFull used more) else Ok tt
+
+abbrev pub other_within : Option ℕ → ℕ → Result (Unit {0}) Refusal
+other_within None more = Ok tt
+other_within (Some used) more = bank_within used more
+
+-- the current bank comes first
+abbrev pub room_within : Room → ℕ → Result (Unit {0}) Refusal
+room_within room more = do
+  _ ← bank_within room.used more
+  other_within room.other more
+
+-- what is held once the command is accepted, or its first refusal: want of room comes last
+unfoldable pub accepted : StateValue → Room → Command → Result Outcome Refusal
+accepted state room command = do
+  done ← outcome state command
+  _ ← room_within room (need command)
+  Ok done
+
+-- ---- commands, one after the other
+
+-- what is held after a command, accepted or refused: a refusal leaves all as it was
+abbrev pub state_with : StateValue → Command → StateValue
+state_with state command = state_or state (outcome state command)
+
+-- what is held after commands
+unfoldable pub after : StateValue → List Command → StateValue
+after state commands = fold state_with state commands
+
+-- the chart that the live files of a cell build, none where it is cancelled or not held
+abbrev pub charts : StateValue → List ℕ → Option CellValue
+charts state key = rebuilt (files_of (map.get state.cells key))

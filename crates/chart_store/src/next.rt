@@ -1,0 +1,19 @@
+//! What a command makes of its cell, before it is put in place.
+
+use chart_model::{Held, Holding, Key, NameList};
+
+/// What an accepted command makes of its cell. It is made aside, so that nothing that is held changes before it is
+/// put in place.
+#[derive(Debug, Drop)]
+pub(crate) struct Next {
+    /// The cell.
+    pub key: Key,
+    /// The numbers that are held of it then; where it is taken away, those that were.
+    pub held: Held,
+    /// What is held of it then: nothing where it is taken away.
+    pub holding: Option<Holding>,
+    /// The bytes of all live files then.
+    pub bytes: u64,
+    /// The names whose records differ, in order.
+    pub changed: NameList,
+}
