@@ -15,11 +15,11 @@ use Rattle.update_sequence.specs.declared.fault.ReadFault.{ReadFault}
 use Rattle.update_sequence.specs.declared.fault.ReadFault.TheVariants as of_read
 use Rattle.chart_store.specs.Fault.{fault_of, or_refused}
 use Rattle.chart_store.specs.Loaded as loading
-use Rattle.chart_store.specs.Loaded.{FILE_LIMIT, Loaded, loaded, loaded_with}
+use Rattle.chart_store.specs.Loaded.{FILE_LIMIT, Outcome, loaded, loaded_with}
 use Rattle.chart_store.specs.Refusal.{refusal_of_read}
 use Rattle.chart_store.specs.declared.fault.SubmitFault.{SubmitFault}
 use Rattle.chart_store.specs.declared.fault.SubmitFault.TheVariants as of_store
-use Rattle.chart_store.specs.declared.load.Accepted.{Accepted}
+use Rattle.chart_store.specs.declared.taken.Taken.{Taken}
 use Rattle.chart_store.specs.declared.refusal.Refusal as row
 use Rattle.chart_store.specs.declared.refusal.Refusal.TheVariants.{NoGeneral, FileLong}
 use Rattle.ecdis_cli.specs.declared.session.fault.CommandFault.{CommandFault}
@@ -55,11 +55,11 @@ Marked-stop {A = A} a b r fault wanted stopped x =
     subst (λ (s : Result A CommandFault). Marked a b (λ failed. Gives s (wanted failed))) (sym (p.1 ∙ ap Err p.2)) x
 
 -- the same of a file that is loaded
-pub Marked-refused : (a b : ℕ) (r : Result Accepted CommandFault) (state : StateValue) (fault : CommandFault) (wanted : Bool → Result Loaded Refusal) → IsErrAnd r (λ y. y ≡ fault)
+pub Marked-refused : (a b : ℕ) (r : Result Taken CommandFault) (state : StateValue) (fault : CommandFault) (wanted : Bool → Result Outcome Refusal) → IsErrAnd r (λ y. y ≡ fault)
     → Marked a b (λ failed. GivesLoaded (Err fault) state (wanted failed)) → Marked a b (λ failed. GivesLoaded r state (wanted failed))
 Marked-refused a b r state fault wanted stopped x =
     let p = err_from_is_err_and r stopped in
-    subst (λ (s : Result Accepted CommandFault). Marked a b (λ failed. GivesLoaded s state (wanted failed))) (sym (p.1 ∙ ap Err p.2)) x
+    subst (λ (s : Result Taken CommandFault). Marked a b (λ failed. GivesLoaded s state (wanted failed))) (sym (p.1 ∙ ap Err p.2)) x
 
 -- ---- steps
 
@@ -146,7 +146,7 @@ pub load_of-refused : (state state' : StateValue) (fault : SubmitFault) (file : 
 load_of-refused state state' (of_store.Refused refusal) file bytes found h = load_of-file state file bytes found ∙ ap (or_fault_as File) h
 load_of-refused state state' of_store.NoMemory file bytes found h = tt
 
-pub load_of-done : (state state' : StateValue) (cell : Accepted) (file : Result (List ℕ) Refusal) (bytes : List ℕ) → Gives (Ok bytes) file
+pub load_of-done : (state state' : StateValue) (cell : Taken) (file : Result (List ℕ) Refusal) (bytes : List ℕ) → Gives (Ok bytes) file
     → loading.GivesLoaded (Ok cell) state' (loaded state bytes) → GivesLoaded (Ok cell) state' (load_of state file)
 load_of-done state state' cell file bytes found h = load_of-file state file bytes found ∙ ap (or_fault_as File) h
 

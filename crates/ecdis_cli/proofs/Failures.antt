@@ -7,7 +7,7 @@ use Rattle.chart_model.specs.State.{StateValue}
 use Rattle.chart_ports.specs.declared.shelf.Fetched.{Fetched}
 use Rattle.chart_ports.specs.declared.shelf.Fetched.TheVariants.{Bytes, Absent, Long}
 use Rattle.chart_store.specs.Fault.{or_refused}
-use Rattle.chart_store.specs.Loaded.{within_limit, Loaded, loaded}
+use Rattle.chart_store.specs.Loaded.{within_limit, Outcome, loaded}
 use Rattle.chart_store.specs.Refusal.{refusal_of_read}
 use Rattle.chart_store.specs.declared.refusal.Refusal as of_store
 use Rattle.chart_store.specs.declared.refusal.Refusal.TheVariants as refuses
@@ -65,6 +65,9 @@ file-printed (refuses.WrongPointer name) = refl
 file-printed (refuses.FileLong limit) = refl
 file-printed (refuses.CellsFull cells) = refl
 file-printed (refuses.StoreFull bytes) = refl
+file-printed (refuses.BankFull length need) = refl
+file-printed (refuses.NoCell key) = refl
+file-printed (refuses.NoUpdate key update) = refl
 
 refusal-printed : (refusal : Refusal) → refusal ≢ ShelfFault → is_fetch_failure (printed (Refused refusal)) ≡ false
 unfolding digits
@@ -121,7 +124,7 @@ informed-answers : (state : StateValue) (r : Result General Refusal) → Served 
 informed-answers state (Ok general) h = refl
 informed-answers state (Err refusal) h = refusal-printed refusal (λ e. h (ap Err e))
 
-taken_over-answers : (state : StateValue) (r : Result Loaded Refusal) → Served r → Answers (taken_over state r)
+taken_over-answers : (state : StateValue) (r : Result Outcome Refusal) → Served r → Answers (taken_over state r)
 taken_over-answers state (Ok done) h =
     elim done.held.cancelled as (λ b. is_fetch_failure (printed (cond b (Cancel done.key) (Load done.key done.held.edition done.held.update))) ≡ false) [ true ↦ refl | false ↦ refl ]
 taken_over-answers state (Err refusal) h = refusal-printed refusal (λ e. h (ap Err e))

@@ -4,7 +4,7 @@ use Rattle.chart_model.specs.Answers.{or_fault_as}
 use Rattle.chart_model.specs.State.{StateValue}
 use Rattle.chart_store.specs.Live as live
 use Rattle.chart_store.specs.Live.{AreLive}
-use Rattle.chart_store.specs.Loaded.{Loaded, loaded}
+use Rattle.chart_store.specs.Loaded.{Outcome, loaded}
 use Rattle.chart_store.specs.declared.refusal.Refusal as row
 use Rattle.ecdis_cli.specs.declared.script.event.Event.{Event}
 use Rattle.ecdis_cli.specs.declared.script.event.Event.TheVariants as asks
@@ -30,7 +30,7 @@ informed-live : (state : StateValue) (r : Result General Refusal) → AreLive st
 informed-live state (Ok general) h = h
 informed-live state (Err refusal) h = h
 
-taken_over-live : (state : StateValue) (r : Result Loaded row.Refusal) → AreLive state.cells → AreLive (live.state_or state r).cells → IsLiveTurn (taken_over state (or_fault_as File r))
+taken_over-live : (state : StateValue) (r : Result Outcome row.Refusal) → AreLive state.cells → AreLive (live.state_or state r).cells → IsLiveTurn (taken_over state (or_fault_as File r))
 taken_over-live state (Ok done) h after = after
 taken_over-live state (Err refusal) h after = h
 

@@ -43,6 +43,9 @@ file_code (refuses.WrongPointer name) = 53
 file_code (refuses.FileLong limit) = 60
 file_code (refuses.CellsFull cells) = 61
 file_code (refuses.StoreFull bytes) = 62
+file_code (refuses.BankFull length need) = 63
+file_code (refuses.NoCell key) = 73
+file_code (refuses.NoUpdate key update) = 74
 
 -- what it names
 abbrev pub file_values : of_store.Refusal → List (List ℕ)
@@ -78,6 +81,9 @@ file_values (refuses.WrongPointer name) = numbers (name.rcnm ∷ name.rcid ∷ [
 file_values (refuses.FileLong limit) = numbers (limit ∷ [])
 file_values (refuses.CellsFull cells) = numbers (cells ∷ [])
 file_values (refuses.StoreFull bytes) = numbers (bytes ∷ [])
+file_values (refuses.BankFull length need) = numbers (length ∷ need ∷ [])
+file_values (refuses.NoCell key) = key ∷ []
+file_values (refuses.NoUpdate key update) = key ∷ decimal update ∷ []
 
 -- the number that says why a line is refused
 abbrev pub code_of : Refusal → ℕ

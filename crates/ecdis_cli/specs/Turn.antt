@@ -16,7 +16,7 @@ use Rattle.ecdis_cli.specs.Line.{is_silent}
 use Rattle.ecdis_cli.specs.Event.{event_on}
 use Rattle.ecdis_cli.specs.Fetch.{Files, fetched}
 use Rattle.ecdis_cli.specs.Info.{info_of}
-use Rattle.chart_store.specs.Loaded.{Loaded}
+use Rattle.chart_store.specs.Loaded.{Outcome}
 use Rattle.ecdis_cli.specs.Load.{load_of}
 use Rattle.ecdis_cli.specs.Listing.{listing}
 use Rattle.ecdis_cli.specs.Reply.{printed}
@@ -42,7 +42,7 @@ informed state (Err refusal) = refused state refusal
 abbrev pub load_reply : List ℕ → Held → Reply
 load_reply key held = if held.cancelled then Cancel key else Load key held.edition held.update
 
-abbrev pub taken_over : StateValue → Result Loaded Refusal → Turn
+abbrev pub taken_over : StateValue → Result Outcome Refusal → Turn
 taken_over state (Ok done) = record { reply = Some (load_reply done.key done.held); state = done.state }
 taken_over state (Err refusal) = refused state refusal
 

@@ -21,12 +21,12 @@ use crate::session::refusal::Refusal;
 use crate::session::reply::{Reply, print};
 use crate::session::stop::Stop;
 use chart_ports::{Desk, Shelf, Steps};
-use chart_store::{Accepted, LiveCells};
+use chart_store::{LiveCells, Taken};
 use std::alloc::{AllocError, Global};
 use std::sync::ledger::Ledger;
 
 /// What is replied where a file was taken over.
-fn load_reply(cell: &Accepted) -> Reply
+fn load_reply(cell: &Taken) -> Reply
     ensures { result ≡ load_reply cell.now.key cell.now.held }
 {
     let held = cell.held;

@@ -11,7 +11,7 @@ use crate::session::fault::CommandFault;
 use crate::session::fetch::fetch;
 use crate::session::refusal::Refusal;
 use chart_ports::{Shelf, Steps};
-use chart_store::{Accepted, LiveCells};
+use chart_store::{LiveCells, Taken};
 use std::alloc::Global;
 use std::sync::ledger::Ledger;
 
@@ -22,7 +22,7 @@ pub fn load<L: Shelf, C: Ledger>(
     live: &mut LiveCells,
     shelf: &mut L,
     steps: &mut Steps<C>,
-) -> Result<Accepted, CommandFault>
+) -> Result<Taken, CommandFault>
     ensures loaded { IsTrue L.tells → Marked (L.faults shelf.old) (L.faults shelf.new)
         (λ failed. GivesLoaded result live.new (load_of live.old (fetched (L.files shelf.old) failed name.now))) }
     ensures blamed { IsErrOf result (CommandFault.Refused Refusal.ShelfFault) →

@@ -17,7 +17,7 @@ pub enum Refusal {
     NoFile(Octets),
     /// 72: the shelf failed.
     ShelfFault,
-    /// 10 to 62: the file is refused.
+    /// 10 to 63, 73 and 74: the store refuses.
     File(FileRefusal),
 }
 
@@ -56,6 +56,9 @@ fn file_code(refusal: &FileRefusal) -> u8
         FileRefusal::FileLong(_) => 60,
         FileRefusal::CellsFull(_) => 61,
         FileRefusal::StoreFull(_) => 62,
+        FileRefusal::BankFull { .. } => 63,
+        FileRefusal::NoCell(_) => 73,
+        FileRefusal::NoUpdate { .. } => 74,
     }
 }
 

@@ -47,6 +47,14 @@ fn push_place(
     push_text(bytes, name)
 }
 
+/// Adds a key and a number.
+fn push_keyed(alloc: Global, bytes: &mut Vec<u8>, key: &[u8], number: u32) -> Result<(), AllocError>
+    ensures { OnOk result (bytes.new.items ≡ bytes.old.items ++ after_spaces (key.now ∷ decimal number ∷ [])) }
+{
+    push_text(bytes, key)?;
+    push_number(alloc, bytes, number as u64)
+}
+
 /// Adds a record's name and numbers.
 fn push_named(
     alloc: Global,
@@ -91,7 +99,9 @@ pub fn push_file(alloc: Global, bytes: &mut Vec<u8>, refusal: &Refusal) -> Resul
         Refusal::MissingField { record, tag } => push_place(alloc, bytes, *record, tag),
         Refusal::Value { record, label } => push_place(alloc, bytes, *record, label),
         Refusal::Profile(label) => push_text(bytes, label),
-        Refusal::NoBase(key) | Refusal::Cancelled(key) => push_text(bytes, key.as_slice()),
+        Refusal::NoBase(key) | Refusal::Cancelled(key) | Refusal::NoCell(key) => {
+            push_text(bytes, key.as_slice())
+        }
         Refusal::StaleBase {
             held_edition,
             held_update,
@@ -149,5 +159,7 @@ pub fn push_file(alloc: Global, bytes: &mut Vec<u8>, refusal: &Refusal) -> Resul
             &[*number],
         ),
         Refusal::CellsFull(cells) => push_numbers(alloc, bytes, &[*cells as u64]),
+        Refusal::BankFull { length, need } => push_numbers(alloc, bytes, &[*length, *need]),
+        Refusal::NoUpdate { key, update } => push_keyed(alloc, bytes, key.as_slice(), *update),
     }
 }

@@ -19,4 +19,4 @@ returns-in_err-load-clause-blamed g c = λ is. store-cause _ _ c.from_residual-i
 
 pub returns-clause-loaded : goal.returns-clause-loaded
 returns-clause-loaded g c = λ tells.
-    Marked-map _ _ _ _ (λ failed h. load_of-done _ _ _ _ _ h c.in_ok-load.ensures.loaded) (c.in_ok-file.ensures.found tells)
+    Marked-map _ _ _ _ (λ failed h. load_of-done _ _ c.in_ok-load.field-0 _ _ h c.in_ok-load.ensures.loaded) (c.in_ok-file.ensures.found tells)
