@@ -9,18 +9,18 @@ use Rattle.update_sequence.specs.declared.fault.BuildFault.{BuildFault}
 use Rattle.update_sequence.specs.declared.fault.BuildFault.TheVariants as of_build
 use Rattle.chart_store.specs.declared.refusal.Refusal.{Refusal}
 use Rattle.chart_store.specs.declared.refusal.Refusal.TheVariants as refuses
-use Rattle.chart_store.specs.declared.fault.SubmitFault.{SubmitFault}
-use Rattle.chart_store.specs.declared.fault.SubmitFault.TheVariants.{Refused, NoMemory}
+use Rattle.chart_store.specs.declared.fault.TakeFault.{TakeFault}
+use Rattle.chart_store.specs.declared.fault.TakeFault.TheVariants.{Refused, NoMemory}
 use Rattle.chart_store.specs.Refusal.{refusal_of_file, refusal_of_records, refusal_of_read, refusal_of_change}
 use Rattle.chart_store.specs.Refusal.{refusal_of_build}
 use Rattle.chart_store.specs.Fault.{told, fault_of, or_refused}
 
 -- the fault is the refusal that there is, or want of memory
-abbrev pub Fails : {A : Type 0} → SubmitFault → Result A Refusal → Type 0
+abbrev pub Fails : {A : Type 0} → TakeFault → Result A Refusal → Type 0
 Fails fault wanted = FailsBy told fault wanted
 
 -- a fault ends the command
-pub Fails-stop : {A B : Type 0} (fault : SubmitFault) (r : Result A Refusal) (next : A → Result B Refusal) →
+pub Fails-stop : {A B : Type 0} (fault : TakeFault) (r : Result A Refusal) (next : A → Result B Refusal) →
     Fails fault r → Fails fault (r >>= next)
 Fails-stop (Refused refusal) r next h = ap (λ s. s >>= next) h
 Fails-stop NoMemory r next h = tt

@@ -19,7 +19,7 @@ use Rattle.update_sequence.specs.Sound.{IsSoundList}
 use Rattle.update_sequence.specs.declared.effect.Effect.{Effect}
 use Rattle.update_sequence.specs.declared.effect.Effect.TheVariants.{Replace, Extend, Cancel}
 use Rattle.chart_store.specs.declared.refusal.Refusal.{Refusal}
-use Rattle.chart_store.specs.declared.fault.SubmitFault.{SubmitFault}
+use Rattle.chart_store.specs.declared.fault.TakeFault.{TakeFault}
 use Rattle.chart_store.specs.declared.next.Next.{Next}
 use Rattle.chart_store.specs.Next.{GivesNextState}
 use Rattle.chart_store.specs.Loaded.{HoldingsByKey, store_within}
@@ -140,7 +140,7 @@ module _ (state : StateValue) (dataset : DatasetValue) (file : List ℕ) (effect
       (cell_after (map.get state.cells dataset.header.key) effect h chart file)) (sym numbers)
       (next-live laws (map.get state.cells dataset.header.key) dataset file effect chart live reads short judges builds))
 
-  pub placed-in : (r : Result Next SubmitFault) → GivesNextState r state (store_within (map.insert state.cells key
+  pub placed-in : (r : Result Next TakeFault) → GivesNextState r state (store_within (map.insert state.cells key
       (cell_after (map.get state.cells key) effect held chart file))) →
       GivesNextState r state (placed state dataset file (map.get state.cells dataset.header.key) effect)
   placed-in r gives =
@@ -150,7 +150,7 @@ module _ (state : StateValue) (dataset : DatasetValue) (file : List ℕ) (effect
       ∙ sym (placed-by state dataset file effect held chart builds numbers)) gives
 
 -- the names that are told
-pub changed-in : (r : Result Next SubmitFault) (before chart : Option CellValue) (changed : List Name) →
+pub changed-in : (r : Result Next TakeFault) (before chart : Option CellValue) (changed : List Name) →
     IfOk r (λ next. next.changed ≡ changed) → IfOk r (λ next. chart_of next.holding ≡ chart) →
     AreChanged before chart changed → IfOk r (λ next. AreChanged before (chart_of next.holding) next.changed)
 changed-in (Ok next) before chart changed named found are =

@@ -6,3 +6,8 @@ pub mod Taken
 pub mod Kept
 pub mod Outcome
 pub mod Next
+pub mod Images
+pub mod Store
+pub mod Submitted
+pub mod Opened
+pub mod Prepared

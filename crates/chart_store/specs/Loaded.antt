@@ -19,7 +19,7 @@ use Rattle.update_sequence.specs.declared.effect.Effect.TheVariants.{Replace, Ex
 use Rattle.update_sequence.specs.declared.fault.BuildFault.{BuildFault}
 use Rattle.chart_store.specs.declared.refusal.Refusal.{Refusal}
 use Rattle.chart_store.specs.declared.refusal.Refusal.TheVariants.{FileLong, CellsFull, StoreFull}
-use Rattle.chart_store.specs.declared.fault.SubmitFault.{SubmitFault}
+use Rattle.chart_store.specs.declared.fault.TakeFault.{TakeFault}
 use Rattle.chart_store.specs.declared.taken.Taken.{Taken}
 use Rattle.chart_store.specs.Refusal.{refusal_of_read, refusal_of_sequence, refusal_of_build}
 use Rattle.chart_store.specs.Fault.{GivesBy, or_refused}
@@ -137,5 +137,5 @@ abbrev pub loaded_with : StateValue → Taken → Outcome
 loaded_with state cell = record { key = cell.key; held = cell.held; state = state }
 
 -- the answer with what is held now is what was to be answered, unless memory ran out
-abbrev pub GivesLoaded : Result Taken SubmitFault → StateValue → Result Outcome Refusal → Type 0
+abbrev pub GivesLoaded : Result Taken TakeFault → StateValue → Result Outcome Refusal → Type 0
 GivesLoaded answer state wanted = GivesBy (loaded_with state) answer wanted

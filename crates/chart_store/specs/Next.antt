@@ -4,7 +4,7 @@ use Rattle.std.specs.FinMap as map
 use Rattle.chart_model.specs.State.{StateValue}
 use Rattle.chart_model.specs.declared.state.Holding.{Holding}
 use Rattle.chart_store.specs.declared.refusal.Refusal.{Refusal}
-use Rattle.chart_store.specs.declared.fault.SubmitFault.{SubmitFault}
+use Rattle.chart_store.specs.declared.fault.TakeFault.{TakeFault}
 use Rattle.chart_store.specs.declared.next.Next.{Next}
 use Rattle.chart_store.specs.Fault.{GivesBy}
 use Rattle.chart_store.specs.Live.{IsLive}
@@ -36,9 +36,9 @@ IsNext state next = CanStand state.cells next.key next.holding next.bytes
 -- ---- answers
 
 -- what would be held is what was to be answered, unless memory ran out
-abbrev pub GivesNext : Result Next SubmitFault → StateValue → Result Outcome Refusal → Type 0
+abbrev pub GivesNext : Result Next TakeFault → StateValue → Result Outcome Refusal → Type 0
 GivesNext answer state wanted = GivesBy (outcome_by state) answer wanted
 
 -- the same of what would be held alone
-abbrev pub GivesNextState : Result Next SubmitFault → StateValue → Result StateValue Refusal → Type 0
+abbrev pub GivesNextState : Result Next TakeFault → StateValue → Result StateValue Refusal → Type 0
 GivesNextState answer state wanted = GivesBy (state_by_next state) answer wanted

@@ -9,7 +9,7 @@ ghost use Rattle.chart_store.specs.Next.{IsNext, GivesNext};
 ghost use Rattle.chart_store.specs.Outcome.{outcome, dropped, most_steps};
 ghost use Rattle.chart_store.specs.Taken.{chart_of};
 
-use crate::fault::SubmitFault;
+use crate::fault::TakeFault;
 use crate::live::{LiveCells, bytes_of};
 use crate::load::next_of_file;
 use crate::next::Next;
@@ -23,14 +23,14 @@ use std::alloc::Global;
 use std::sync::ledger::Ledger;
 
 /// What is held once a cell is taken away.
-fn next_of_drop(alloc: Global, live: &LiveCells, key: Key) -> Result<Next, SubmitFault>
+fn next_of_drop(alloc: Global, live: &LiveCells, key: Key) -> Result<Next, TakeFault>
     ensures after { GivesNext result live.now (dropped live.now key) }
     ensures stands { IfOk result (IsNext live.now) }
     ensures changed { IfOk result (λ next.
         AreChanged (chart_of (map.get live.now.cells next.key)) (chart_of next.holding) next.changed) }
 {
     let Some(here) = live.cells().get(key) else {
-        return Err(SubmitFault::Refused(Refusal::NoCell(key)));
+        return Err(TakeFault::Refused(Refusal::NoCell(key)));
     };
     let changed = changed_names(alloc, here.chart.as_ref(), None)?;
     Ok(Next {
@@ -53,12 +53,12 @@ pub(crate) fn next_of<C: Ledger>(
     live: &LiveCells,
     command: Command,
     steps: &mut Steps<C>,
-) -> Result<Next, SubmitFault>
+) -> Result<Next, TakeFault>
     ensures after { GivesNext result live.now (outcome live.now command) }
     ensures stands { IfOk result (IsNext live.now) }
     ensures changed { IfOk result (λ next.
         AreChanged (chart_of (map.get live.now.cells next.key)) (chart_of next.holding) next.changed) }
-    ensures read { (file : List ℕ) → command ≡ Load file → result ≢ Err SubmitFault.NoMemory →
+    ensures read { (file : List ℕ) → command ≡ Load file → result ≢ Err TakeFault.NoMemory →
         steps.new ≡ steps.old + come_to file }
     ensures at_most { steps.new ≤ steps.old + most_steps live.now command }
 {
@@ -83,13 +83,13 @@ impl LiveCells {
         alloc: Global,
         command: Command,
         steps: &mut Steps<C>,
-    ) -> Result<Taken, SubmitFault>
+    ) -> Result<Taken, TakeFault>
         ensures outcome { GivesLoaded result self.new (outcome self.old command) }
         ensures changed { IfOk result (λ taken. AreChanged (chart_of (map.get self.old.cells taken.key))
             (chart_of (map.get self.new.cells taken.key)) taken.changed) }
         ensures old { IfOk result (λ taken. taken.old ≡ chart_of (map.get self.old.cells taken.key)) }
         ensures err { OnErr result (self.new ≡ self.old) }
-        ensures read { (file : List ℕ) → command ≡ Load file → result ≢ Err SubmitFault.NoMemory →
+        ensures read { (file : List ℕ) → command ≡ Load file → result ≢ Err TakeFault.NoMemory →
             steps.new ≡ steps.old + come_to file }
         ensures at_most { steps.new ≤ steps.old + most_steps self.old command }
     {
@@ -121,13 +121,13 @@ impl LiveCells {
         alloc: Global,
         file: Octets,
         steps: &mut Steps<C>,
-    ) -> Result<Taken, SubmitFault>
+    ) -> Result<Taken, TakeFault>
         ensures loaded { GivesLoaded result self.new (loaded self.old file) }
         ensures changed { IfOk result (λ taken. AreChanged (chart_of (map.get self.old.cells taken.key))
             (chart_of (map.get self.new.cells taken.key)) taken.changed) }
         ensures old { IfOk result (λ taken. taken.old ≡ chart_of (map.get self.old.cells taken.key)) }
         ensures err { OnErr result (self.new ≡ self.old) }
-        ensures read { result ≢ Err SubmitFault.NoMemory → steps.new ≡ steps.old + come_to file }
+        ensures read { result ≢ Err TakeFault.NoMemory → steps.new ≡ steps.old + come_to file }
         ensures at_most { steps.new ≤ steps.old + come_to file }
     {
         self.take(alloc, Command::Load(file), steps)

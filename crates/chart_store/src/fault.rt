@@ -1,7 +1,7 @@
 //! Why a file is not taken over.
 
 ghost use Rattle.std.specs.Prelude.{◌≡◌};
-ghost use Rattle.chart_store.specs.declared.fault.SubmitFault.TheVariants.{NoMemory};
+ghost use Rattle.chart_store.specs.declared.fault.TakeFault.TheVariants.{NoMemory};
 
 use crate::refusal::Refusal;
 use chart_closure::ClosureFault;
@@ -13,48 +13,48 @@ use update_sequence::{BuildFault, ReadFault, SequenceFault};
 
 /// Why a file is not taken over. What is held stays as it was.
 #[derive(Debug, Drop)]
-pub enum SubmitFault {
+pub enum TakeFault {
     /// It is refused.
     Refused(Refusal),
     /// There was no memory.
     NoMemory,
 }
 
-impl From<AllocError> for SubmitFault {
+impl From<AllocError> for TakeFault {
     ghost from_gives = { λ _ e. e ≡ NoMemory };
 
-    fn from(_: AllocError) -> SubmitFault {
-        SubmitFault::NoMemory
+    fn from(_: AllocError) -> TakeFault {
+        TakeFault::NoMemory
     }
 }
 
-impl<T: Drop> From<AllocFailed<T>> for SubmitFault {
+impl<T: Drop> From<AllocFailed<T>> for TakeFault {
     ghost from_gives = { λ _ e. e ≡ NoMemory };
 
-    fn from(_: AllocFailed<T>) -> SubmitFault {
-        SubmitFault::NoMemory
+    fn from(_: AllocFailed<T>) -> TakeFault {
+        TakeFault::NoMemory
     }
 }
 
-impl From<Refusal> for SubmitFault {
+impl From<Refusal> for TakeFault {
     ghost use Rattle.std.specs.Prelude.{◌≡◌};
-    ghost use Rattle.chart_store.specs.declared.fault.SubmitFault.TheVariants.{Refused};
+    ghost use Rattle.chart_store.specs.declared.fault.TakeFault.TheVariants.{Refused};
 
     ghost from_gives = { λ refusal e. e ≡ Refused refusal };
 
-    fn from(refusal: Refusal) -> SubmitFault {
-        SubmitFault::Refused(refusal)
+    fn from(refusal: Refusal) -> TakeFault {
+        TakeFault::Refused(refusal)
     }
 }
 
-impl From<FileFault> for SubmitFault {
+impl From<FileFault> for TakeFault {
     ghost use Rattle.std.specs.Prelude.{◌≡◌};
     ghost use Rattle.chart_store.specs.Refusal.{refusal_of_file};
     ghost use Rattle.chart_store.specs.Fault.{fault_of};
 
     ghost from_gives = { λ fault e. e ≡ fault_of (refusal_of_file fault) };
 
-    fn from(fault: FileFault) -> SubmitFault {
+    fn from(fault: FileFault) -> TakeFault {
         let refusal = match fault {
             FileFault::Leader(at) => Refusal::Leader(at),
             FileFault::Directory(at) => Refusal::Directory(at),
@@ -62,56 +62,56 @@ impl From<FileFault> for SubmitFault {
             FileFault::Terminator(at) => Refusal::Terminator(at),
             FileFault::Descriptor(tag) => Refusal::Descriptor(tag),
             FileFault::Subfield(record, tag) => Refusal::Subfield { record, tag },
-            FileFault::NoMemory => return SubmitFault::NoMemory,
+            FileFault::NoMemory => return TakeFault::NoMemory,
         };
-        SubmitFault::Refused(refusal)
+        TakeFault::Refused(refusal)
     }
 }
 
-impl From<DatasetFault> for SubmitFault {
+impl From<DatasetFault> for TakeFault {
     ghost use Rattle.std.specs.Prelude.{◌≡◌};
     ghost use Rattle.chart_store.specs.Refusal.{refusal_of_records};
     ghost use Rattle.chart_store.specs.Fault.{fault_of};
 
     ghost from_gives = { λ fault e. e ≡ fault_of (refusal_of_records fault) };
 
-    fn from(fault: DatasetFault) -> SubmitFault {
+    fn from(fault: DatasetFault) -> TakeFault {
         let refusal = match fault {
             DatasetFault::NoGeneral => Refusal::NoGeneral,
             DatasetFault::MissingField { record, tag } => Refusal::MissingField { record, tag },
             DatasetFault::Value { record, label } => Refusal::Value { record, label },
             DatasetFault::Profile(label) => Refusal::Profile(label),
-            DatasetFault::NoMemory => return SubmitFault::NoMemory,
+            DatasetFault::NoMemory => return TakeFault::NoMemory,
         };
-        SubmitFault::Refused(refusal)
+        TakeFault::Refused(refusal)
     }
 }
 
-impl From<ReadFault> for SubmitFault {
+impl From<ReadFault> for TakeFault {
     ghost use Rattle.std.specs.Prelude.{◌≡◌};
     ghost use Rattle.chart_store.specs.Refusal.{refusal_of_read};
     ghost use Rattle.chart_store.specs.Fault.{fault_of};
 
     ghost from_gives = { λ fault e. e ≡ fault_of (refusal_of_read fault) };
 
-    fn from(fault: ReadFault) -> SubmitFault {
+    fn from(fault: ReadFault) -> TakeFault {
         match fault {
-            ReadFault::File(fault) => SubmitFault::from(fault),
-            ReadFault::Dataset(fault) => SubmitFault::from(fault),
-            ReadFault::NoMemory => SubmitFault::NoMemory,
+            ReadFault::File(fault) => TakeFault::from(fault),
+            ReadFault::Dataset(fault) => TakeFault::from(fault),
+            ReadFault::NoMemory => TakeFault::NoMemory,
         }
     }
 }
 
-impl From<SequenceFault> for SubmitFault {
+impl From<SequenceFault> for TakeFault {
     ghost use Rattle.std.specs.Prelude.{◌≡◌};
-    ghost use Rattle.chart_store.specs.declared.fault.SubmitFault.TheVariants.{Refused};
+    ghost use Rattle.chart_store.specs.declared.fault.TakeFault.TheVariants.{Refused};
     ghost use Rattle.chart_store.specs.Refusal.{refusal_of_sequence};
 
     ghost from_gives = { λ fault e. e ≡ Refused (refusal_of_sequence fault) };
 
-    fn from(fault: SequenceFault) -> SubmitFault {
-        SubmitFault::Refused(match fault {
+    fn from(fault: SequenceFault) -> TakeFault {
+        TakeFault::Refused(match fault {
             SequenceFault::NoBase(key) => Refusal::NoBase(key),
             SequenceFault::StaleBase {
                 held_edition,
@@ -131,14 +131,14 @@ impl From<SequenceFault> for SubmitFault {
     }
 }
 
-impl From<ChangeFault> for SubmitFault {
+impl From<ChangeFault> for TakeFault {
     ghost use Rattle.std.specs.Prelude.{◌≡◌};
     ghost use Rattle.chart_store.specs.Refusal.{refusal_of_change};
     ghost use Rattle.chart_store.specs.Fault.{fault_of};
 
     ghost from_gives = { λ fault e. e ≡ fault_of (refusal_of_change fault) };
 
-    fn from(fault: ChangeFault) -> SubmitFault {
+    fn from(fault: ChangeFault) -> TakeFault {
         let refusal = match fault {
             ChangeFault::Present { name } => Refusal::Present { name },
             ChangeFault::Absent { name } => Refusal::Absent { name },
@@ -164,21 +164,21 @@ impl From<ChangeFault> for SubmitFault {
             },
             ChangeFault::NoControl { name } => Refusal::NoControl { name },
             ChangeFault::Mixed { name } => Refusal::Mixed { name },
-            ChangeFault::NoMemory => return SubmitFault::NoMemory,
+            ChangeFault::NoMemory => return TakeFault::NoMemory,
         };
-        SubmitFault::Refused(refusal)
+        TakeFault::Refused(refusal)
     }
 }
 
-impl From<ClosureFault> for SubmitFault {
+impl From<ClosureFault> for TakeFault {
     ghost use Rattle.std.specs.Prelude.{◌≡◌};
-    ghost use Rattle.chart_store.specs.declared.fault.SubmitFault.TheVariants.{Refused};
+    ghost use Rattle.chart_store.specs.declared.fault.TakeFault.TheVariants.{Refused};
     ghost use Rattle.chart_store.specs.Refusal.{refusal_of_closure};
 
     ghost from_gives = { λ fault e. e ≡ Refused (refusal_of_closure fault) };
 
-    fn from(fault: ClosureFault) -> SubmitFault {
-        SubmitFault::Refused(match fault {
+    fn from(fault: ClosureFault) -> TakeFault {
+        TakeFault::Refused(match fault {
             ClosureFault::Dangling(name, target) => Refusal::Dangling { name, target },
             ClosureFault::EdgeNodes(name) => Refusal::EdgeNodes(name),
             ClosureFault::RingOpen(name) => Refusal::RingOpen(name),
@@ -187,18 +187,18 @@ impl From<ClosureFault> for SubmitFault {
     }
 }
 
-impl From<BuildFault> for SubmitFault {
+impl From<BuildFault> for TakeFault {
     ghost use Rattle.std.specs.Prelude.{◌≡◌};
     ghost use Rattle.chart_store.specs.Refusal.{refusal_of_build};
     ghost use Rattle.chart_store.specs.Fault.{fault_of};
 
     ghost from_gives = { λ fault e. e ≡ fault_of (refusal_of_build fault) };
 
-    fn from(fault: BuildFault) -> SubmitFault {
+    fn from(fault: BuildFault) -> TakeFault {
         match fault {
-            BuildFault::Change(fault) => SubmitFault::from(fault),
-            BuildFault::Closure(fault) => SubmitFault::from(fault),
-            BuildFault::NoMemory => SubmitFault::NoMemory,
+            BuildFault::Change(fault) => TakeFault::from(fault),
+            BuildFault::Closure(fault) => TakeFault::from(fault),
+            BuildFault::NoMemory => TakeFault::NoMemory,
         }
     }
 }

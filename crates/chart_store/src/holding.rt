@@ -9,7 +9,7 @@ ghost use Rattle.chart_store.specs.Loaded.{files_of, files_after};
 ghost use Rattle.chart_store.specs.Next.{cells_with};
 ghost use Rattle.chart_store.specs.Taken.{held_of, chart_of, chart_after, MayBuild};
 
-use crate::fault::SubmitFault;
+use crate::fault::TakeFault;
 use chart_model::{Cell, Dataset, FileList, Held, Holding, HoldingMap, Key, Octets, Shared};
 use std::alloc::{AllocError, Global};
 use update_sequence::{Effect, build, extend};
@@ -58,7 +58,7 @@ fn chart_extended(
     alloc: Global,
     chart: Option<&Cell>,
     dataset: &Dataset,
-) -> Result<Option<Cell>, SubmitFault>
+) -> Result<Option<Cell>, TakeFault>
     requires { MayBuild (option_copied chart) Extend dataset.now }
     ensures { Gives result (chart_after (option_copied chart.entry) Extend dataset.now) }
 {
@@ -74,7 +74,7 @@ pub(crate) fn chart_after(
     chart: Option<&Cell>,
     effect: Effect,
     dataset: &Dataset,
-) -> Result<Option<Cell>, SubmitFault>
+) -> Result<Option<Cell>, TakeFault>
     requires { MayBuild (option_copied chart) effect dataset.now }
     ensures { Gives result (chart_after (option_copied chart.entry) effect dataset.now) }
 {

@@ -1,29 +1,45 @@
-//! The cells that are held: files are taken over or refused, and each accepted file changes its cell alone.
+//! The cells that are held, and the store that keeps them: commands are accepted or refused, and each accepted one
+//! changes its cell alone and is on the disk before it is answered.
 //!
 //! What is held of a cell is what its live files leave, one after the other from nothing: the numbers and
 //! the chart. A file is accepted by these files alone, and any refusal leaves all that is held as it was.
 #![tactic(auto)]
 
+mod accepted;
 mod changed;
 mod command;
 mod fault;
 mod holding;
+mod images_laws;
 mod laws;
 mod live;
 mod load;
 mod next;
+mod open_fault;
+mod opening;
+mod prepared;
+mod record;
 mod refusal;
+mod replay;
 mod rollback;
+mod store;
+mod submit_fault;
 mod taken;
 #[cfg(test)]
 mod tests;
 
-pub use fault::SubmitFault;
+pub use accepted::Accepted;
+pub use fault::TakeFault;
+pub use images_laws::files_that_stand_are_read;
 pub use laws::{
     commands_change_their_cell_alone, commands_follow_in_turn, commands_leave_what_is_held,
     live_files_leave_what_is_held, loads_change_their_cell_alone, rollbacks_keep_the_shortest_list,
 };
 pub use live::LiveCells;
 pub use load::FILE_LIMIT;
+pub use open_fault::OpenFault;
+pub use opening::open_store;
 pub use refusal::Refusal;
+pub use store::Store;
+pub use submit_fault::SubmitFault;
 pub use taken::Taken;

@@ -92,7 +92,8 @@ impl LiveCells {
 
     /// What is held. It takes no memory.
     pub fn state(&self) -> &State
-        ensures { result.now ≡ self.now }
+        ensures state { result.now ≡ self.now }
+        ensures live { AreLive result.now.cells }
     {
         &self.state
     }

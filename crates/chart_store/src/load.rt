@@ -13,7 +13,7 @@ ghost use Rattle.chart_store.specs.Next.{IsNext, GivesNext, GivesNextState};
 ghost use Rattle.chart_store.specs.Taken.{held_of, chart_of, held_after, cell_after, replaced_bytes, placed, taken};
 
 use crate::changed::changed_by_file;
-use crate::fault::SubmitFault;
+use crate::fault::TakeFault;
 use crate::holding::{chart_after, chart_of, files_after, held_of};
 use crate::live::{CELLS_LIMIT, LiveCells, STORE_LIMIT, bytes_of};
 use crate::next::Next;
@@ -85,7 +85,7 @@ fn with_file(
     effect: Effect,
     made: Made,
     file: Octets,
-) -> Result<Next, SubmitFault>
+) -> Result<Next, TakeFault>
     requires short { IsFileLength (length file) }
     requires live { IsLive key (cell_after (map.get live.now.cells key) effect made.held made.chart file) }
     ensures after { GivesNextState result live.now (store_within (map.insert live.now.cells key
@@ -98,7 +98,7 @@ fn with_file(
 {
     let bytes = bytes_after(live, key, effect, file.as_slice());
     if bytes > STORE_LIMIT {
-        return Err(SubmitFault::Refused(Refusal::StoreFull(bytes)));
+        return Err(TakeFault::Refused(Refusal::StoreFull(bytes)));
     }
     let files = files_after(alloc, live.cells().get(key), effect, file)?;
     let Made {
@@ -124,7 +124,7 @@ fn placed(
     file: Octets,
     effect: Effect,
     held: Held,
-) -> Result<Next, SubmitFault>
+) -> Result<Next, TakeFault>
     requires reads { data_set_in file ≡ Ok dataset.now }
     requires short { IsFileLength (length file) }
     requires live { IfSome (map.get live.now.cells dataset.now.header.key) (IsLive dataset.now.header.key) }
@@ -160,7 +160,7 @@ fn next_of_data_set(
     live: &LiveCells,
     dataset: &Dataset,
     file: Octets,
-) -> Result<Next, SubmitFault>
+) -> Result<Next, TakeFault>
     requires reads { data_set_in file ≡ Ok dataset.now }
     requires short { IsFileLength (length file) }
     ensures after { GivesNext result live.now
@@ -175,7 +175,7 @@ fn next_of_data_set(
     let effect = judge(held_of(before), dataset)?;
     let held = held_after(before, effect, &dataset.header);
     if live.is_full_for(key) {
-        return Err(SubmitFault::Refused(Refusal::CellsFull(CELLS_LIMIT)));
+        return Err(TakeFault::Refused(Refusal::CellsFull(CELLS_LIMIT)));
     }
     placed(alloc, live, dataset, file, effect, held)
 }
@@ -187,18 +187,18 @@ pub(crate) fn next_of_file<C: Ledger>(
     live: &LiveCells,
     file: Octets,
     steps: &mut Steps<C>,
-) -> Result<Next, SubmitFault>
+) -> Result<Next, TakeFault>
     ensures after { GivesNext result live.now (loaded live.now file) }
     ensures stands { IfOk result (IsNext live.now) }
     ensures changed { IfOk result (λ next.
         AreChanged (chart_of (map.get live.now.cells next.key)) (chart_of next.holding) next.changed) }
-    ensures read { result ≢ Err SubmitFault.NoMemory → steps.new ≡ steps.old + come_to file }
+    ensures read { result ≢ Err TakeFault.NoMemory → steps.new ≡ steps.old + come_to file }
     ensures at_most { steps.new ≤ steps.old + come_to file }
 {
     one_file_more();
     accepted_files_follow();
     if file.as_slice().len() as u64 > FILE_LIMIT {
-        return Err(SubmitFault::Refused(Refusal::FileLong(FILE_LIMIT)));
+        return Err(TakeFault::Refused(Refusal::FileLong(FILE_LIMIT)));
     }
     let dataset = read_data_set(alloc, file.as_slice(), steps)?;
     next_of_data_set(alloc, live, &dataset, file)

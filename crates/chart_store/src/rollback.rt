@@ -11,7 +11,7 @@ ghost use Rattle.chart_store.specs.Next.{IsNext, GivesNext};
 ghost use Rattle.chart_store.specs.Outcome.{rolled_back};
 ghost use Rattle.chart_store.specs.Taken.{chart_of};
 
-use crate::fault::SubmitFault;
+use crate::fault::TakeFault;
 use crate::live::{LiveCells, bytes_of};
 use crate::next::Next;
 use crate::refusal::Refusal;
@@ -110,7 +110,7 @@ pub(crate) fn next_of_rollback<C: Ledger>(
     key: Key,
     number: u32,
     steps: &mut Steps<C>,
-) -> Result<Next, SubmitFault>
+) -> Result<Next, TakeFault>
     ensures after { GivesNext result live.now (rolled_back live.now key number) }
     ensures stands { IfOk result (IsNext live.now) }
     ensures changed { IfOk result (λ next.
@@ -118,10 +118,10 @@ pub(crate) fn next_of_rollback<C: Ledger>(
     ensures at_most { steps.new ≤ steps.old + 2 * data_records_of (files_of (map.get live.now.cells key)) }
 {
     let Some(here) = live.cells().get(key) else {
-        return Err(SubmitFault::Refused(Refusal::NoCell(key)));
+        return Err(TakeFault::Refused(Refusal::NoCell(key)));
     };
     let Some(kept) = kept_by(alloc, &here.files, number, steps)? else {
-        return Err(SubmitFault::Refused(Refusal::NoUpdate {
+        return Err(TakeFault::Refused(Refusal::NoUpdate {
             key,
             update: number,
         }));

@@ -2,7 +2,7 @@
 
 ghost use Rattle.std.specs.Prelude.{◌≡◌, ◌<◌};
 
-use crate::{LiveCells, SubmitFault, Taken};
+use crate::{LiveCells, TakeFault, Taken};
 use chart_model::{Command, HoldingMap, Key, NameList, Octets};
 use chart_ports::Steps;
 use std::alloc::{AllocError, Global};
@@ -98,7 +98,7 @@ fn names_of(alloc: Global, names: &NameList) -> Result<String, AllocError> {
 }
 
 /// What was answered, as a text: the numbers, and the names whose records differ.
-fn answered(alloc: Global, answer: Result<Taken, SubmitFault>) -> Result<String, AllocError> {
+fn answered(alloc: Global, answer: Result<Taken, TakeFault>) -> Result<String, AllocError> {
     match answer {
         Ok(Taken { held, changed, .. }) => {
             let names = names_of(alloc, &changed)?;
@@ -107,8 +107,8 @@ fn answered(alloc: Global, answer: Result<Taken, SubmitFault>) -> Result<String,
                 held.edition, held.update, held.cancelled
             )
         }
-        Err(SubmitFault::Refused(refusal)) => format!(in alloc; "{refusal:?}"),
-        Err(SubmitFault::NoMemory) => String::from_str(alloc, "no memory"),
+        Err(TakeFault::Refused(refusal)) => format!(in alloc; "{refusal:?}"),
+        Err(TakeFault::NoMemory) => String::from_str(alloc, "no memory"),
     }
 }
 

@@ -17,8 +17,8 @@ use Rattle.chart_store.specs.Fault.{fault_of, or_refused}
 use Rattle.chart_store.specs.Loaded as loading
 use Rattle.chart_store.specs.Loaded.{FILE_LIMIT, Outcome, loaded, loaded_with}
 use Rattle.chart_store.specs.Refusal.{refusal_of_read}
-use Rattle.chart_store.specs.declared.fault.SubmitFault.{SubmitFault}
-use Rattle.chart_store.specs.declared.fault.SubmitFault.TheVariants as of_store
+use Rattle.chart_store.specs.declared.fault.TakeFault.{TakeFault}
+use Rattle.chart_store.specs.declared.fault.TakeFault.TheVariants as of_store
 use Rattle.chart_store.specs.declared.taken.Taken.{Taken}
 use Rattle.chart_store.specs.declared.refusal.Refusal as row
 use Rattle.chart_store.specs.declared.refusal.Refusal.TheVariants.{NoGeneral, FileLong}
@@ -141,7 +141,7 @@ load_of-file : (state : StateValue) (file : Result (List ℕ) Refusal) (bytes : 
 unfolding load_of
 load_of-file state file bytes h = ap (λ f. f >>= λ l. or_fault_as File (loaded state l)) h
 
-pub load_of-refused : (state state' : StateValue) (fault : SubmitFault) (file : Result (List ℕ) Refusal) (bytes : List ℕ) → Gives (Ok bytes) file
+pub load_of-refused : (state state' : StateValue) (fault : TakeFault) (file : Result (List ℕ) Refusal) (bytes : List ℕ) → Gives (Ok bytes) file
     → loading.GivesLoaded (Err fault) state' (loaded state bytes) → GivesLoaded (Err (fault_of_store fault)) state' (load_of state file)
 load_of-refused state state' (of_store.Refused refusal) file bytes found h = load_of-file state file bytes found ∙ ap (or_fault_as File) h
 load_of-refused state state' of_store.NoMemory file bytes found h = tt
@@ -175,7 +175,7 @@ fetch-cause a b r of_shelf.Failed stopped cause is = cause refl
 fetch-cause a b r of_shelf.NoMemory stopped cause is = absurd (let e : Refused ShelfFault ≡ NoMemory = is_fault r NoMemory (Refused ShelfFault) stopped is in cc)
 
 -- a fault of the store
-pub store-cause : {A X : Type 0} (r : Result A CommandFault) (fault : SubmitFault) → IsErrAnd r (λ y. y ≡ fault_of_store fault) → r ≡ Err (Refused ShelfFault) → X
+pub store-cause : {A X : Type 0} (r : Result A CommandFault) (fault : TakeFault) → IsErrAnd r (λ y. y ≡ fault_of_store fault) → r ≡ Err (Refused ShelfFault) → X
 store-cause r (of_store.Refused refusal) stopped is = absurd (let e : Refused ShelfFault ≡ Refused (File refusal) = is_fault r _ _ stopped is in cc)
 store-cause r of_store.NoMemory stopped is = absurd (let e : Refused ShelfFault ≡ NoMemory = is_fault r _ _ stopped is in cc)
 

@@ -6,8 +6,8 @@ use Rattle.chart_ports.specs.declared.shelf.ShelfError.TheVariants as of_shelf
 use Rattle.update_sequence.specs.declared.fault.ReadFault.{ReadFault}
 use Rattle.chart_store.specs.Fault.{fault_of}
 use Rattle.chart_store.specs.Refusal.{refusal_of_read}
-use Rattle.chart_store.specs.declared.fault.SubmitFault.{SubmitFault}
-use Rattle.chart_store.specs.declared.fault.SubmitFault.TheVariants as of_store
+use Rattle.chart_store.specs.declared.fault.TakeFault.{TakeFault}
+use Rattle.chart_store.specs.declared.fault.TakeFault.TheVariants as of_store
 use Rattle.ecdis_cli.specs.declared.session.refusal.Refusal.{Refusal}
 use Rattle.ecdis_cli.specs.declared.session.refusal.Refusal.TheVariants.{ShelfFault, File}
 use Rattle.ecdis_cli.specs.declared.session.fault.CommandFault.{CommandFault}
@@ -28,7 +28,7 @@ abbrev pub fault_of_shelf : ShelfError → CommandFault
 fault_of_shelf of_shelf.Failed = Refused ShelfFault
 fault_of_shelf of_shelf.NoMemory = NoMemory
 
-abbrev pub fault_of_store : SubmitFault → CommandFault
+abbrev pub fault_of_store : TakeFault → CommandFault
 fault_of_store (of_store.Refused refusal) = Refused (File refusal)
 fault_of_store of_store.NoMemory = NoMemory
 

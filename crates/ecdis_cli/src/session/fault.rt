@@ -5,7 +5,7 @@ ghost use Rattle.ecdis_cli.specs.declared.session.fault.CommandFault.TheVariants
 
 use crate::session::refusal::Refusal;
 use chart_ports::ShelfError;
-use chart_store::SubmitFault;
+use chart_store::TakeFault;
 use std::alloc::{AllocError, AllocFailed};
 use update_sequence::ReadFault;
 
@@ -48,16 +48,16 @@ impl From<ShelfError> for CommandFault {
     }
 }
 
-impl From<SubmitFault> for CommandFault {
+impl From<TakeFault> for CommandFault {
     ghost use Rattle.std.specs.Prelude.{◌≡◌};
     ghost use Rattle.ecdis_cli.specs.Commands.{fault_of_store};
 
     ghost from_gives = { λ fault e. e ≡ fault_of_store fault };
 
-    fn from(fault: SubmitFault) -> CommandFault {
+    fn from(fault: TakeFault) -> CommandFault {
         match fault {
-            SubmitFault::Refused(refusal) => CommandFault::Refused(Refusal::File(refusal)),
-            SubmitFault::NoMemory => CommandFault::NoMemory,
+            TakeFault::Refused(refusal) => CommandFault::Refused(Refusal::File(refusal)),
+            TakeFault::NoMemory => CommandFault::NoMemory,
         }
     }
 }
@@ -69,6 +69,6 @@ impl From<ReadFault> for CommandFault {
     ghost from_gives = { λ fault e. e ≡ fault_of_read fault };
 
     fn from(fault: ReadFault) -> CommandFault {
-        CommandFault::from(SubmitFault::from(fault))
+        CommandFault::from(TakeFault::from(fault))
     }
 }

@@ -1,0 +1,39 @@
+//! The record that a command is kept as.
+
+ghost use Rattle.std.specs.Prelude.{◌≡◌, Err, IfOk, IfErr, IsErrOf, OnOk, length};
+ghost use Rattle.bank_journal.specs.Bank.{frame_of, IsBodyLength};
+ghost use Rattle.chart_model.specs.State.{StateValue};
+ghost use Rattle.command_codec.specs.Spelling.{spelling, Spells};
+ghost use Rattle.chart_store.specs.declared.submit_fault.SubmitFault.TheVariants.{DeskFault};
+ghost use Rattle.chart_store.specs.Outcome.{outcome};
+ghost use Rattle.chart_store.specs.Submitted.{RefusedHas};
+
+use crate::load::FILE_LIMIT;
+use crate::refusal::Refusal;
+use crate::submit_fault::SubmitFault;
+use bank_journal::{Framed, frame};
+use chart_model::Command;
+use command_codec::encode_command;
+use std::alloc::Global;
+
+/// The record that a command is kept as.
+///
+/// # Errors
+///
+/// The command is refused where it loads a file that has too many bytes to be kept; `NoMemory`.
+pub(crate) fn record_of(alloc: Global, command: &Command) -> Result<Framed, SubmitFault>
+    ensures framed { IfOk result (λ framed. framed ≡ frame_of (spelling command.now)) }
+    ensures spelled { OnOk result (Spells (spelling command.now) command.now) }
+    ensures length { OnOk result (IsBodyLength (length (spelling command.now))) }
+    ensures refused { IfErr result (RefusedHas (λ refusal.
+        (state : StateValue) → outcome state command.now ≡ Err refusal)) }
+    ensures no_desk { ¬ IsErrOf result DeskFault }
+{
+    if let Command::Load(file) = command
+        && file.as_slice().len() as u64 > FILE_LIMIT
+    {
+        return Err(SubmitFault::Refused(Refusal::FileLong(FILE_LIMIT)));
+    }
+    let body = encode_command(alloc, command)?;
+    Ok(frame(alloc, body.as_slice())?)
+}

@@ -1,0 +1,79 @@
+//! The commands of a bank, carried out again.
+
+ghost use Rattle.std.specs.Prelude.{◌≡◌, ◌+◌, ◌<◌, ◌≤◌, Ok, Err, Some, None, IfOk, IfErr, IsErrOf, OnOk, length};
+ghost use Rattle.std.specs.List.{sum_by};
+ghost use Rattle.chart_model.specs.Answers.{or_fault_as};
+ghost use Rattle.command_codec.specs.Reading.{command_in};
+ghost use Rattle.chart_store.specs.declared.open_fault.OpenFault.TheVariants.{DeskFault};
+ghost use Rattle.chart_store.specs.Images.{in_bank, most_steps_by, most_steps_of, recorded, replayed};
+ghost use Rattle.chart_store.specs.Loaded.{nothing_held};
+ghost use Rattle.chart_store.specs.Opened.{ForeignHas};
+
+use crate::fault::TakeFault;
+use crate::live::LiveCells;
+use crate::open_fault::OpenFault;
+use bank_journal::BodyList;
+use chart_ports::Steps;
+use command_codec::decode_command;
+use std::alloc::Global;
+use std::sync::ledger::Ledger;
+
+/// The place of the first gate behind a header without a checkpoint.
+const FIRST_GATE: u64 = 8;
+
+/// The bytes of a record beside its body: its gate, and the body's length.
+const RECORD: u64 = 5;
+
+/// Carries out the command of one record.
+///
+/// # Errors
+///
+/// `Foreign` with the place of the record's gate, where its body spells no command or one that is refused; `NoMemory`.
+fn replay_one<C: Ledger>(
+    alloc: Global,
+    live: &mut LiveCells,
+    gate: u64,
+    body: &[u8],
+    steps: &mut Steps<C>,
+) -> Result<(), OpenFault>
+    ensures recorded { OnOk result (recorded live.old body.now ≡ Some live.new) }
+    ensures foreign { IfErr result (ForeignHas (λ place.
+        (place ≡ in_bank gate) × (recorded live.old body.now ≡ None))) }
+    ensures no_desk { ¬ IsErrOf result DeskFault }
+    ensures at_most { steps.new ≤ steps.old + most_steps_of live.old (command_in body.now) }
+{
+    let foreign = OpenFault::Foreign(1, gate);
+    let command = decode_command(alloc, body)?.ok_or(foreign)?;
+    match live.take(alloc, command, steps) {
+        Ok(_) => Ok(()),
+        Err(TakeFault::Refused(_)) => Err(foreign),
+        Err(TakeFault::NoMemory) => Err(OpenFault::NoMemory),
+    }
+}
+
+/// What is held after the commands of these records, the first of which stands behind an empty checkpoint.
+///
+/// # Errors
+///
+/// `Foreign` with the place of the first gate whose record holds no command that is accepted; `NoMemory`.
+pub(crate) fn replay<C: Ledger>(
+    alloc: Global,
+    bodies: &BodyList,
+    steps: &mut Steps<C>,
+) -> Result<LiveCells, OpenFault>
+    requires { 8 + sum_by (λ body. 5 + length body) bodies.now < 9223372036854775808 }
+    ensures state { IfOk result (λ live. replayed nothing_held 8 bodies.now ≡ Ok live) }
+    ensures foreign { IfErr result (ForeignHas (λ place.
+        or_fault_as in_bank (replayed nothing_held 8 bodies.now) ≡ Err place)) }
+    ensures no_desk { ¬ IsErrOf result DeskFault }
+    ensures at_most { steps.new ≤ steps.old + most_steps_by nothing_held bodies.now }
+{
+    let mut live = LiveCells::new(alloc);
+    let mut gate = FIRST_GATE;
+    for body in bodies.as_slice() {
+        let body = body.as_slice();
+        replay_one(alloc, &mut live, gate, body, steps)?;
+        gate += RECORD + body.len() as u64;
+    }
+    Ok(live)
+}

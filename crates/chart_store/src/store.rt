@@ -1,0 +1,158 @@
+//! A store: what is held, and the journal that keeps it.
+
+ghost use Rattle.std.specs.Prelude.{◌≡◌};
+
+use crate::accepted::Accepted;
+use crate::command::next_of;
+use crate::live::LiveCells;
+use crate::next::Next;
+use crate::record::record_of;
+use crate::submit_fault::SubmitFault;
+use bank_journal::{AppendFault, Bank};
+use chart_model::{Command, State};
+use chart_ports::{Desk, Steps};
+use std::alloc::Global;
+use std::sync::ledger::Ledger;
+
+/// What is held, and the bank that keeps the commands which left it. The desk is handed in at each call.
+#[derive(Debug, Drop)]
+pub struct Store {
+    live: LiveCells,
+    bank: Bank,
+    /// How many commands were accepted since it was opened.
+    count: u64,
+    sound: bool,
+}
+
+impl Store {
+    ghost use Rattle.std.specs.Prelude.{◌≡◌, ◌≢◌, ◌↔◌, ◌+◌, ◌<◌, ◌≤◌, List, ℕ, true, false, Err, IfOk, IsTrue, OnOk};
+    ghost use Rattle.std.specs.Prelude.{OnErr};
+    ghost use Rattle.std.specs.FinMap as map;
+    ghost use Rattle.bank_journal.specs.Fault.{HasDeskCause};
+    ghost use Rattle.bank_journal.specs.Handle.{place_of};
+    ghost use Rattle.chart_difference.specs.Difference.{AreChanged};
+    ghost use Rattle.chart_model.specs.declared.command.Command.TheVariants.{Load};
+    ghost use Rattle.chart_ports.specs.Disk.{LeavesNoMoreOfOthers, SameOthers};
+    ghost use Rattle.chart_ports.specs.Moments.{LeavesOnly, MayBeLeft};
+    ghost use Rattle.chart_ports.specs.declared.images.Images.{Images};
+    ghost use Rattle.chart_store.specs.declared.submit_fault.SubmitFault.TheVariants.{DeskFault, NoMemory};
+    ghost use Rattle.chart_store.specs.Images.{StandFor};
+    ghost use Rattle.chart_store.specs.Live.{AreLive, state_or};
+    ghost use Rattle.chart_store.specs.Loaded.{come_to};
+    ghost use Rattle.chart_store.specs.Outcome.{accepted, most_steps, need};
+    ghost use Rattle.chart_store.specs.Store.{IsKept, StandsForEither, bank_in, count_of, is_sound, room_of, state_of, used_of};
+    ghost use Rattle.chart_store.specs.Submitted.{GivesAccepted};
+    ghost use Rattle.chart_store.specs.Taken.{chart_of};
+
+    /// A store that was just opened.
+    pub(crate) fn opened(live: LiveCells, bank: Bank) -> Store
+        ensures state { state_of result ≡ live }
+        ensures used { used_of result ≡ place_of bank + 1 }
+        ensures bank { bank_in result ≡ bank }
+        ensures count { count_of result ≡ 0 }
+        ensures sound { is_sound result ≡ true }
+    {
+        Store {
+            live,
+            bank,
+            count: 0,
+            sound: true,
+        }
+    }
+
+    /// What is held: each cell is what its live files leave. It takes no memory.
+    pub fn state(&self) -> &State
+        ensures state { result.now ≡ state_of self.now }
+        ensures live { AreLive result.now.cells }
+    {
+        self.live.state()
+    }
+
+    /// Whether no call of the desk has failed. It takes no memory.
+    pub fn is_sound(&self) -> bool
+        ensures { result ≡ is_sound self.now }
+    {
+        self.sound
+    }
+
+    /// Accepts a command, which is on the disk when this returns, or refuses it.
+    ///
+    /// All memory is taken before the record is written. A crash at any moment leaves files that hold what was held
+    /// before, or what the command leaves.
+    ///
+    /// Each data record that is come to is a step: those of a file that is loaded once, those of a cell that is rolled
+    /// back at most twice.
+    ///
+    /// # Errors
+    ///
+    /// The first refusal; `NoMemory`. Then all is as it was, on the disk too. `DeskFault` only where the desk's count
+    /// rose: what is held is as it was, and the store is used no more.
+    pub fn submit<D: Desk, C: Ledger>(
+        &mut self,
+        alloc: Global,
+        command: Command,
+        desk: &mut D,
+        steps: &mut Steps<C>,
+    ) -> Result<Accepted, SubmitFault>
+        requires sound { IsTrue (is_sound self.old) }
+        requires count { count_of self.old < 9223372036854775808 }
+        requires kept { IsTrue D.tells → IsKept (D.contents desk.old) (D.may_leave desk.old) self.old }
+
+        ensures outcome { GivesAccepted result (state_of self.new)
+            (accepted (state_of self.old) (room_of self.old) command) }
+        ensures changed { IfOk result (λ done. AreChanged (chart_of (map.get (state_of self.old).cells done.key))
+            (chart_of (map.get (state_of self.new).cells done.key)) done.changed) }
+        ensures old { IfOk result (λ done. done.old ≡ chart_of (map.get (state_of self.old).cells done.key)) }
+        ensures count { IfOk result (λ done. (done.count ≡ count_of self.old + 1) × (count_of self.new ≡ done.count)) }
+        ensures used { OnOk result (used_of self.new ≡ used_of self.old + need command) }
+
+        // A refusal and want of memory change nothing; a fault of the desk leaves what is held, and ends the store.
+        ensures unchanged { result ≢ Err DeskFault → OnErr result ((self.new ≡ self.old) × (desk.new ≡ desk.old)) }
+        ensures held { OnErr result ((state_of self.new ≡ state_of self.old) × (count_of self.new ≡ count_of self.old)) }
+        ensures sound { (is_sound self.new ≡ false) ↔ (result ≡ Err DeskFault) }
+
+        // When it returns, whatever a crash leaves stands for what is held.
+        ensures kept { IsTrue D.tells → result ≢ Err DeskFault →
+            IsKept (D.contents desk.new) (D.may_leave desk.new) self.new }
+        ensures stands { IsTrue D.tells → result ≢ Err DeskFault → (images : Images) →
+            MayBeLeft (D.may_leave desk.new) images → StandFor images (state_of self.new) }
+        // A crash at any moment of it leaves what stands for what was held, or for what the accepted command leaves.
+        ensures moments { IsTrue D.tells → LeavesOnly D.clock D.might desk.old desk.new
+            (StandsForEither (D.said desk.old) (state_of self.old)
+            (state_or (state_of self.old) (accepted (state_of self.old) (room_of self.old) command))) }
+
+        // It leaves the other files and what is said.
+        ensures others { IsTrue D.tells → SameOthers 1 (D.contents desk.old) (D.contents desk.new) }
+        ensures crash_others { IsTrue D.tells → LeavesNoMoreOfOthers 1 (D.may_leave desk.old) (D.may_leave desk.new) }
+        ensures said { IsTrue D.tells → D.said desk.new ≡ D.said desk.old }
+
+        ensures cause { HasDeskCause DeskFault (D.faults desk.old) (D.faults desk.new) result }
+        ensures read { (file : List ℕ) → command ≡ Load file → result ≢ Err NoMemory →
+            steps.new ≡ steps.old + come_to file }
+        ensures at_most { steps.new ≤ steps.old + most_steps (state_of self.old) command }
+    {
+        let framed = record_of(alloc, &command)?;
+        let Next {
+            key,
+            held,
+            holding,
+            bytes,
+            changed,
+        } = next_of(alloc, &self.live, command, steps)?;
+        let prepared = self.live.prepare(key, holding, bytes)?;
+        if let Err(fault) = self.bank.append(desk, &framed) {
+            self.live.withdraw(prepared);
+            self.sound = fault != AppendFault::DeskFault;
+            return Err(SubmitFault::from(fault));
+        }
+        let old = self.live.finish(prepared);
+        self.count += 1;
+        Ok(Accepted {
+            key,
+            held,
+            count: self.count,
+            changed,
+            old,
+        })
+    }
+}

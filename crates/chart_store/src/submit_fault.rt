@@ -1,0 +1,70 @@
+//! Why a store does not accept a command.
+
+ghost use Rattle.std.specs.Prelude.{◌≡◌};
+ghost use Rattle.chart_store.specs.declared.submit_fault.SubmitFault.TheVariants.{NoMemory};
+
+use crate::fault::TakeFault;
+use crate::refusal::Refusal;
+use bank_journal::AppendFault;
+use std::alloc::AllocError;
+
+/// Why a store does not accept a command. What is held stays as it was.
+#[derive(Debug, Drop)]
+pub enum SubmitFault {
+    /// It is refused.
+    Refused(Refusal),
+    /// A call of the desk failed. The store is used no more, and has to be opened again: it then holds what was held
+    /// before the command, or what the command leaves.
+    DeskFault,
+    /// There was no memory.
+    NoMemory,
+}
+
+impl From<AllocError> for SubmitFault {
+    ghost from_gives = { λ _ e. e ≡ NoMemory };
+
+    fn from(_: AllocError) -> SubmitFault {
+        SubmitFault::NoMemory
+    }
+}
+
+impl From<Refusal> for SubmitFault {
+    ghost use Rattle.std.specs.Prelude.{◌≡◌};
+    ghost use Rattle.chart_store.specs.declared.submit_fault.SubmitFault.TheVariants.{Refused};
+
+    ghost from_gives = { λ refusal e. e ≡ Refused refusal };
+
+    fn from(refusal: Refusal) -> SubmitFault {
+        SubmitFault::Refused(refusal)
+    }
+}
+
+impl From<TakeFault> for SubmitFault {
+    ghost use Rattle.std.specs.Prelude.{◌≡◌};
+    ghost use Rattle.chart_store.specs.Submitted.{fault_of_taking};
+
+    ghost from_gives = { λ fault e. e ≡ fault_of_taking fault };
+
+    fn from(fault: TakeFault) -> SubmitFault {
+        match fault {
+            TakeFault::Refused(refusal) => SubmitFault::Refused(refusal),
+            TakeFault::NoMemory => SubmitFault::NoMemory,
+        }
+    }
+}
+
+impl From<AppendFault> for SubmitFault {
+    ghost use Rattle.std.specs.Prelude.{◌≡◌};
+    ghost use Rattle.chart_store.specs.Submitted.{fault_of_appending};
+
+    ghost from_gives = { λ fault e. e ≡ fault_of_appending fault };
+
+    fn from(fault: AppendFault) -> SubmitFault {
+        match fault {
+            AppendFault::DeskFault => SubmitFault::DeskFault,
+            AppendFault::Full { length, need } => {
+                SubmitFault::Refused(Refusal::BankFull { length, need })
+            }
+        }
+    }
+}
