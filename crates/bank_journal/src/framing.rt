@@ -1,6 +1,6 @@
 //! Bodies in the form in which they are written.
 
-ghost use Rattle.std.specs.Prelude.{◌≡◌, IfOk, length};
+ghost use Rattle.std.specs.Prelude.{◌≡◌, ◌+◌, IfOk, length};
 ghost use Rattle.bank_journal.specs.Bank.{frame_of, IsBodyLength};
 
 use byteorder::{BigEndian, ByteOrder};
@@ -34,7 +34,8 @@ impl Framed {
 /// Frames a body, which is copied once, into room that is taken at once.
 pub fn frame(alloc: Global, body: &[u8]) -> Result<Framed, AllocError>
     requires { IsBodyLength (length body.now) }
-    ensures { IfOk result (λ framed. framed ≡ frame_of body.now) }
+    ensures bytes { IfOk result (λ framed. framed ≡ frame_of body.now) }
+    ensures length { IfOk result (λ framed. length framed ≡ length body.now + 5) }
 {
     let mut length = [0; 4];
     BigEndian::write_u32(&mut length, body.len() as u32);

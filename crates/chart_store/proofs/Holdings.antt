@@ -87,7 +87,7 @@ live_bytes-put cells key effect file here count counted files =
 
 -- ---- maps
 
-tied : (r : Ordering) → is_eq r ≡ true → r ≡ Equal
+pub tied : (r : Ordering) → is_eq r ≡ true → r ≡ Equal
 tied Less e = absurd (let f : false ≡ true = e in cc)
 tied Equal e = refl
 tied Greater e = absurd (let f : false ≡ true = e in cc)

@@ -1,6 +1,8 @@
 -- What a store answers to a command.
-use Rattle.std.specs.Prelude.{Option, Some, None, Result}
+use Rattle.std.specs.Prelude.{◌≡◌, ◌<◌, ℕ, List, length, Option, Some, None, Result}
 use Rattle.chart_model.specs.State.{StateValue}
+use Rattle.chart_model.specs.declared.command.Command.{Command}
+use Rattle.chart_model.specs.declared.command.Command.TheVariants.{Load}
 use Rattle.bank_journal.specs.declared.fault.AppendFault.{AppendFault}
 use Rattle.bank_journal.specs.declared.fault.AppendFault.TheVariants as appends
 use Rattle.chart_store.specs.declared.accepted.Accepted.{Accepted}
@@ -18,6 +20,10 @@ abbrev pub told : SubmitFault → Option Refusal
 told (Refused refusal) = Some refusal
 told DeskFault = None
 told NoMemory = None
+
+-- a file that has too many bytes to be kept
+abbrev pub IsTooLong : Command → Type 0
+IsTooLong command = (file : List ℕ) × (command ≡ Load file) × (8388608 < length file)
 
 -- a refusal
 abbrev pub RefusedHas : (Refusal → Type 0) → SubmitFault → Type 0

@@ -1,12 +1,12 @@
 //! The record that a command is kept as.
 
-ghost use Rattle.std.specs.Prelude.{◌≡◌, Err, IfOk, IfErr, IsErrOf, OnOk, length};
+ghost use Rattle.std.specs.Prelude.{◌≡◌, IfOk, IfErr, IsErrOf, OnOk, length};
 ghost use Rattle.bank_journal.specs.Bank.{frame_of, IsBodyLength};
-ghost use Rattle.chart_model.specs.State.{StateValue};
 ghost use Rattle.command_codec.specs.Spelling.{spelling, Spells};
 ghost use Rattle.chart_store.specs.declared.submit_fault.SubmitFault.TheVariants.{DeskFault};
-ghost use Rattle.chart_store.specs.Outcome.{outcome};
-ghost use Rattle.chart_store.specs.Submitted.{RefusedHas};
+ghost use Rattle.chart_store.specs.declared.refusal.Refusal.TheVariants.{FileLong};
+ghost use Rattle.chart_store.specs.Outcome.{need};
+ghost use Rattle.chart_store.specs.Submitted.{IsTooLong, RefusedHas};
 
 use crate::load::FILE_LIMIT;
 use crate::refusal::Refusal;
@@ -23,10 +23,11 @@ use std::alloc::Global;
 /// The command is refused where it loads a file that has too many bytes to be kept; `NoMemory`.
 pub(crate) fn record_of(alloc: Global, command: &Command) -> Result<Framed, SubmitFault>
     ensures framed { IfOk result (λ framed. framed ≡ frame_of (spelling command.now)) }
+    ensures need { IfOk result (λ framed. length framed ≡ need command.now) }
     ensures spelled { OnOk result (Spells (spelling command.now) command.now) }
     ensures length { OnOk result (IsBodyLength (length (spelling command.now))) }
     ensures refused { IfErr result (RefusedHas (λ refusal.
-        (state : StateValue) → outcome state command.now ≡ Err refusal)) }
+        (refusal ≡ FileLong 8388608) × IsTooLong command.now)) }
     ensures no_desk { ¬ IsErrOf result DeskFault }
 {
     if let Command::Load(file) = command
