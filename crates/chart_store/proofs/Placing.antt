@@ -52,7 +52,7 @@ live-held-if holds key None h = tt
 live-held-if holds key (Some here) h = live-held holds key here h
 
 -- the chart of a cell that is held is closed
-closed-before : ((key : List ℕ) (files : List (List ℕ)) → IsSoundList key files → IfSome (rebuilt files) IsClosed)
+pub closed-before : ((key : List ℕ) (files : List (List ℕ)) → IsSoundList key files → IfSome (rebuilt files) IsClosed)
     → (key : List ℕ) (before : Option Holding) → WasLive key before → IfSome (chart_of before) IsClosed
 closed-before closed key None h = tt
 closed-before closed key (Some here) h =

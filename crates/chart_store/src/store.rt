@@ -13,6 +13,7 @@ use chart_model::{Command, State};
 use chart_ports::{Desk, Steps};
 use std::alloc::Global;
 use std::sync::ledger::Ledger;
+use update_sequence::sound_lists_are_held;
 
 /// What is held, and the bank that keeps the commands which left it. The desk is handed in at each call.
 #[derive(Debug, Drop)]
@@ -26,10 +27,11 @@ pub struct Store {
 
 impl Store {
     ghost use Rattle.std.specs.Prelude.{◌≡◌, ◌≢◌, ◌↔◌, ◌+◌, ◌<◌, ◌≤◌, List, ℕ, true, false, Err, IfOk, IsTrue, OnOk};
-    ghost use Rattle.std.specs.Prelude.{OnErr};
+    ghost use Rattle.std.specs.Prelude.{IfSome, OnErr};
     ghost use Rattle.std.specs.FinMap as map;
     ghost use Rattle.bank_journal.specs.Fault.{HasDeskCause};
     ghost use Rattle.bank_journal.specs.Handle.{place_of};
+    ghost use Rattle.chart_closure.specs.Closed.{IsClosed};
     ghost use Rattle.chart_difference.specs.Difference.{AreChanged};
     ghost use Rattle.chart_model.specs.declared.command.Command.TheVariants.{Load};
     ghost use Rattle.chart_ports.specs.Disk.{LeavesNoMoreOfOthers, SameOthers};
@@ -60,11 +62,13 @@ impl Store {
         }
     }
 
-    /// What is held: each cell is what its live files leave. It takes no memory.
+    /// What is held: each cell is what its live files leave, and its chart is closed. It takes no memory.
     pub fn state(&self) -> &State
         ensures state { result.now ≡ state_of self.now }
         ensures live { AreLive result.now.cells }
+        ensures closed { (key : List ℕ) → IfSome (chart_of (map.get result.now.cells key)) IsClosed }
     {
+        sound_lists_are_held();
         self.live.state()
     }
 
