@@ -9,3 +9,5 @@ mod Keeping
 mod Commanding
 mod Differing
 mod Taking
+mod Reading
+mod Leaving
