@@ -11,3 +11,5 @@ mod Differing
 mod Taking
 mod Preparing
 mod Submitting
+mod Reading
+mod Leaving

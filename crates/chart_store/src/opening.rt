@@ -10,7 +10,7 @@ ghost use Rattle.chart_ports.specs.Count.{HasCause};
 ghost use Rattle.chart_ports.specs.Disk.{LeavesNoMoreOfOthers, LeavesNoMore, Only, SameFiles, SameOthers};
 ghost use Rattle.chart_ports.specs.Moments.{LeavesOnly, images_of};
 ghost use Rattle.chart_store.specs.declared.open_fault.OpenFault.TheVariants.{DeskFault};
-ghost use Rattle.chart_store.specs.Images.{content_in, most_steps_in, read_of};
+ghost use Rattle.chart_store.specs.Images.{content_in, headed, most_steps_in, read_of};
 ghost use Rattle.chart_store.specs.Opened.{ForeignHas};
 ghost use Rattle.chart_store.specs.Store.{IsKept, LeavesBefore, LeavesReading, count_of, is_sound, state_of, used_of};
 
@@ -19,6 +19,7 @@ use crate::replay::replay;
 use crate::store::Store;
 use bank_journal::{Bank, BankContent, open_bank};
 use chart_ports::{Desk, Failed, Steps};
+use command_codec::commands_are_spelled;
 use std::alloc::Global;
 use std::sync::ledger::Ledger;
 
@@ -40,6 +41,26 @@ fn sync_files<D: Desk>(desk: &mut D) -> Result<(), Failed>
 {
     for file in 0..3 {
         desk.sync(file)?;
+    }
+    Ok(())
+}
+
+/// Brings each file to the disk, and sees that the head is empty.
+fn open_head<D: Desk>(desk: &mut D) -> Result<(), OpenFault>
+    ensures head { IsTrue D.tells → OnOk result (D.contents desk.old 0 ≡ []) }
+    ensures foreign { IsTrue D.tells → IfErr result (ForeignHas (λ place. headed (D.contents desk.old 0) ≡ Err place)) }
+    ensures settled { IsTrue D.tells → OnOk result ((file : ℕ) → file ≤ 2 →
+        Only (D.contents desk.new file) (D.may_leave desk.new file)) }
+    ensures files { IsTrue D.tells → OnOk result (SameFiles (D.contents desk.old) (D.contents desk.new)) }
+    ensures crash { IsTrue D.tells → LeavesNoMore (D.may_leave desk.old) (D.may_leave desk.new) }
+    ensures said { IsTrue D.tells → D.said desk.new ≡ D.said desk.old }
+    ensures moments { IsTrue D.tells → LeavesOnly D.clock D.might desk.old desk.new
+        (LeavesBefore (D.may_leave desk.old) (D.said desk.old)) }
+    ensures cause { HasDeskCause DeskFault (D.faults desk.old) (D.faults desk.new) result }
+{
+    sync_files(desk)?;
+    if desk.length(HEAD)? > 0 {
+        return Err(OpenFault::Foreign(HEAD, 0));
     }
     Ok(())
 }
@@ -68,10 +89,7 @@ fn open_current<D: Desk>(alloc: Global, desk: &mut D) -> Result<(Bank, BankConte
 
     ensures cause { HasDeskCause DeskFault (D.faults desk.old) (D.faults desk.new) result }
 {
-    sync_files(desk)?;
-    if desk.length(HEAD)? > 0 {
-        return Err(OpenFault::Foreign(HEAD, 0));
-    }
+    open_head(desk)?;
     Ok(open_bank(alloc, desk, BANK)?)
 }
 
@@ -115,6 +133,7 @@ pub fn open_store<D: Desk, C: Ledger>(
     if !content.checkpoint.as_slice().is_empty() {
         return Err(OpenFault::Foreign(BANK, 8));
     }
+    commands_are_spelled();
     let live = replay(alloc, &content.bodies, steps)?;
     Ok(Store::opened(live, bank))
 }
