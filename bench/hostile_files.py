@@ -262,6 +262,13 @@ def changed_area():
     return long_ring() | {"update": update(change(version) for version in range(2, 60_002))}
 
 
+def replaced_pointer():
+    """60,000 changes of an area of 12,000 edges, each of which replaces its first pointer."""
+    edits = ((b"FSPC", edit(MODIFY, 1, 1)), shown([1]))
+    changes = (packed(*feature(1, 3, version, MODIFY), *edits) for version in range(2, 60_002))
+    return long_ring() | {"update": update(changes)}
+
+
 def smallest_vectors():
     return base(many(lambda number: packed(vector(ISOLATED_NODE, number)), 40))
 
@@ -307,6 +314,7 @@ CASES = [
     ("60,000 insertions, 2,500,000 soundings", front_insertions_of_a_longer_list),
     ("60,000 changes, 33,000 attributes", first_attribute),
     ("60,000 changes of an area of 12,000 edges", changed_area),
+    ("60,000 replacements, an area of 12,000 edges", replaced_pointer),
     ("an update of each of 200,000 records", every_record),
     ("a deletion of each of them", every_record_deleted),
     ("a refusal at the last of them", last_change_refused),

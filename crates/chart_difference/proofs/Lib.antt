@@ -1,3 +1,4 @@
 mod Decided
 mod Names
 mod Texts
+pub mod RecordNames

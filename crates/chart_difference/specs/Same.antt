@@ -23,7 +23,9 @@ same_foid x y = nat_eq x.agen y.agen && (nat_eq x.fidn y.fidn && nat_eq x.fids y
 
 abbrev pub same_pointer : Pointer → Pointer → Bool
 same_pointer x y =
-    same_name x.target y.target && (nat_eq x.ornt y.ornt && (nat_eq x.usag y.usag && (nat_eq x.topi y.topi && nat_eq x.mask y.mask)))
+    same_name x.target y.target
+    && (nat_eq x.ornt y.ornt
+    && (nat_eq x.usag y.usag && (nat_eq x.topi y.topi && nat_eq x.mask y.mask)))
 
 -- two values that are the same, or none
 abbrev pub same_if_any : {X : Type 0} → (X → X → Bool) → Option X → Option X → Bool

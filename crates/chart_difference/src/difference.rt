@@ -1,6 +1,6 @@
 //! The names whose records differ.
 
-ghost use Rattle.std.specs.Prelude.{◌≡◌, ◌++◌, IfOk, OnOk};
+ghost use Rattle.std.specs.Prelude.{◌≡◌, ◌≢◌, ◌++◌, None, IfOk, OnOk};
 ghost use Rattle.std.specs.List.{filter};
 ghost use Rattle.std.specs.Option.{option_copied};
 ghost use Rattle.std.specs.FinMap as map;
@@ -8,12 +8,15 @@ ghost use Rattle.chart_difference.specs.Same.{differ};
 ghost use Rattle.chart_difference.specs.Difference.{AreChanged, HasAll, vector_in, feature_in, names_in};
 
 use crate::same::{same_features, same_vectors};
+use chart_model::codes::FEATURE;
 use chart_model::{Cell, Feature, Name, NameList, NameMap, Vector};
 use std::alloc::{AllocError, Global};
 
-/// The vector record under a name: none where there is no chart.
+/// The vector record under a name: none where there is no chart. No feature has the name of a vector record.
+#[tactic(auto, using(crate::proofs::RecordNames::no_feature))]
 fn vector_in(chart: Option<&Cell>, name: Name) -> Option<&Vector>
-    ensures { option_copied result ≡ vector_in (option_copied chart.entry) name }
+    ensures found { option_copied result ≡ vector_in (option_copied chart.entry) name }
+    ensures alone { name.rcnm ≢ FEATURE → feature_in (option_copied chart.entry) name ≡ None }
 {
     match chart {
         Some(cell) => cell.vectors.get(name),
@@ -21,9 +24,11 @@ fn vector_in(chart: Option<&Cell>, name: Name) -> Option<&Vector>
     }
 }
 
-/// The feature record under a name: none where there is no chart.
+/// The feature record under a name: none where there is no chart. No vector record has the name of a feature.
+#[tactic(auto, using(crate::proofs::RecordNames::no_vector))]
 fn feature_in(chart: Option<&Cell>, name: Name) -> Option<&Feature>
-    ensures { option_copied result ≡ feature_in (option_copied chart.entry) name }
+    ensures found { option_copied result ≡ feature_in (option_copied chart.entry) name }
+    ensures alone { name.rcnm ≡ FEATURE → vector_in (option_copied chart.entry) name ≡ None }
 {
     match chart {
         Some(cell) => cell.features.get(name),
@@ -31,12 +36,15 @@ fn feature_in(chart: Option<&Cell>, name: Name) -> Option<&Feature>
     }
 }
 
-/// Whether the records under a name differ.
+/// Whether the records under a name differ. The name tells whether they are features or vector records.
 fn differ(old: Option<&Cell>, new: Option<&Cell>, name: Name) -> bool
     ensures { result ≡ differ (option_copied old.entry) (option_copied new.entry) name }
 {
-    !same_vectors(vector_in(old, name), vector_in(new, name))
-        || !same_features(feature_in(old, name), feature_in(new, name))
+    if name.rcnm == FEATURE {
+        !same_features(feature_in(old, name), feature_in(new, name))
+    } else {
+        !same_vectors(vector_in(old, name), vector_in(new, name))
+    }
 }
 
 /// The names, of these, whose records differ.

@@ -1,8 +1,8 @@
 //! How many items of lists the changes of a file may move.
 //!
-//! An edit of a list moves the items behind its place, so that a small file, which edits a long list again
-//! and again, can ask for more work than there is time for. No file that was made from a chart comes near
-//! the budget.
+//! An insertion into a list and a deletion from it move the items behind their place, so that a small file, which
+//! edits a long list again and again, can ask for more work than there is time for. No file that was made from a
+//! chart comes near the budget.
 
 use crate::judge::Kept;
 use chart_model::codes::MODIFY;
@@ -10,7 +10,7 @@ use chart_model::{Control, UpdateRecord};
 use std::alloc::AllocError;
 
 /// The items that are moved for any file.
-const BUDGET: usize = 536_870_912;
+const BUDGET: usize = 268_435_456;
 
 /// So many settings at most are done in their places, where each may move all attributes. More are merged.
 const FEW: usize = 32;
@@ -49,21 +49,22 @@ impl Moves {
     }
 }
 
-/// The items of a list, where it is edited.
-fn edited(edit: Option<Control>, length: usize) -> usize {
+/// The items of a list that an edit may move: all where items are inserted or deleted. A replacement moves none, and
+/// writes as many as the file has of them.
+fn shifted(edit: Option<Control>, length: usize) -> usize {
     match edit {
-        Some(_) => length,
-        None => 0,
+        Some(control) if control.instruction != MODIFY => length,
+        _ => 0,
     }
 }
 
-/// The items that a modification may move: those of the lists that it edits, and the attributes for each that it
+/// The items that a modification may move: those of the lists that it shifts, and the attributes for each that it
 /// sets.
 fn moved(kept: &Kept, change: &UpdateRecord) -> usize {
     let settings = change.attrs.as_slice().len().min(FEW);
     kept.attrs
         .saturating_mul(settings)
-        .saturating_add(edited(change.pointer_edit, kept.pointers))
-        .saturating_add(edited(change.coord_edit, kept.coords))
-        .saturating_add(edited(change.related_edit, kept.related))
+        .saturating_add(shifted(change.pointer_edit, kept.pointers))
+        .saturating_add(shifted(change.coord_edit, kept.coords))
+        .saturating_add(shifted(change.related_edit, kept.related))
 }

@@ -8,7 +8,6 @@ use Rattle.std.specs.Ordering.{eq_by_cmp}
 use Rattle.std.specs.FinMap as finite
 use Rattle.update_sequence.specs.Others.{HasSame}
 use Rattle.chart_model.specs.declared.name.Name.{Name}
-use Rattle.chart_model.specs.declared.dataset.Header.{Header}
 use Rattle.chart_model.specs.Cell.{CellValue}
 use Rattle.chart_model.specs.Change.{Change}
 use Rattle.chart_model.specs.Dataset.{DatasetValue}
@@ -16,7 +15,7 @@ use Rattle.chart_model.specs.Names.{name_cmp, edited_at}
 use Rattle.chart_model.proofs.Names.{name_cmp-total}
 use Rattle.update_apply.specs.Changed.{changed_in, changed, inserted_vector, inserted_feature, modified_vector, modified_feature}
 use Rattle.update_apply.specs.Fault.{is_feature, inserts, deletes}
-use Rattle.update_sequence.specs.Built.{begun, built, folded}
+use Rattle.update_sequence.specs.Built.{begun, built}
 use Rattle.update_sequence.proofs.Charts.{folded-keeps, built-ok}
 use Rattle.update_sequence.proofs.OneName.{same_name}
 

@@ -1,11 +1,11 @@
 -- The tests of lists of files say whether they are sound.
-use Rattle.std.proofs.Common.{◌≡◌, ◌≢◌, ◌≤◌, ℕ, Bool, true, false, not, ◌&&◌, ◌||◌, leb, List, [], ◌∷◌, ◌++◌, length}
-use Rattle.std.proofs.Common.{Result, Ok, Err, refl, sym, ◌∙◌, ap, subst, arith, inl, inr}
-use Rattle.std.proofs.lemmas.Bool.{true≢false, and_parts, and_from, or_cases, not-true}
+use Rattle.std.proofs.Common.{◌≡◌, ◌≤◌, ℕ, Bool, true, false, ◌&&◌, ◌||◌, leb, List, [], ◌∷◌, ◌++◌, length}
+use Rattle.std.proofs.Common.{Result, Ok, Err, refl, sym, ◌∙◌, ap, subst, arith}
+use Rattle.std.proofs.lemmas.Bool.{true≢false, and_parts, and_from, not-true}
 use Rattle.std.proofs.lemmas.Bool.Decides.{nat_tests}
 use Rattle.std.proofs.lemmas.List.{append_assoc, append-nil}
 use Rattle.std.specs.Cmp.{tied_itself}
-use Rattle.std.specs.Result.{IsOk, is_ok}
+use Rattle.std.specs.Result.{is_ok}
 use Rattle.std.specs.declared.cmp.Ordering.{Ordering}
 use Rattle.std.specs.declared.cmp.Ordering.TheVariants.{Less, Equal, Greater}
 use Rattle.std.specs.Ordering.{is_eq, eq_by_cmp}
@@ -15,9 +15,8 @@ use Rattle.chart_model.specs.State.{IsFileLength}
 use Rattle.chart_model.proofs.Keys.{key_cmp-total, key_cmp-IsAntisymmetric}
 use Rattle.update_sequence.specs.Reading.{data_set_in}
 use Rattle.update_sequence.specs.Judged.{judged}
-use Rattle.update_sequence.specs.Built.{built}
-use Rattle.update_sequence.specs.Rebuilt.{held_by, rebuilt}
-use Rattle.update_sequence.specs.Sound.{Follows, IsSoundList, is_in_order, is_next, is_next_read, may_follow, may_all_follow}
+use Rattle.update_sequence.specs.Rebuilt.{held_by}
+use Rattle.update_sequence.specs.Sound.{Follows, IsSoundList, is_in_order, is_next_read, may_follow, may_all_follow}
 use Rattle.update_sequence.specs.Sound.{is_sound}
 use Rattle.update_sequence.specs.declared.fault.ReadFault.{ReadFault}
 use Rattle.update_sequence.proofs.Lists.{cons_is, no_item}

@@ -27,7 +27,8 @@ keeps_coords (Some control) = not (control.instruction == DELETE)
 abbrev pub is_local : Change → Bool
 is_local change =
     inserts change
-    || (modifies change && (is_feature change.target || (is_none change.pointer_edit && keeps_coords change.coord_edit)))
+    || (modifies change
+    && (is_feature change.target || (is_none change.pointer_edit && keeps_coords change.coord_edit)))
 
 abbrev pub are_local : List Change → Bool
 are_local changes = list_all is_local changes

@@ -24,6 +24,6 @@ returns-in-Replace g c =
     } in
     let effect : judged None dataset ≡ Ok Replace = sym c.in_ok-effect.ensures ∙ ap Ok c.in-Replace.is in
     let made : built None dataset ≡ Ok c.in_ok-cell.cell = c.in_ok-cell.ensures in
-    let files : c.push.new.self ≡ bytes ∷ [] = c.in_ok-push.ensures.ok ∙ (λ i. c.new-files.ensures i ++ c.from_vec.ensures i ∷ []) in
+    let files : c.push.new.self ≡ bytes ∷ [] = c.in_ok-push.ensures.ok ∙ (λ i. c.new-files.ensures i ++ (c.in_ok-of.ensures ∙ c.from_vec.ensures) i ∷ []) in
     leaves-as c.args.key (bytes ∷ []) _ _ _ _ _ (c.accepted_files_follow.ensures.replaces c.args.key bytes dataset None is effect (ap is_ok made)) files
-    (ap Some (c.numbers_of.ensures ∙ ap (λ (seen : DatasetValue). numbers_of seen.header) c.dataset.view_is)) (sym (ap result_ok made))
+    (ap Some (c.numbers_of.ensures ∙ ap (λ (seen : DatasetValue). numbers_of seen.header) c.dataset-2.view_is)) (sym (ap result_ok made))

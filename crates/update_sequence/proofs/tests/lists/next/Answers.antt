@@ -30,9 +30,9 @@ returns-in-Extend g c =
     let effect : judged (held_by before) dataset ≡ Ok Extend = ap (λ (held : Option Held). judged held dataset) c.requires.numbers ∙ answer ∙ ap Ok c.in-Extend.is in
     let made : built (rebuilt before) dataset ≡ Ok c.in_ok-cell-in-Extend.cell =
     ap (λ (chart : Option CellValue). built chart dataset) (c.requires.builds ∙ sym c.as_ref.ensures.value) ∙ c.in_ok-cell-in-Extend.ensures in
-    let files : c.push.new.self ≡ before ++ bytes ∷ [] = c.in_ok-push.ensures.ok ∙ (λ i. before ++ c.from_vec.ensures i ∷ []) in
+    let files : c.push.new.self ≡ before ++ bytes ∷ [] = c.in_ok-push.ensures.ok ∙ (λ i. before ++ (c.in_ok-of.ensures ∙ c.from_vec.ensures) i ∷ []) in
     leaves-as c.args.key (before ++ bytes ∷ []) _ _ _ _ _ (c.accepted_files_follow.ensures.extends c.args.key before bytes dataset c.requires.sound is effect (ap is_ok made)) files
-    (ap Some (c.numbers_of.ensures ∙ ap (λ (seen : DatasetValue). numbers_of seen.header) c.dataset.view_is)) (sym (ap result_ok made))
+    (ap Some (c.numbers_of.ensures ∙ ap (λ (seen : DatasetValue). numbers_of seen.header) c.dataset-in-Extend.view_is)) (sym (ap result_ok made))
 
 pub returns-in-Cancel : goal.returns-in-Cancel
 returns-in-Cancel g c =
@@ -48,6 +48,6 @@ returns-in-Cancel g c =
     } in
     let answer : judged (Some c.args.taken.held) dataset ≡ Ok c.in_ok-effect.effect = sym c.in_ok-effect.ensures in
     let effect : judged (held_by before) dataset ≡ Ok Cancel = ap (λ (held : Option Held). judged held dataset) c.requires.numbers ∙ answer ∙ ap Ok c.in-Cancel.is in
-    let files : c.push.new.self ≡ before ++ bytes ∷ [] = c.in_ok-push.ensures.ok ∙ (λ i. before ++ c.from_vec.ensures i ∷ []) in
+    let files : c.push.new.self ≡ before ++ bytes ∷ [] = c.in_ok-push.ensures.ok ∙ (λ i. before ++ (c.in_ok-of.ensures ∙ c.from_vec.ensures) i ∷ []) in
     leaves-as c.args.key (before ++ bytes ∷ []) _ _ _ _ _ (c.accepted_files_follow.ensures.cancels c.args.key before bytes dataset c.requires.sound is effect) files
     (sym (ap (option_map cancelled) c.requires.numbers)) refl
