@@ -8,6 +8,8 @@ mod framing;
 mod laws;
 mod opening;
 mod reading;
+#[cfg(test)]
+mod tests;
 mod whole;
 
 pub use bank::Bank;

@@ -1,6 +1,7 @@
 //! What the forms in memory answer, call by call, and what the adapters do with the real thing.
 
 mod adapters;
+mod calls;
 mod disk;
 mod folder_desk;
 mod memory;

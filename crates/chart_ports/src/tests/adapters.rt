@@ -1,4 +1,5 @@
-use crate::{Failed, Fetched, FolderShelf, Shelf, ShelfError, Source, StdSource};
+use super::calls::{gives, pulls};
+use crate::{Failed, FolderShelf, StdSource};
 use std::io::{ErrorKind, Read};
 use std::test::Fail;
 use std::{fs, io};
@@ -30,7 +31,7 @@ impl Read for Interrupted {
 #[test]
 fn standard_input_ends(rt: HostRuntime) -> Result<(), Fail> {
     let mut source = StdSource::new(&rt);
-    assert_eq!(rt; source.pull(&mut [0; 4]), Ok(0));
+    assert!(rt; pulls(&mut source, 4, Ok(0), b""));
     assert_eq!(rt; source.is_at_end(), true);
     assert_eq!(rt; source.given(), 0);
     Ok(())
@@ -39,16 +40,15 @@ fn standard_input_ends(rt: HostRuntime) -> Result<(), Fail> {
 #[test]
 fn a_failing_reader_is_counted(rt: HostRuntime) -> Result<(), Fail> {
     let mut source = StdSource::over(Interrupted { reads: 0 });
-    let pulls: [(Result<usize, Failed>, u64, bool, u64); 3] = [
-        (Ok(1), 1, false, 0),
-        (Err(Failed), 1, false, 1),
-        (Ok(0), 1, true, 1),
+    // Of each pull: what it answers, what it moves, and the three numbers after it.
+    let rows: [(Result<usize, Failed>, &[u8], (u64, bool, u64)); 3] = [
+        (Ok(1), b"x", (1, false, 0)),
+        (Err(Failed), b"", (1, false, 1)),
+        (Ok(0), b"", (1, true, 1)),
     ];
-    for (answer, given, is_at_end, faults) in pulls {
-        assert_eq!(rt; source.pull(&mut [0; 4]), answer);
-        assert_eq!(rt; source.given(), given);
-        assert_eq!(rt; source.is_at_end(), is_at_end);
-        assert_eq!(rt; source.faults(), faults);
+    for (answer, moved, numbers) in rows {
+        assert!(rt; pulls(&mut source, 4, answer, moved));
+        assert!(rt; (source.given(), source.is_at_end(), source.faults()) == numbers);
     }
     Ok(())
 }
@@ -76,14 +76,10 @@ fn a_folder_gives_its_files(rt: HostRuntime) -> Result<(), Fail> {
         ("a_file\0of_this_test", 9, "Failed"),
     ];
     for (name, limit, answer) in calls {
-        let fetched = shelf.fetch(alloc, name, limit);
-        match &fetched {
-            Ok(Fetched::Bytes(bytes)) => assert_eq!(rt; bytes.as_slice(), answer.as_bytes()),
-            Ok(Fetched::Absent) => assert_eq!(rt; answer, "Absent"),
-            Ok(Fetched::Long) => assert_eq!(rt; answer, "Long"),
-            Err(ShelfError::Failed) => assert_eq!(rt; answer, "Failed"),
-            Err(ShelfError::NoMemory) => assert_eq!(rt; answer, "NoMemory"),
-        }
+        assert!(rt;
+            gives(alloc, &mut shelf, name, limit, answer),
+            "{name} {limit}"
+        );
     }
     assert_eq!(rt; shelf.faults(), 3);
     fs::remove_file(&rt, name)?;
@@ -98,14 +94,9 @@ fn a_name_may_have_255_bytes(rt: HostRuntime) -> Result<(), Fail> {
     for _ in 0..255 {
         name.push('n')?;
     }
-    assert!(rt; matches!(shelf.fetch(alloc, name.as_str(), 9), Ok(Fetched::Absent)));
+    assert!(rt; gives(alloc, &mut shelf, name.as_str(), 9, "Absent"));
     name.push('n')?;
-    assert!(rt;
-        matches!(
-            shelf.fetch(alloc, name.as_str(), 9),
-            Err(ShelfError::Failed)
-        )
-    );
+    assert!(rt; gives(alloc, &mut shelf, name.as_str(), 9, "Failed"));
     assert_eq!(rt; shelf.faults(), 1);
     Ok(())
 }

@@ -1,23 +1,11 @@
+//! What a desk in memory keeps, what a crash leaves of it, and what a call does that fails.
+
+use super::calls::{Call, is_answered, reads, try_all};
 use super::memory::failing;
 use crate::{Desk, Failed, FailingCalls, FileBytes, Fill, Images, MemoryDesk};
 use std::alloc::{AllocError, Global};
+use std::process::Abort;
 use std::test::Fail;
-
-/// What a call on bank 1 is: a write at a place, a cut to a length, or a sync.
-#[derive(Clone, Copy, Debug)]
-enum Call {
-    Write(u64, &'static [u8]),
-    Cut(u64),
-    Sync,
-}
-
-fn make(desk: &mut MemoryDesk, call: Call) -> Result<(), Failed> {
-    match call {
-        Call::Write(at, bytes) => desk.write_at(1, at, bytes),
-        Call::Cut(length) => desk.cut(1, length),
-        Call::Sync => desk.sync(1),
-    }
-}
 
 fn images(alloc: Global, bank1: &[u8]) -> Result<Images, AllocError> {
     Ok(Images {
@@ -32,40 +20,62 @@ fn opened(alloc: Global, bank1: &[u8], numbers: &[u64]) -> Result<MemoryDesk, Al
     MemoryDesk::open(alloc, failing(alloc, numbers)?, images(alloc, bank1)?)
 }
 
+/// Writes, cuts and syncs of bank 1.
 const CALLS: [Call; 6] = [
-    Call::Write(2, b"CDE"),
-    Call::Sync,
-    Call::Write(5, b"FG"),
-    Call::Cut(1),
-    Call::Write(1, b"xyz"),
-    Call::Sync,
+    Call::Write(1, 2, "CDE", Ok(())),
+    Call::Sync(1, Ok(())),
+    Call::Write(1, 5, "FG", Ok(())),
+    Call::Cut(1, 1, Ok(())),
+    Call::Write(1, 1, "xyz", Ok(())),
+    Call::Sync(1, Ok(())),
 ];
 
+/// Whether a crash after so many calls leaves these bytes of bank 1, and the other files as they were.
+fn leaves(
+    alloc: Global,
+    desk: &MemoryDesk,
+    calls: u64,
+    fill: Fill,
+    bank1: &[u8],
+) -> Result<bool, AllocError> {
+    let left = desk.image_after(alloc, calls, fill)?;
+    let others = left.head.as_slice() == b"".as_slice()
+        && left.bank2.as_slice() == b"other".as_slice();
+    Ok(others && left.bank1.as_slice() == bank1)
+}
+
 /// After so many of the calls above on `abc`: bank 1 with old bytes, with new bytes, and with ones.
-const FILLED: [(u64, &[u8], &[u8], &[u8]); 7] = [
-    (0, b"abc", b"abc", b"abc"),
-    (1, b"abc\0\0", b"abCDE", b"ab\xff\xff\xff"),
-    (2, b"abCDE", b"abCDE", b"abCDE"),
-    (3, b"abCDE\0\0", b"abCDEFG", b"abCDE\xff\xff"),
-    (4, b"a", b"a", b"a"),
-    (5, b"abCD", b"axyz", b"a\xff\xff\xff"),
-    (9, b"axyz", b"axyz", b"axyz"),
+const FILLED: [(u64, [&[u8]; 3]); 7] = [
+    (0, [b"abc", b"abc", b"abc"]),
+    (1, [b"abc\0\0", b"abCDE", b"ab\xff\xff\xff"]),
+    (2, [b"abCDE", b"abCDE", b"abCDE"]),
+    (3, [b"abCDE\0\0", b"abCDEFG", b"abCDE\xff\xff"]),
+    (4, [b"a", b"a", b"a"]),
+    (5, [b"abCD", b"axyz", b"a\xff\xff\xff"]),
+    (9, [b"axyz", b"axyz", b"axyz"]),
 ];
+
+// Whether it leaves these bytes of bank 1, with old bytes, with new bytes, and with ones.
+fn leaves_each(
+    alloc: Global,
+    desk: &MemoryDesk,
+    calls: u64,
+    filled: [&[u8]; 3],
+) -> Result<bool, AllocError> {
+    let [old, new, ones] = filled;
+    let by_old = leaves(alloc, desk, calls, Fill::Old, old)?;
+    let by_new = leaves(alloc, desk, calls, Fill::New, new)?;
+    let by_ones = leaves(alloc, desk, calls, Fill::Ones, ones)?;
+    Ok(by_old && by_new && by_ones)
+}
 
 #[test]
 fn a_crash_leaves_what_is_not_synced(rt: HostRuntime) -> Result<(), Fail> {
     let alloc = rt.alloc();
     let mut desk = opened(alloc, b"abc", &[])?;
-    for each in CALLS {
-        assert_eq!(rt; make(&mut desk, each), Ok(()));
-    }
-    for (calls, old, new, ones) in FILLED {
-        for (fill, bytes) in [(Fill::Old, old), (Fill::New, new), (Fill::Ones, ones)] {
-            let left = desk.image_after(alloc, calls, fill)?;
-            assert_eq!(rt; left.bank1.as_slice(), bytes);
-            assert_eq!(rt; left.head.as_slice(), b"".as_slice());
-            assert_eq!(rt; left.bank2.as_slice(), b"other".as_slice());
-        }
+    try_all(&rt, &mut desk, &CALLS);
+    for (calls, filled) in FILLED {
+        assert!(rt; leaves_each(alloc, &desk, calls, filled)?, "after {calls}");
     }
     Ok(())
 }
@@ -79,57 +89,61 @@ const TORN: [(u64, &[u8], &[u8]); 4] = [
     (4, b"abCDEFG", b"a\xff\xff\xff\xff\xff\xff"),
 ];
 
+// Makes the calls above up to the one of this number, counted from 1, which alone fails.
+fn fails_at<D: Desk>(test: &impl Abort, desk: &mut D, number: usize) {
+    for (before, call) in CALLS.iter().enumerate() {
+        if before == number {
+            break;
+        }
+        let is_done = is_answered(desk, call);
+        assert!(test; is_done == (before + 1 < number), "call {before}");
+    }
+}
+
 #[test]
 fn a_call_that_fails_is_torn(rt: HostRuntime) -> Result<(), Fail> {
     let alloc = rt.alloc();
     for (number, read, ones) in TORN {
         let mut desk = opened(alloc, b"abc", &[number])?;
-        for (each, at) in CALLS.into_iter().zip(1..=number) {
-            let answer = if at == number { Err(Failed) } else { Ok(()) };
-            assert_eq!(rt; make(&mut desk, each), answer);
-        }
+        fails_at(&rt, &mut desk, number as usize);
         assert_eq!(rt; desk.faults(), 1);
-        let mut buf = [0; 9];
-        let count = desk.read_at(1, 0, &mut buf);
-        assert_eq!(rt; count, Ok(read.len()));
-        assert!(rt; buf.starts_with(read));
-        let left = desk.image_after(alloc, number, Fill::Ones)?;
-        assert_eq!(rt; left.bank1.as_slice(), ones);
+        assert!(rt; reads(&mut desk, 1, 0, 8, read), "call {number}");
+        assert!(rt;
+            leaves(alloc, &desk, number, Fill::Ones, ones)?,
+            "call {number}"
+        );
     }
     Ok(())
 }
 
 #[test]
 fn a_read_ends_where_the_file_ends(rt: HostRuntime) -> Result<(), Fail> {
-    let alloc = rt.alloc();
-    let mut desk = opened(alloc, b"abc", &[])?;
-    assert_eq!(rt; desk.length(1), Ok(3));
-    let reads: [(u64, usize, &[u8]); 4] = [
-        (0, 2, b"ab--"),
-        (1, 2, b"bc--"),
-        (3, 0, b"----"),
-        (u64::MAX, 0, b"----"),
+    let mut desk = opened(rt.alloc(), b"abc", &[])?;
+    const READS: [Call; 5] = [
+        Call::Length(1, Ok(3)),
+        Call::Read(1, 0, 2, Ok("ab")),
+        Call::Read(1, 1, 2, Ok("bc")),
+        Call::Read(1, 3, 2, Ok("")),
+        Call::Read(1, u64::MAX, 2, Ok("")),
     ];
-    for (at, count, left) in reads {
-        let mut buf = *b"----";
-        assert_eq!(rt; desk.read_at(1, at, &mut buf[..2]), Ok(count));
-        assert_eq!(rt; buf.as_slice(), left);
-    }
+    try_all(&rt, &mut desk, &READS);
     Ok(())
 }
 
 #[test]
 fn a_call_outside_the_files_is_a_fault(rt: HostRuntime) -> Result<(), Fail> {
-    let alloc = rt.alloc();
-    let mut desk = opened(alloc, b"abc", &[])?;
-    assert_eq!(rt; desk.length(3), Err(Failed));
-    assert_eq!(rt; desk.read_at(3, 0, &mut [0]), Err(Failed));
-    assert_eq!(rt; desk.write_at(3, 0, b"x"), Err(Failed));
-    assert_eq!(rt; desk.write_at(1, 4, b"x"), Err(Failed));
-    assert_eq!(rt; desk.cut(1, 4), Err(Failed));
-    assert_eq!(rt; desk.sync(3), Err(Failed));
+    let mut desk = opened(rt.alloc(), b"abc", &[])?;
+    const OUTSIDE: [Call; 7] = [
+        Call::Length(3, Err(Failed)),
+        Call::Read(3, 0, 1, Err(Failed)),
+        Call::Write(3, 0, "x", Err(Failed)),
+        Call::Write(1, 4, "x", Err(Failed)),
+        Call::Cut(1, 4, Err(Failed)),
+        Call::Sync(3, Err(Failed)),
+        Call::Length(1, Ok(3)),
+    ];
+    try_all(&rt, &mut desk, &OUTSIDE);
     assert_eq!(rt; desk.faults(), 6);
-    assert_eq!(rt; desk.length(1), Ok(3));
     Ok(())
 }
 
@@ -138,10 +152,14 @@ fn room_is_taken_ahead_and_as_it_goes(rt: HostRuntime) -> Result<(), Fail> {
     let alloc = rt.alloc();
     let mut desk = MemoryDesk::new(alloc, FailingCalls::none(alloc));
     desk.reserve(alloc, 2, 8)?;
-    for at in 0..4 {
-        assert_eq!(rt; desk.write_at(2, 4 * at, b"room"), Ok(()));
-    }
-    assert_eq!(rt; desk.length(2), Ok(16));
+    const WRITES: [Call; 5] = [
+        Call::Write(2, 0, "room", Ok(())),
+        Call::Write(2, 4, "room", Ok(())),
+        Call::Write(2, 8, "room", Ok(())),
+        Call::Write(2, 12, "room", Ok(())),
+        Call::Length(2, Ok(16)),
+    ];
+    try_all(&rt, &mut desk, &WRITES);
     assert!(rt; desk.reserve(alloc, u64::MAX, 1).is_err());
     assert_eq!(rt; desk.faults(), 0);
     Ok(())

@@ -1,5 +1,6 @@
 //! What the desk of a folder does with real files. The parts share a folder, so they are one test.
 
+use crate::tests::calls::{Call, try_all};
 use crate::tests::slow::{Pace, Slow};
 use crate::{Desk, Failed, FolderDesk};
 use std::cell::Cell;
@@ -9,68 +10,41 @@ use std::test::Fail;
 
 const FOLDER: &str = "chart-store";
 
-/// A call on a file of a number, and what it has to answer.
-#[derive(Clone, Copy)]
-enum Call {
-    Length(u8, Result<u64, Failed>),
-    /// From a place on, into a buffer of so many bytes, at most eight.
-    Read(u8, u64, usize, Result<&'static str, Failed>),
-    Write(u8, u64, &'static str, Result<(), Failed>),
-    Cut(u8, u64, Result<(), Failed>),
-    Sync(u8, Result<(), Failed>),
+fn write_text(rt: &HostRuntime, path: &str, text: &str) -> Result<(), Fail> {
+    fs::write(rt, path, text)?;
+    Ok(())
 }
 
-fn reads<D: Desk>(desk: &mut D, file: u8, at: u64, room: usize, wanted: &[u8]) -> bool {
-    let mut buf = [b'.'; 8];
-    match desk.read_at(file, at, &mut buf[..room.min(8)]) {
-        Ok(count) if count <= 8 => &buf[..count] == wanted,
-        _ => false,
-    }
+fn has_text(rt: &HostRuntime, path: &str, text: &str) -> Result<bool, Fail> {
+    Ok(fs::read_to_string(rt, path)?.as_str() == text)
 }
 
-fn is_answered<D: Desk>(desk: &mut D, call: &Call) -> bool {
-    match call {
-        Call::Length(file, wanted) => desk.length(*file) == *wanted,
-        Call::Read(file, at, room, Ok(wanted)) => {
-            reads(desk, *file, *at, *room, wanted.as_bytes())
-        }
-        Call::Read(file, at, _, Err(_)) => desk.read_at(*file, *at, &mut [0; 8]).is_err(),
-        Call::Write(file, at, text, wanted) => {
-            desk.write_at(*file, *at, text.as_bytes()) == *wanted
-        }
-        Call::Cut(file, length, wanted) => desk.cut(*file, *length) == *wanted,
-        Call::Sync(file, wanted) => desk.sync(*file) == *wanted,
-    }
+// What is said makes no folder.
+fn says_first<D: Desk>(rt: &HostRuntime, test: &impl Abort, desk: &mut D) -> Result<(), Fail> {
+    try_all(test, desk, &[Call::Say("said\n", Ok(()))]);
+    assert!(test; !fs::exists(rt, FOLDER)?);
+    Ok(())
 }
 
-fn try_all<D: Desk>(test: &impl Abort, desk: &mut D, calls: &[Call]) {
-    for (number, call) in calls.iter().enumerate() {
-        assert!(test; is_answered(desk, call), "call {number}");
-    }
-}
+const WRITTEN: [Call; 11] = [
+    Call::Length(0, Ok(0)),
+    Call::Write(0, 0, "head", Ok(())),
+    Call::Write(1, 0, "the first bank", Ok(())),
+    Call::Write(2, 0, "bank", Ok(())),
+    Call::Write(2, 2, "nk 2", Ok(())),
+    Call::Write(2, 6, "", Ok(())),
+    Call::Cut(1, 9, Ok(())),
+    Call::Write(3, 0, "no file", Err(Failed)),
+    Call::Sync(0, Ok(())),
+    Call::Sync(1, Ok(())),
+    Call::Sync(2, Ok(())),
+];
 
 /// What is written stands at its place in its file, also for a desk that comes later.
 fn keeps_what_is_written(rt: &HostRuntime, test: &impl Abort) -> Result<(), Fail> {
     let mut desk = FolderDesk::new(rt);
-    assert_eq!(test; desk.say(b"said\n"), Ok(()));
-    assert!(test; !fs::exists(rt, FOLDER)?);
-    try_all(
-        test,
-        &mut desk,
-        &[
-            Call::Length(0, Ok(0)),
-            Call::Write(0, 0, "head", Ok(())),
-            Call::Write(1, 0, "the first bank", Ok(())),
-            Call::Write(2, 0, "bank", Ok(())),
-            Call::Write(2, 2, "nk 2", Ok(())),
-            Call::Write(2, 6, "", Ok(())),
-            Call::Cut(1, 9, Ok(())),
-            Call::Write(3, 0, "no file", Err(Failed)),
-            Call::Sync(0, Ok(())),
-            Call::Sync(1, Ok(())),
-            Call::Sync(2, Ok(())),
-        ],
-    );
+    says_first(rt, test, &mut desk)?;
+    try_all(test, &mut desk, &WRITTEN);
     assert_eq!(test; desk.faults(), 1);
     let files = [
         ("chart-store/head", "head"),
@@ -78,60 +52,85 @@ fn keeps_what_is_written(rt: &HostRuntime, test: &impl Abort) -> Result<(), Fail
         ("chart-store/bank2", "bank 2"),
     ];
     for (path, text) in files {
-        assert_eq!(test; fs::read_to_string(rt, path)?.as_str(), text);
+        assert!(test; has_text(rt, path, text)?, "{path}");
     }
     Ok(())
 }
 
+const KEPT: [Call; 11] = [
+    Call::Length(0, Ok(4)),
+    Call::Length(1, Ok(9)),
+    Call::Length(2, Ok(6)),
+    Call::Length(3, Err(Failed)),
+    Call::Read(1, 4, 3, Ok("fir")),
+    Call::Read(1, 4, 8, Ok("first")),
+    Call::Read(1, 9, 8, Ok("")),
+    Call::Read(1, 90, 8, Ok("")),
+    Call::Read(2, 0, 0, Ok("")),
+    Call::Read(2, 1 << 63, 8, Err(Failed)),
+    Call::Read(3, 0, 8, Err(Failed)),
+];
+
 fn reads_what_is_kept(rt: &HostRuntime, test: &impl Abort) {
     let mut desk = FolderDesk::new(rt);
-    try_all(
-        test,
-        &mut desk,
-        &[
-            Call::Length(0, Ok(4)),
-            Call::Length(1, Ok(9)),
-            Call::Length(2, Ok(6)),
-            Call::Length(3, Err(Failed)),
-            Call::Read(1, 4, 3, Ok("fir")),
-            Call::Read(1, 4, 8, Ok("first")),
-            Call::Read(1, 9, 8, Ok("")),
-            Call::Read(1, 90, 8, Ok("")),
-            Call::Read(2, 0, 0, Ok("")),
-            Call::Read(2, 1 << 63, 8, Err(Failed)),
-            Call::Read(3, 0, 8, Err(Failed)),
-        ],
-    );
+    try_all(test, &mut desk, &KEPT);
     assert_eq!(test; desk.faults(), 3);
 }
 
-/// The folder can't be made, and one of the files can't be opened.
-fn counts_what_is_in_the_way(rt: &HostRuntime, test: &impl Abort) -> Result<(), Fail> {
-    let mut desk = FolderDesk::new(rt);
-    fs::write(rt, FOLDER, "a file")?;
-    assert_eq!(test; desk.length(0), Err(Failed));
+// The folder can't be made, and is there then.
+fn makes_no_folder<D: Desk>(rt: &HostRuntime, test: &impl Abort, desk: &mut D) -> Result<(), Fail> {
+    write_text(rt, FOLDER, "a file")?;
+    try_all(test, desk, &[Call::Length(0, Err(Failed))]);
     fs::remove_file(rt, FOLDER)?;
     fs::create_dir(rt, FOLDER)?;
+    Ok(())
+}
+
+// One of the files can't be opened, and then it can.
+fn opens_no_file<D: Desk>(rt: &HostRuntime, test: &impl Abort, desk: &mut D) -> Result<(), Fail> {
     fs::create_dir(rt, "chart-store/bank1")?;
-    assert_eq!(test; desk.length(1), Err(Failed));
+    try_all(test, desk, &[Call::Length(1, Err(Failed))]);
     fs::remove_dir(rt, "chart-store/bank1")?;
-    assert_eq!(test; desk.length(1), Ok(0));
+    try_all(test, desk, &[Call::Length(1, Ok(0))]);
+    Ok(())
+}
+
+fn counts_what_is_in_the_way(rt: &HostRuntime, test: &impl Abort) -> Result<(), Fail> {
+    let mut desk = FolderDesk::new(rt);
+    makes_no_folder(rt, test, &mut desk)?;
+    opens_no_file(rt, test, &mut desk)?;
     assert_eq!(test; desk.faults(), 2);
+    Ok(())
+}
+
+const FOUND: [Call; 2] = [Call::Write(1, 0, "x", Ok(())), Call::Sync(1, Ok(()))];
+
+const LOST: [Call; 2] = [Call::Write(1, 0, "x", Ok(())), Call::Sync(1, Err(Failed))];
+
+// A folder with such a file, which isn't the one that was opened.
+fn make_another_folder(rt: &HostRuntime) -> Result<(), Fail> {
+    fs::create_dir(rt, FOLDER)?;
+    write_text(rt, "chart-store/bank1", "x")
+}
+
+// The folder goes, and another takes its place.
+fn loses_its_folder<D: Desk>(
+    rt: &HostRuntime,
+    test: &impl Abort,
+    desk: &mut D,
+) -> Result<(), Fail> {
+    try_all(test, desk, &FOUND);
+    fs::remove_dir_all(rt, FOLDER)?;
+    try_all(test, desk, &LOST);
+    make_another_folder(rt)?;
+    try_all(test, desk, &LOST);
     Ok(())
 }
 
 /// After the folder went, a file that is open can still be written, but no name leads to it.
 fn counts_a_folder_that_went(rt: &HostRuntime, test: &impl Abort) -> Result<(), Fail> {
     let mut desk = FolderDesk::new(rt);
-    let written = [Call::Write(1, 0, "x", Ok(())), Call::Sync(1, Ok(()))];
-    let lost = [Call::Write(1, 0, "x", Ok(())), Call::Sync(1, Err(Failed))];
-    try_all(test, &mut desk, &written);
-    fs::remove_dir_all(rt, FOLDER)?;
-    try_all(test, &mut desk, &lost);
-    // Another folder with such a file takes its place.
-    fs::create_dir(rt, FOLDER)?;
-    fs::write(rt, "chart-store/bank1", "x")?;
-    try_all(test, &mut desk, &lost);
+    loses_its_folder(rt, test, &mut desk)?;
     assert_eq!(test; desk.faults(), 2);
     Ok(())
 }
@@ -145,46 +144,49 @@ fn slow<'a>(rt: &'a HostRuntime, syncs: &'a Cell<u8>, failing_sync: u8) -> Folde
     })
 }
 
+const PIECES_SAID: [Call; 2] = [
+    Call::Say("12345678", Ok(())),
+    Call::Say("123456", Err(Failed)),
+];
+
+const PIECES_WRITTEN: [Call; 5] = [
+    Call::Write(0, 0, "12345678", Ok(())),
+    Call::Write(0, 8, "123456", Err(Failed)),
+    Call::Write(1, 0, "12345678", Ok(())),
+    Call::Write(2, 0, "abc", Ok(())),
+    Call::Read(2, 0, 8, Ok("abc")),
+];
+
+const SYNCED: [Call; 2] = [Call::Sync(0, Ok(())), Call::Sync(0, Err(Failed))];
+
+// The folder and the one in which it stands are synced at the first call on a file.
+fn moves_pieces<D: Desk>(test: &impl Abort, desk: &mut D, syncs: &Cell<u8>) {
+    try_all(test, desk, &PIECES_SAID);
+    assert_eq!(test; syncs.get(), 0);
+    try_all(test, desk, &PIECES_WRITTEN);
+    assert_eq!(test; syncs.get(), 2);
+    try_all(test, desk, &SYNCED);
+    assert_eq!(test; syncs.get(), 4);
+}
+
 /// The bytes are moved in pieces of 3, 3 and 2 bytes; a write that takes nothing is a fault.
 fn goes_on_after_pieces(rt: &HostRuntime, test: &impl Abort) -> Result<(), Fail> {
     let syncs = Cell::new(0);
     let mut desk = slow(rt, &syncs, 4);
-    assert_eq!(test; desk.say(b"12345678"), Ok(()));
-    assert_eq!(test; desk.say(b"123456"), Err(Failed));
-    assert_eq!(test; syncs.get(), 0);
-    try_all(
-        test,
-        &mut desk,
-        &[
-            Call::Write(0, 0, "12345678", Ok(())),
-            Call::Write(0, 8, "123456", Err(Failed)),
-            Call::Write(1, 0, "12345678", Ok(())),
-            Call::Write(2, 0, "abc", Ok(())),
-            Call::Read(2, 0, 8, Ok("abc")),
-        ],
-    );
-    // The folder and the one in which it stands were synced at the first call on a file.
-    assert_eq!(test; syncs.get(), 2);
-    try_all(
-        test,
-        &mut desk,
-        &[Call::Sync(0, Ok(())), Call::Sync(0, Err(Failed))],
-    );
-    assert_eq!(test; (desk.faults(), syncs.get()), (3, 4));
-    assert_eq!(test;
-        fs::read_to_string(rt, "chart-store/head")?.as_str(),
-        "12345678123"
-    );
+    moves_pieces(test, &mut desk, &syncs);
+    assert_eq!(test; desk.faults(), 3);
+    assert!(test; has_text(rt, "chart-store/head", "12345678123")?);
     Ok(())
 }
+
+const ANEW: [Call; 2] = [Call::Length(0, Err(Failed)), Call::Length(0, Ok(11))];
 
 /// Where the sync of a folder fails, no file is open, and the next call begins anew.
 fn begins_anew(rt: &HostRuntime, test: &impl Abort) {
     for failing_sync in 1..3 {
         let syncs = Cell::new(0);
         let mut desk = slow(rt, &syncs, failing_sync);
-        assert_eq!(test; desk.length(0), Err(Failed));
-        assert_eq!(test; desk.length(0), Ok(11));
+        try_all(test, &mut desk, &ANEW);
         assert_eq!(test; (desk.faults(), syncs.get()), (1, failing_sync + 2));
     }
 }

@@ -1,6 +1,6 @@
+use super::calls::{Call, gives, is_answered, pulls};
 use crate::{
-    Calls, Desk, Failed, FailingCalls, Fetched, FileBytes, MemoryDesk, MemoryShelf, MemorySource,
-    Shelf, ShelfError, Source,
+    Calls, Failed, FailingCalls, FileBytes, MemoryDesk, MemoryShelf, MemorySource, ShelfError,
 };
 use std::alloc::{AllocError, Global};
 use std::test::Fail;
@@ -18,23 +18,19 @@ fn a_slow_source_gives_pieces_up_to_its_end(rt: HostRuntime) -> Result<(), Fail>
     let alloc = rt.alloc();
     let bytes = b"abcde".to_vec(alloc)?;
     let mut source = MemorySource::with_pace(bytes, failing(alloc, &[2, 7])?, 2);
-    // After each pull: what it answers, what it moved, and the three numbers.
-    let pulls: [(Result<usize, Failed>, &[u8], u64, bool, u64); 7] = [
-        (Ok(2), b"ab", 2, false, 0),
-        (Err(Failed), b"", 2, false, 1),
-        (Ok(2), b"cd", 4, false, 1),
-        (Ok(1), b"e", 5, false, 1),
-        (Ok(0), b"", 5, true, 1),
-        (Ok(0), b"", 5, true, 1),
-        (Err(Failed), b"", 5, false, 2),
+    // Of each pull: what it answers, what it moves, and the three numbers after it.
+    let rows: [(Result<usize, Failed>, &[u8], (u64, bool, u64)); 7] = [
+        (Ok(2), b"ab", (2, false, 0)),
+        (Err(Failed), b"", (2, false, 1)),
+        (Ok(2), b"cd", (4, false, 1)),
+        (Ok(1), b"e", (5, false, 1)),
+        (Ok(0), b"", (5, true, 1)),
+        (Ok(0), b"", (5, true, 1)),
+        (Err(Failed), b"", (5, false, 2)),
     ];
-    for (answer, moved, given, is_at_end, faults) in pulls {
-        let mut buf = *b"----";
-        assert_eq!(rt; source.pull(&mut buf), answer);
-        assert!(rt; buf.starts_with(moved) && buf.ends_with(b"--"));
-        assert_eq!(rt; source.given(), given);
-        assert_eq!(rt; source.is_at_end(), is_at_end);
-        assert_eq!(rt; source.faults(), faults);
+    for (answer, moved, numbers) in rows {
+        assert!(rt; pulls(&mut source, 4, answer, moved));
+        assert!(rt; (source.given(), source.is_at_end(), source.faults()) == numbers);
     }
     Ok(())
 }
@@ -43,26 +39,27 @@ fn a_slow_source_gives_pieces_up_to_its_end(rt: HostRuntime) -> Result<(), Fail>
 fn a_source_fills_the_buffer(rt: HostRuntime) -> Result<(), Fail> {
     let alloc = rt.alloc();
     let mut source = MemorySource::new(b"abcde".to_vec(alloc)?, FailingCalls::none(alloc));
-    let mut buf = *b"---";
-    assert_eq!(rt; source.pull(&mut buf), Ok(3));
-    assert_eq!(rt; buf, *b"abc");
-    assert_eq!(rt; source.pull(&mut []), Ok(0));
+    assert!(rt; pulls(&mut source, 3, Ok(3), b"abc"));
+    assert!(rt; pulls(&mut source, 0, Ok(0), b""));
     assert_eq!(rt; source.is_at_end(), false);
-    assert_eq!(rt; source.pull(&mut buf), Ok(2));
-    assert_eq!(rt; buf, *b"dec");
+    assert!(rt; pulls(&mut source, 3, Ok(2), b"de"));
     Ok(())
+}
+
+// A shelf with these files, whose fourth call fails.
+fn shelf_of(alloc: Global, files: &[(&str, &str)]) -> Result<MemoryShelf, AllocError> {
+    let mut shelf = MemoryShelf::new(alloc, failing(alloc, &[4])?);
+    for (name, text) in files {
+        let name = String::from_str(alloc, name)?;
+        shelf.insert(name, file(alloc, text.as_bytes())?)?;
+    }
+    Ok(shelf)
 }
 
 #[test]
 fn a_shelf_answers_by_name_and_size(rt: HostRuntime) -> Result<(), Fail> {
     let alloc = rt.alloc();
-    let mut shelf = MemoryShelf::new(alloc, failing(alloc, &[4])?);
-    for (name, bytes) in [("A", "old"), ("B", ""), ("A", "abcd")] {
-        shelf.insert(
-            String::from_str(alloc, name)?,
-            file(alloc, bytes.as_bytes())?,
-        )?;
-    }
+    let mut shelf = shelf_of(alloc, &[("A", "old"), ("B", ""), ("A", "abcd")])?;
     let calls: [(&str, u64, &str); 7] = [
         ("A", 5, "abcd"),
         ("A", 4, "abcd"),
@@ -73,14 +70,10 @@ fn a_shelf_answers_by_name_and_size(rt: HostRuntime) -> Result<(), Fail> {
         ("", 9, "Absent"),
     ];
     for (name, limit, answer) in calls {
-        let fetched = shelf.fetch(alloc, name, limit);
-        match &fetched {
-            Ok(Fetched::Bytes(bytes)) => assert_eq!(rt; bytes.as_slice(), answer.as_bytes()),
-            Ok(Fetched::Absent) => assert_eq!(rt; answer, "Absent"),
-            Ok(Fetched::Long) => assert_eq!(rt; answer, "Long"),
-            Err(ShelfError::Failed) => assert_eq!(rt; answer, "Failed"),
-            Err(ShelfError::NoMemory) => assert_eq!(rt; answer, "NoMemory"),
-        }
+        assert!(rt;
+            gives(alloc, &mut shelf, name, limit, answer),
+            "{name} {limit}"
+        );
     }
     assert_eq!(rt; shelf.faults(), 1);
     Ok(())
@@ -90,20 +83,27 @@ fn a_shelf_answers_by_name_and_size(rt: HostRuntime) -> Result<(), Fail> {
 fn a_desk_tears_what_it_fails_to_say(rt: HostRuntime) -> Result<(), Fail> {
     let alloc = rt.alloc();
     let mut desk = MemoryDesk::new(alloc, failing(alloc, &[2])?);
-    let calls: [(&[u8], Result<(), Failed>, &[u8]); 4] = [
-        (b"one\n", Ok(()), b"one\n"),
-        (b"three\n!", Err(Failed), b"one\nthr"),
-        (b"", Ok(()), b"one\nthr"),
-        (b"four\n", Ok(()), b"one\nthrfour\n"),
+    // Of each call: what was said after it.
+    let calls: [(Call, &str); 4] = [
+        (Call::Say("one\n", Ok(())), "one\n"),
+        (Call::Say("three\n!", Err(Failed)), "one\nthr"),
+        (Call::Say("", Ok(())), "one\nthr"),
+        (Call::Say("four\n", Ok(())), "one\nthrfour\n"),
     ];
-    for (bytes, answer, said) in calls {
-        assert_eq!(rt; desk.say(bytes), answer);
-        assert_eq!(rt; desk.said(), said);
+    for (call, said) in calls {
+        assert!(rt; is_answered(&mut desk, &call));
+        assert!(rt; desk.said() == said.as_bytes(), "{said}");
     }
     assert_eq!(rt; desk.faults(), 1);
-    let mut without_room = MemoryDesk::new(alloc, FailingCalls::none(alloc));
-    assert_eq!(rt; without_room.say(b"five"), Ok(()));
-    assert_eq!(rt; without_room.said(), b"five".as_slice());
+    Ok(())
+}
+
+#[test]
+fn a_desk_without_room_says_all(rt: HostRuntime) -> Result<(), Fail> {
+    let alloc = rt.alloc();
+    let mut desk = MemoryDesk::new(alloc, FailingCalls::none(alloc));
+    assert!(rt; is_answered(&mut desk, &Call::Say("five", Ok(()))));
+    assert!(rt; desk.said() == b"five".as_slice());
     Ok(())
 }
 
