@@ -25,8 +25,6 @@ mod rollback;
 mod store;
 mod submit_fault;
 mod taken;
-#[cfg(test)]
-mod tests;
 
 pub use accepted::Accepted;
 pub use fault::TakeFault;

@@ -1,5 +1,0 @@
--- the counter's ledger is that of its blank
-use Rattle.chart_store.proofs.tests.tell.Given as goal
-
-abbrev pub ghosts-tell_with : goal.ghosts-tell_with
-ghosts-tell_with a = record { name = a.blank.name; parts = a.blank.parts }

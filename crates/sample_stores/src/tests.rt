@@ -1,0 +1,6 @@
+mod bytes;
+mod commands;
+mod crashes;
+mod folder;
+mod foreign;
+mod script;

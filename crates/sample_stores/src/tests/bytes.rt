@@ -1,0 +1,76 @@
+//! The bytes of the bank, worked out by hand.
+
+use crate::files::{BASE, FIRST, GENERAL, Given, RECORDS, joined};
+use crate::stores::{failing_desk, tell};
+use chart_ports::Fill;
+use std::test::Fail;
+
+/// A bank without records: the layout, the checkpoint's length, and a closed gate.
+const EMPTY: &[u8] = &[0; 9];
+
+/// The layout and the checkpoint's length, and an open gate.
+const OPENED: &[u8] = b"\0\0\0\0\0\0\0\0\x01";
+
+/// What stands before the file of 500 + 74 + 193 bytes in its record: the length 768, and the byte of a load.
+const LOADS: &[u8] = b"\0\0\x03\0\x01";
+
+/// What stands behind the record: a closed gate; the record of the drop behind it, and behind an open gate.
+const CLOSED: &[u8] = b"\0";
+
+const WRITTEN: &[u8] = b"\0\0\0\0\x09\x03AA5TEST1\0";
+
+const DROPPED: &[u8] = b"\x01\0\0\0\x09\x03AA5TEST1\0";
+
+/// After so many calls, the bank.
+const BANKS: [(u64, &[&[u8]]); 7] = [
+    (7, &[EMPTY]),
+    (8, &[EMPTY]),
+    (9, &[EMPTY, LOADS, FIRST, GENERAL, RECORDS, CLOSED]),
+    (11, &[OPENED, LOADS, FIRST, GENERAL, RECORDS, CLOSED]),
+    (12, &[OPENED, LOADS, FIRST, GENERAL, RECORDS, CLOSED]),
+    (13, &[OPENED, LOADS, FIRST, GENERAL, RECORDS, WRITTEN]),
+    (16, &[OPENED, LOADS, FIRST, GENERAL, RECORDS, DROPPED]),
+];
+
+#[test]
+fn records_are_appended_byte_for_byte(rt: HostRuntime) -> Result<(), Fail> {
+    let alloc = rt.alloc();
+    let mut desk = failing_desk(alloc, 0)?;
+    let told = tell(alloc, &mut desk, &[BASE, Given::Drop])?;
+    let wanted = [
+        ("open", ""),
+        (
+            "AA5TEST1 1 over none: 1 0 false 100/1 110/1",
+            "AA5TEST1 1.0 1 1.0 1;",
+        ),
+        ("AA5TEST1 2 over a chart: 1 0 false 100/1 110/1", ""),
+    ];
+    assert_eq!(rt; told.len(), wanted.len());
+    for (told, (answer, held)) in told.iter().zip(wanted) {
+        assert_eq!(rt; told.answer.as_str(), answer);
+        assert_eq!(rt; told.held.as_str(), held);
+    }
+    for (calls, pieces) in BANKS {
+        let left = desk.image_after(alloc, calls, Fill::New)?;
+        let bank = joined(alloc, pieces)?;
+        assert!(rt;
+            left.bank1.as_slice() == bank.as_slice(),
+            "after {calls} calls"
+        );
+    }
+    Ok(())
+}
+
+#[test]
+fn a_bank_grows_by_a_record(rt: HostRuntime) -> Result<(), Fail> {
+    let alloc = rt.alloc();
+    let mut desk = failing_desk(alloc, 0)?;
+    let _ = tell(alloc, &mut desk, &[BASE, Given::Drop])?;
+    // The file has 767 bytes: 15 more with what stands around it, and 14 of the drop.
+    for (calls, length) in [(6, 0), (8, 9), (12, 782), (16, 796)] {
+        let left = desk.image_after(alloc, calls, Fill::Old)?;
+        assert_eq!(rt; left.bank1.as_slice().len(), length);
+        assert!(rt; left.head.as_slice().is_empty() && left.bank2.as_slice().is_empty());
+    }
+    Ok(())
+}

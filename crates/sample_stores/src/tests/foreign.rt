@@ -1,0 +1,116 @@
+//! Files that are no store's, with the place of their first fault worked out by hand.
+
+use crate::files::{FIRST, GENERAL, MOVED, RECORDS, UPDATE, joined};
+use crate::stores::{images, opened};
+use std::test::Fail;
+
+/// The layout, and the length of a checkpoint without bytes and of one of one byte.
+const HEAD: &[u8] = b"\0\0\0\0\0\0\0\0";
+
+const CHECKPOINT: &[u8] = b"\0\0\0\0\0\0\0\x01c";
+
+/// A closed gate.
+const CLOSED: &[u8] = b"\0";
+
+/// An open gate, the length of a load of 500 + 74 + 193 bytes, and its first byte: the record has 773 bytes. The same of
+/// one of 500 + 63 + 76 bytes: it has 645.
+const BASE: &[u8] = b"\x01\0\0\x03\0\x01";
+
+const LATER: &[u8] = b"\x01\0\0\x02\x80\x01";
+
+/// A record of a drop, of 14 bytes.
+const DROP: &[u8] = b"\x01\0\0\0\x09\x03AA5TEST1";
+
+/// Records of 6 and 5 bytes that spell nothing.
+const UNKNOWN: &[u8] = b"\x01\0\0\0\x01\x04";
+
+const SILENT: &[u8] = b"\x01\0\0\0\0";
+
+/// The head, the bank, and what an opening answers.
+const FILES: [(&[u8], &[&[u8]], &str); 27] = [
+    // The head comes before the bank.
+    (b"\0", &[], "Foreign(0, 0)"),
+    (b"\0", &[b"\x01\0\0\0\0\0\0\0\0\0"], "Foreign(0, 0)"),
+    // Nine bytes are an empty bank, whatever they are, and of ten the first is the layout.
+    (b"", &[b"\x01\xff\xff\xff\xff\xff\xff\xff\x01"], ""),
+    (b"", &[HEAD, b"\0\x01"], ""),
+    (b"", &[b"\x01\0\0\0\0\0\0\0\0\0"], "Foreign(1, 0)"),
+    // A checkpoint of one byte is in ten bytes and its gate too; one of two is not.
+    (b"", &[CHECKPOINT, CLOSED], "Foreign(1, 8)"),
+    (b"", &[b"\0\0\0\0\0\0\0\x02c\0"], "Foreign(1, 0)"),
+    (b"", &[b"\0\0\0\0\0\0\0\x03c\0"], "Foreign(1, 0)"),
+    (
+        b"",
+        &[b"\0\xff\xff\xff\xff\xff\xff\xffc\0"],
+        "Foreign(1, 0)",
+    ),
+    // A record behind a checkpoint that is cut short comes before the checkpoint, and one that spells nothing after it.
+    (b"", &[CHECKPOINT, b"\x01\0"], "Foreign(1, 9)"),
+    (b"", &[CHECKPOINT, DROP], "Foreign(1, 9)"),
+    (b"", &[CHECKPOINT, UNKNOWN, CLOSED], "Foreign(1, 8)"),
+    // The length, the body or the gate behind it passes the end.
+    (b"", &[HEAD, b"\x01\0"], "Foreign(1, 8)"),
+    (b"", &[HEAD, b"\x01\xff\xff\xff\xff\0"], "Foreign(1, 8)"),
+    (b"", &[HEAD, b"\x01\0\0\0\x02\x04\0"], "Foreign(1, 8)"),
+    (b"", &[HEAD, DROP], "Foreign(1, 8)"),
+    (b"", &[HEAD, BASE, FIRST, GENERAL, RECORDS], "Foreign(1, 8)"),
+    (
+        b"",
+        &[HEAD, BASE, FIRST, GENERAL, RECORDS, DROP],
+        "Foreign(1, 781)",
+    ),
+    // A body spells nothing, or a record behind it is cut short, which comes first.
+    (b"", &[HEAD, SILENT, CLOSED], "Foreign(1, 8)"),
+    (b"", &[HEAD, UNKNOWN, DROP], "Foreign(1, 14)"),
+    (
+        b"",
+        &[
+            HEAD, BASE, FIRST, GENERAL, RECORDS, UNKNOWN, LATER, FIRST, UPDATE, MOVED, CLOSED,
+        ],
+        "Foreign(1, 781)",
+    ),
+    // A command is refused where it stands.
+    (b"", &[HEAD, DROP, CLOSED], "Foreign(1, 8)"),
+    (
+        b"",
+        &[HEAD, LATER, FIRST, UPDATE, MOVED, CLOSED],
+        "Foreign(1, 8)",
+    ),
+    (
+        b"",
+        &[HEAD, BASE, FIRST, GENERAL, RECORDS, DROP, DROP, CLOSED],
+        "Foreign(1, 795)",
+    ),
+    (
+        b"",
+        &[
+            HEAD, BASE, FIRST, GENERAL, RECORDS, LATER, FIRST, UPDATE, MOVED, BASE, FIRST, GENERAL,
+            RECORDS, CLOSED,
+        ],
+        "Foreign(1, 1426)",
+    ),
+    // These are a store's: a gate is closed where its lowest bit is 0, and what stands behind it is not looked at.
+    (
+        b"",
+        &[
+            HEAD, BASE, FIRST, GENERAL, RECORDS, LATER, FIRST, UPDATE, MOVED, CLOSED,
+        ],
+        "AA5TEST1 1.1 2 1.1 1;",
+    ),
+    (
+        b"",
+        &[HEAD, BASE, FIRST, GENERAL, RECORDS, b"\xfe\xff\xff", LATER],
+        "AA5TEST1 1.0 1 1.0 1;",
+    ),
+];
+
+#[test]
+fn the_first_fault_of_files_is_told(rt: HostRuntime) -> Result<(), Fail> {
+    let alloc = rt.alloc();
+    for (number, (head, bank, answer)) in FILES.into_iter().enumerate() {
+        let bank = joined(alloc, bank)?;
+        let told = opened(alloc, images(alloc, head, bank.as_slice())?)?;
+        assert_eq!(rt; told.as_str(), answer, "row {number}");
+    }
+    Ok(())
+}

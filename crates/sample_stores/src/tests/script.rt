@@ -1,0 +1,79 @@
+//! Ten commands, of which nine are accepted.
+
+use crate::files::{ADDED, BASE, CANCEL, EDITION, FIRST_UPDATE, Given, OTHER, RECORDS, SECOND};
+use crate::stores::{failing_desk, tell};
+use std::test::Fail;
+
+/// How many calls an opening of empty files makes: a sync of each of the three, the lengths of the head and the bank, a
+/// read of the bank, and a write and a sync of nine zeros.
+pub const OPENING: u64 = 8;
+
+/// How many calls an accepted command makes: a write and a sync of its record, and a write and a sync of the gate.
+pub const APPENDING: u64 = 4;
+
+/// How many calls the script makes on empty files.
+pub const CALLS: u64 = 44;
+
+pub const SCRIPT: [Given<'static>; 10] = [
+    BASE,
+    FIRST_UPDATE,
+    FIRST_UPDATE,
+    Given::Load(&[SECOND, ADDED]),
+    Given::Load(&[CANCEL]),
+    Given::Rollback(1),
+    Given::Load(&[EDITION, RECORDS]),
+    Given::Load(&[OTHER, RECORDS]),
+    Given::Drop,
+    BASE,
+];
+
+/// What each command is answered.
+const ANSWERS: [&str; 10] = [
+    "AA5TEST1 1 over none: 1 0 false 100/1 110/1",
+    "AA5TEST1 2 over a chart: 1 1 false 110/1",
+    "Gap { wanted: 2, given: 1 }",
+    "AA5TEST1 3 over a chart: 1 2 false 110/2",
+    "AA5TEST1 4 over a chart: 1 2 true 100/1 110/1 110/2",
+    "AA5TEST1 5 over none: 1 1 false 100/1 110/1",
+    "AA5TEST1 6 over a chart: 2 0 false 110/1",
+    "AA5TEST2 7 over none: 1 0 false 100/1 110/1",
+    "AA5TEST1 8 over a chart: 2 0 false 100/1 110/1",
+    "AA5TEST1 9 over none: 1 0 false 100/1 110/1",
+];
+
+/// What is held after so many accepted commands.
+pub const HELD: [&str; 10] = [
+    "",
+    "AA5TEST1 1.0 1 1.0 1;",
+    "AA5TEST1 1.1 2 1.1 1;",
+    "AA5TEST1 1.2 3 1.2 2;",
+    "AA5TEST1 1.2 4;",
+    "AA5TEST1 1.1 2 1.1 1;",
+    "AA5TEST1 2.0 1 2.0 1;",
+    "AA5TEST1 2.0 1 2.0 1;AA5TEST2 1.0 1 1.0 1;",
+    "AA5TEST2 1.0 1 1.0 1;",
+    "AA5TEST1 1.0 1 1.0 1;AA5TEST2 1.0 1 1.0 1;",
+];
+
+/// What is held after so many accepted commands, or after all.
+pub fn held_after(commands: u64) -> &'static str {
+    HELD.get(commands as usize).copied().unwrap_or("all")
+}
+
+#[test]
+fn a_script_is_answered(rt: HostRuntime) -> Result<(), Fail> {
+    let alloc = rt.alloc();
+    let mut desk = failing_desk(alloc, CALLS + 1)?;
+    let told = tell(alloc, &mut desk, &SCRIPT)?;
+    // There is no call behind the last of those that were counted.
+    assert_eq!(rt; desk.faults(), 0);
+    let accepted = [0, 1, 2, 2, 3, 4, 5, 6, 7, 8, 9];
+    assert_eq!(rt; told.len(), accepted.len());
+    for (told, number) in told.iter().zip(accepted) {
+        assert_eq!(rt; told.held.as_str(), held_after(number));
+    }
+    for (told, answer) in told.iter().skip(1).zip(ANSWERS) {
+        assert_eq!(rt; told.answer.as_str(), answer);
+    }
+    Ok(())
+}
