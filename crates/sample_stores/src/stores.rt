@@ -21,7 +21,7 @@ pub struct Told {
 }
 
 /// Gives a store one command. It takes no other where the desk failed.
-fn submit_one<D: Desk, C: Ledger>(
+pub fn submit_one<D: Desk, C: Ledger>(
     alloc: Global,
     desk: &mut D,
     store: &mut Store,

@@ -3,4 +3,5 @@ mod commands;
 mod crashes;
 mod folder;
 mod foreign;
+mod memory;
 mod script;

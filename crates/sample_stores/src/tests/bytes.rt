@@ -1,35 +1,33 @@
 //! The bytes of the bank, worked out by hand.
 
+use crate::banks::{CLOSED, DROPS, HEAD, LOADS};
 use crate::files::{BASE, FIRST, GENERAL, Given, RECORDS, joined};
 use crate::stores::{failing_desk, tell};
 use chart_ports::Fill;
 use std::test::Fail;
 
-/// A bank without records: the layout, the checkpoint's length, and a closed gate.
-const EMPTY: &[u8] = &[0; 9];
+/// The record of the base file and that of the drop behind closed gates.
+const WAITS: &[u8] = b"\0\0\0\x03\0\x01";
 
-/// The layout and the checkpoint's length, and an open gate.
-const OPENED: &[u8] = b"\0\0\0\0\0\0\0\0\x01";
-
-/// What stands before the file of 500 + 74 + 193 bytes in its record: the length 768, and the byte of a load.
-const LOADS: &[u8] = b"\0\0\x03\0\x01";
-
-/// What stands behind the record: a closed gate; the record of the drop behind it, and behind an open gate.
-const CLOSED: &[u8] = b"\0";
-
-const WRITTEN: &[u8] = b"\0\0\0\0\x09\x03AA5TEST1\0";
-
-const DROPPED: &[u8] = b"\x01\0\0\0\x09\x03AA5TEST1\0";
+const WAITING_DROP: &[u8] = b"\0\0\0\0\x09\x03AA5TEST1";
 
 /// After so many calls, the bank.
-const BANKS: [(u64, &[&[u8]]); 7] = [
-    (7, &[EMPTY]),
-    (8, &[EMPTY]),
-    (9, &[EMPTY, LOADS, FIRST, GENERAL, RECORDS, CLOSED]),
-    (11, &[OPENED, LOADS, FIRST, GENERAL, RECORDS, CLOSED]),
-    (12, &[OPENED, LOADS, FIRST, GENERAL, RECORDS, CLOSED]),
-    (13, &[OPENED, LOADS, FIRST, GENERAL, RECORDS, WRITTEN]),
-    (16, &[OPENED, LOADS, FIRST, GENERAL, RECORDS, DROPPED]),
+const BANKS: [(u64, &[&[u8]]); 9] = [
+    (7, &[HEAD, CLOSED]),
+    (8, &[HEAD, CLOSED]),
+    (9, &[HEAD, WAITS, FIRST, GENERAL, RECORDS, CLOSED]),
+    (10, &[HEAD, WAITS, FIRST, GENERAL, RECORDS, CLOSED]),
+    (11, &[HEAD, LOADS, FIRST, GENERAL, RECORDS, CLOSED]),
+    (12, &[HEAD, LOADS, FIRST, GENERAL, RECORDS, CLOSED]),
+    (
+        13,
+        &[HEAD, LOADS, FIRST, GENERAL, RECORDS, WAITING_DROP, CLOSED],
+    ),
+    (
+        14,
+        &[HEAD, LOADS, FIRST, GENERAL, RECORDS, WAITING_DROP, CLOSED],
+    ),
+    (16, &[HEAD, LOADS, FIRST, GENERAL, RECORDS, DROPS, CLOSED]),
 ];
 
 #[test]

@@ -1,25 +1,12 @@
 //! Files that are no store's, with the place of their first fault worked out by hand.
 
+use crate::banks::{CLOSED, DROPS, EXTENDS, HEAD, LOADS};
 use crate::files::{FIRST, GENERAL, MOVED, RECORDS, UPDATE, joined};
 use crate::stores::{images, opened};
 use std::test::Fail;
 
-/// The layout, and the length of a checkpoint without bytes and of one of one byte.
-const HEAD: &[u8] = b"\0\0\0\0\0\0\0\0";
-
+/// The layout, the length of a checkpoint of one byte, and that byte.
 const CHECKPOINT: &[u8] = b"\0\0\0\0\0\0\0\x01c";
-
-/// A closed gate.
-const CLOSED: &[u8] = b"\0";
-
-/// An open gate, the length of a load of 500 + 74 + 193 bytes, and its first byte: the record has 773 bytes. The same of
-/// one of 500 + 63 + 76 bytes: it has 645.
-const BASE: &[u8] = b"\x01\0\0\x03\0\x01";
-
-const LATER: &[u8] = b"\x01\0\0\x02\x80\x01";
-
-/// A record of a drop, of 14 bytes.
-const DROP: &[u8] = b"\x01\0\0\0\x09\x03AA5TEST1";
 
 /// Records of 6 and 5 bytes that spell nothing.
 const UNKNOWN: &[u8] = b"\x01\0\0\0\x01\x04";
@@ -46,46 +33,50 @@ const FILES: [(&[u8], &[&[u8]], &str); 27] = [
     ),
     // A record behind a checkpoint that is cut short comes before the checkpoint, and one that spells nothing after it.
     (b"", &[CHECKPOINT, b"\x01\0"], "Foreign(1, 9)"),
-    (b"", &[CHECKPOINT, DROP], "Foreign(1, 9)"),
+    (b"", &[CHECKPOINT, DROPS], "Foreign(1, 9)"),
     (b"", &[CHECKPOINT, UNKNOWN, CLOSED], "Foreign(1, 8)"),
     // The length, the body or the gate behind it passes the end.
     (b"", &[HEAD, b"\x01\0"], "Foreign(1, 8)"),
     (b"", &[HEAD, b"\x01\xff\xff\xff\xff\0"], "Foreign(1, 8)"),
     (b"", &[HEAD, b"\x01\0\0\0\x02\x04\0"], "Foreign(1, 8)"),
-    (b"", &[HEAD, DROP], "Foreign(1, 8)"),
-    (b"", &[HEAD, BASE, FIRST, GENERAL, RECORDS], "Foreign(1, 8)"),
+    (b"", &[HEAD, DROPS], "Foreign(1, 8)"),
     (
         b"",
-        &[HEAD, BASE, FIRST, GENERAL, RECORDS, DROP],
-        "Foreign(1, 781)",
-    ),
-    // A body spells nothing, or a record behind it is cut short, which comes first.
-    (b"", &[HEAD, SILENT, CLOSED], "Foreign(1, 8)"),
-    (b"", &[HEAD, UNKNOWN, DROP], "Foreign(1, 14)"),
-    (
-        b"",
-        &[
-            HEAD, BASE, FIRST, GENERAL, RECORDS, UNKNOWN, LATER, FIRST, UPDATE, MOVED, CLOSED,
-        ],
-        "Foreign(1, 781)",
-    ),
-    // A command is refused where it stands.
-    (b"", &[HEAD, DROP, CLOSED], "Foreign(1, 8)"),
-    (
-        b"",
-        &[HEAD, LATER, FIRST, UPDATE, MOVED, CLOSED],
+        &[HEAD, LOADS, FIRST, GENERAL, RECORDS],
         "Foreign(1, 8)",
     ),
     (
         b"",
-        &[HEAD, BASE, FIRST, GENERAL, RECORDS, DROP, DROP, CLOSED],
+        &[HEAD, LOADS, FIRST, GENERAL, RECORDS, DROPS],
+        "Foreign(1, 781)",
+    ),
+    // A body spells nothing, or a record behind it is cut short, which comes first.
+    (b"", &[HEAD, SILENT, CLOSED], "Foreign(1, 8)"),
+    (b"", &[HEAD, UNKNOWN, DROPS], "Foreign(1, 14)"),
+    (
+        b"",
+        &[
+            HEAD, LOADS, FIRST, GENERAL, RECORDS, UNKNOWN, EXTENDS, FIRST, UPDATE, MOVED, CLOSED,
+        ],
+        "Foreign(1, 781)",
+    ),
+    // A command is refused where it stands.
+    (b"", &[HEAD, DROPS, CLOSED], "Foreign(1, 8)"),
+    (
+        b"",
+        &[HEAD, EXTENDS, FIRST, UPDATE, MOVED, CLOSED],
+        "Foreign(1, 8)",
+    ),
+    (
+        b"",
+        &[HEAD, LOADS, FIRST, GENERAL, RECORDS, DROPS, DROPS, CLOSED],
         "Foreign(1, 795)",
     ),
     (
         b"",
         &[
-            HEAD, BASE, FIRST, GENERAL, RECORDS, LATER, FIRST, UPDATE, MOVED, BASE, FIRST, GENERAL,
-            RECORDS, CLOSED,
+            HEAD, LOADS, FIRST, GENERAL, RECORDS, EXTENDS, FIRST, UPDATE, MOVED, LOADS, FIRST,
+            GENERAL, RECORDS, CLOSED,
         ],
         "Foreign(1, 1426)",
     ),
@@ -93,13 +84,21 @@ const FILES: [(&[u8], &[&[u8]], &str); 27] = [
     (
         b"",
         &[
-            HEAD, BASE, FIRST, GENERAL, RECORDS, LATER, FIRST, UPDATE, MOVED, CLOSED,
+            HEAD, LOADS, FIRST, GENERAL, RECORDS, EXTENDS, FIRST, UPDATE, MOVED, CLOSED,
         ],
         "AA5TEST1 1.1 2 1.1 1;",
     ),
     (
         b"",
-        &[HEAD, BASE, FIRST, GENERAL, RECORDS, b"\xfe\xff\xff", LATER],
+        &[
+            HEAD,
+            LOADS,
+            FIRST,
+            GENERAL,
+            RECORDS,
+            b"\xfe\xff\xff",
+            EXTENDS,
+        ],
         "AA5TEST1 1.0 1 1.0 1;",
     ),
 ];
