@@ -1,9 +1,8 @@
 -- What is read of a store's files, and what they stand for.
 use Rattle.std.proofs.Common.{◌≡◌, ℕ, ◌+◌, List, [], ◌∷◌, length, Option, Some, None, Result, Ok, Err}
-use Rattle.std.proofs.Common.{refl, sym, ◌∙◌, ap, subst, Bool, true, false, ◌==◌, arith}
-use Rattle.std.proofs.lemmas.Bool.{true≢false, eqb-true}
+use Rattle.std.proofs.Common.{refl, sym, ◌∙◌, ap, subst}
 use Rattle.std.specs.Option.{option_and_then}
-use Rattle.std.specs.Prelude.{◌↔◌, ◌≢◌}
+use Rattle.std.specs.Prelude.{◌↔◌}
 use Rattle.chart_model.specs.Answers.{◌>>=◌, or_fault, or_fault_as}
 use Rattle.chart_model.specs.State.{StateValue}
 use Rattle.chart_model.specs.declared.command.Command.{Command}
@@ -69,30 +68,12 @@ pub no_content : (images : Images) (place : Place) → content_in images.head im
     → read_of images ≡ Err place
 no_content images place none = read_by_content images ∙ ap content_read none
 
-some_checkpoint : (checkpoint : List ℕ) → checkpoint ≢ [] → begun checkpoint ≡ Err (record { bank = 1; at = 8 })
-some_checkpoint [] some = absurd (some refl)
-some_checkpoint (byte ∷ bytes) some = refl
-
-pub is_none : (empty : Bool) (shown bytes : List ℕ) → empty ≡ (length shown == 0) → shown ≡ bytes → empty ≡ true
-    → bytes ≡ []
-is_none empty shown bytes tested is so =
-    length_zero bytes (ap length (sym is) ∙ eqb-true (length shown) 0 (sym tested ∙ so))
-  where
-    length_zero : (l : List ℕ) → length l ≡ 0 → l ≡ []
-    length_zero [] e = refl
-    length_zero (byte ∷ bytes) e = absurd (omega arith)
-
-pub is_some : (empty : Bool) (shown bytes : List ℕ) → empty ≡ (length shown == 0) → shown ≡ bytes → empty ≡ false
-    → bytes ≢ []
-is_some empty shown bytes tested is so none =
-    true≢false (sym (ap (λ (l : List ℕ). length l == 0) (is ∙ none)) ∙ sym tested ∙ so)
-
-pub not_begun : (images : Images) (content : BankContent) → content_in images.head images.bank1 ≡ Ok content
-    → content.checkpoint ≢ [] → read_of images ≡ Err (record { bank = 1; at = 8 })
-not_begun images content found some =
+pub not_begun : (images : Images) (content : BankContent) (place : Place)
+    → content_in images.head images.bank1 ≡ Ok content → begun content.checkpoint ≡ Err place
+    → read_of images ≡ Err place
+not_begun images content place found some =
     read_by_content images ∙ ap content_read found
-    ∙ ap (λ (r : Result (Unit {0}) Place). r >>= λ first. state_read content (replayed nothing_held 8 content.bodies))
-    (some_checkpoint content.checkpoint some)
+    ∙ ap (λ (r : Result (Unit {0}) Place). r >>= λ first. state_read content (replayed nothing_held 8 content.bodies)) some
 
 not_replayed : (content : BankContent) (replay : Result StateValue ℕ) (place : Place)
     → or_fault_as in_bank replay ≡ Err place → state_read content replay ≡ Err place

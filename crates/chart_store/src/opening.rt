@@ -1,6 +1,6 @@
 //! A store opened.
 
-ghost use Rattle.std.specs.Prelude.{◌≡◌, ◌<◌, ◌≤◌, ◌+◌, ℕ, [], true, Ok, Err, IfOk, IfErr, IsTrue, OnOk, length};
+ghost use Rattle.std.specs.Prelude.{◌≡◌, ◌<◌, ◌≤◌, ◌+◌, ℕ, [], true, Ok, Err, IfOk, IfErr, IsErrOf, IsTrue, OnOk, length};
 ghost use Rattle.bank_journal.specs.Bank.{gate_of};
 ghost use Rattle.bank_journal.specs.Fault.{HasDeskCause};
 ghost use Rattle.bank_journal.specs.Handle.{file_of, place_of};
@@ -10,7 +10,7 @@ ghost use Rattle.chart_ports.specs.Count.{HasCause};
 ghost use Rattle.chart_ports.specs.Disk.{LeavesNoMoreOfOthers, LeavesNoMore, Only, SameFiles, SameOthers};
 ghost use Rattle.chart_ports.specs.Moments.{LeavesOnly, images_of};
 ghost use Rattle.chart_store.specs.declared.open_fault.OpenFault.TheVariants.{DeskFault};
-ghost use Rattle.chart_store.specs.Images.{content_in, headed, most_steps_in, read_of};
+ghost use Rattle.chart_store.specs.Images.{begun, content_in, headed, most_steps_in, read_of};
 ghost use Rattle.chart_store.specs.Opened.{ForeignHas};
 ghost use Rattle.chart_store.specs.Store.{IsKept, LeavesBefore, LeavesReading, count_of, is_sound, state_of, used_of};
 
@@ -18,6 +18,7 @@ use crate::open_fault::OpenFault;
 use crate::replay::replay;
 use crate::store::Store;
 use bank_journal::{Bank, BankContent, open_bank};
+use chart_model::Octets;
 use chart_ports::{Desk, Failed, Steps};
 use command_codec::commands_are_spelled;
 use std::alloc::Global;
@@ -93,6 +94,18 @@ fn open_current<D: Desk>(alloc: Global, desk: &mut D) -> Result<(Bank, BankConte
     Ok(open_bank(alloc, desk, BANK)?)
 }
 
+/// Sees that a checkpoint is that of the empty store.
+fn open_checkpoint(checkpoint: &Octets) -> Result<(), OpenFault>
+    ensures first { OnOk result (checkpoint.now ≡ []) }
+    ensures foreign { IfErr result (ForeignHas (λ place. begun checkpoint.now ≡ Err place)) }
+    ensures no_desk { ¬ IsErrOf result DeskFault }
+{
+    if !checkpoint.as_slice().is_empty() {
+        return Err(OpenFault::Foreign(BANK, 8));
+    }
+    Ok(())
+}
+
 /// Opens the store in a desk's files, and carries out the commands of its bank one after the other from nothing held.
 ///
 /// # Errors
@@ -130,9 +143,7 @@ pub fn open_store<D: Desk, C: Ledger>(
     ensures at_most { IsTrue D.tells → steps.new ≤ steps.old + most_steps_in (bank_of (D.contents desk.old 1)) }
 {
     let (bank, content) = open_current(alloc, desk)?;
-    if !content.checkpoint.as_slice().is_empty() {
-        return Err(OpenFault::Foreign(BANK, 8));
-    }
+    open_checkpoint(&content.checkpoint)?;
     commands_are_spelled();
     let live = replay(alloc, &content.bodies, steps)?;
     Ok(Store::opened(live, bank))

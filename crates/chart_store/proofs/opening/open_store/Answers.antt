@@ -1,14 +1,14 @@
-use Rattle.std.proofs.Common.{◌≡◌, ◌+◌, true, false, Ok, Err, sym, ◌∙◌, ap, subst, arith, rules}
+use Rattle.std.proofs.Common.{◌≡◌, ◌+◌, Ok, Err, sym, ◌∙◌, ap, subst, arith}
 use Rattle.std.proofs.lemmas.Result.{err_from_is_err_and}
 use Rattle.chart_model.specs.Answers.{or_fault_as}
 use Rattle.chart_ports.specs.Moments.{images_of}
 use Rattle.bank_journal.specs.declared.bank.Bank.{Bank}
 use Rattle.bank_journal.specs.Handle.{file_of, place_of}
 use Rattle.bank_journal.specs.Moments.{IsInStep}
-use Rattle.chart_store.specs.Images.{content_in, in_bank, read_of, replayed}
+use Rattle.chart_store.specs.Images.{begun, content_in, in_bank, read_of, replayed}
 use Rattle.chart_store.specs.Loaded.{nothing_held}
 use Rattle.chart_store.specs.Store.{state_of}
-use Rattle.chart_store.proofs.Reading.{content_behind, foreign_leads, has_commands, is_none, is_some, no_content, not_begun}
+use Rattle.chart_store.proofs.Reading.{content_behind, foreign_leads, has_commands, no_content, not_begun}
 use Rattle.chart_store.proofs.Reading.{not_carried, state_in}
 use Rattle.chart_store.proofs.opening.open_store.Goals as goal
 
@@ -20,37 +20,41 @@ returns-in_err-bank-clause-foreign g c = λ tells.
     (λ place. read_of (images_of contents) ≡ Err place) (no_content (images_of contents)) c.in_err-bank.field-0.0
     (c.in_err-bank.ensures.foreign tells))
 
-pub returns-then-not-is_empty-clause-foreign : goal.returns-then-not-is_empty-clause-foreign
-returns-then-not-is_empty-clause-foreign g c = λ tells.
+pub returns-in_err-open_checkpoint-clause-foreign : goal.returns-in_err-open_checkpoint-clause-foreign
+returns-in_err-open_checkpoint-clause-foreign g c = λ tells.
     let contents = g.D.Desk.contents c.args.desk.now in
     let content = c.in_ok-bank.content in
-    let not_empty : c.is_empty.result ≡ false = search rules in
-    not_begun (images_of contents) content
-    (content_behind (contents 0) (contents 1) content (c.in_ok-bank.ensures.head tells) (c.in_ok-bank.ensures.content tells))
-    (is_some c.is_empty.result c.as_slice.result.now content.checkpoint c.is_empty.ensures c.as_slice.ensures not_empty)
+    let exit = c.from_residual-in_err-open_checkpoint in
+    let p = err_from_is_err_and exit.result exit.ensures.1 in
+    rw (p.1, p.2) (foreign_leads (λ place. begun content.checkpoint ≡ Err place)
+    (λ place. read_of (images_of contents) ≡ Err place)
+    (λ place. not_begun (images_of contents) content place
+    (content_behind (contents 0) (contents 1) content (c.in_ok-bank.ensures.head tells)
+    (c.in_ok-bank.ensures.content tells)))
+    c.in_err-open_checkpoint.field-0.0 c.in_err-open_checkpoint.ensures.foreign)
 
 pub returns-in_err-live-clause-foreign : goal.returns-in_err-live-clause-foreign
 returns-in_err-live-clause-foreign g c = λ tells.
     let contents = g.D.Desk.contents c.args.desk.now in
     let content = c.in_ok-bank.content in
-    let empty : c.is_empty.result ≡ true = search rules in
     let p = err_from_is_err_and c.from_residual-in_err-live.result c.from_residual-in_err-live.ensures.1 in
     rw (p.1, p.2) (foreign_leads
     (λ place. or_fault_as in_bank (replayed nothing_held 8 content.bodies) ≡ Err place)
     (λ place. read_of (images_of contents) ≡ Err place)
     (λ place. not_carried (images_of contents) content place
-    (content_behind (contents 0) (contents 1) content (c.in_ok-bank.ensures.head tells) (c.in_ok-bank.ensures.content tells))
-    (is_none c.is_empty.result c.as_slice.result.now content.checkpoint c.is_empty.ensures c.as_slice.ensures empty))
+    (content_behind (contents 0) (contents 1) content (c.in_ok-bank.ensures.head tells)
+    (c.in_ok-bank.ensures.content tells))
+    c.in_ok-open_checkpoint.ensures.first)
     c.in_err-live.field-0.0 c.in_err-live.ensures.foreign)
 
 pub returns-clause-state : goal.returns-clause-state
 returns-clause-state g c = λ tells.
     let contents = g.D.Desk.contents c.args.desk.now in
     let content = c.in_ok-bank.content in
-    let empty : c.is_empty.result ≡ true = search rules in
     state_in (images_of contents) content c.in_ok-live.live
-    (content_behind (contents 0) (contents 1) content (c.in_ok-bank.ensures.head tells) (c.in_ok-bank.ensures.content tells))
-    (is_none c.is_empty.result c.as_slice.result.now content.checkpoint c.is_empty.ensures c.as_slice.ensures empty)
+    (content_behind (contents 0) (contents 1) content (c.in_ok-bank.ensures.head tells)
+    (c.in_ok-bank.ensures.content tells))
+    c.in_ok-open_checkpoint.ensures.first
     c.in_ok-live.ensures.state
     ∙ ap Ok (λ i. record {
       state = sym c.opened.ensures.state i;
@@ -62,7 +66,6 @@ returns-clause-kept g c = λ tells.
     let desk = c.open_current.new.desk in
     let content = c.in_ok-bank.content in
     let store = c.opened.result in
-    let empty : c.is_empty.result ≡ true = search rules in
     record {
       file = ap file_of c.opened.ensures.bank ∙ c.in_ok-bank.ensures.file;
       head = c.in_ok-bank.ensures.others tells 0 (λ e. omega (arith, e)) ∙ c.in_ok-bank.ensures.head tells;
@@ -72,6 +75,6 @@ returns-clause-kept g c = λ tells.
           (λ (b : Bank). IsInStep (g.D.Desk.contents desk 1) (g.D.Desk.may_leave desk 1) (place_of b) content)
           (sym c.opened.ensures.bank) (c.in_ok-bank.ensures.in_step tells);
       has = has_commands c.commands_are_spelled.ensures content (state_of store)
-          (is_none c.is_empty.result c.as_slice.result.now content.checkpoint c.is_empty.ensures c.as_slice.ensures empty)
+          c.in_ok-open_checkpoint.ensures.first
           (c.in_ok-live.ensures.state ∙ ap Ok (sym c.opened.ensures.state));
     }
