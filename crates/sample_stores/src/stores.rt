@@ -118,9 +118,12 @@ pub fn images(alloc: Global, head: &[u8], bank: &[u8]) -> Result<Images, AllocEr
 /// What is held in files, or why they are not opened.
 pub fn opened(alloc: Global, images: Images) -> Result<String, AllocError> {
     let mut desk = MemoryDesk::open(alloc, FailingCalls::none(alloc), images)?;
-    match tell(alloc, &mut desk, &[])?.pop() {
-        Some(Told { answer, held }) if answer.as_str() == "open" => Ok(held),
-        Some(Told { answer, .. }) => Ok(answer),
-        None => Ok(String::new(alloc)),
+    let mut told = tell(alloc, &mut desk, &[])?;
+    let Some(Told { answer, held }) = told.pop() else {
+        return Ok(String::new(alloc));
+    };
+    if answer.as_str() == "open" {
+        return Ok(held);
     }
+    Ok(answer)
 }

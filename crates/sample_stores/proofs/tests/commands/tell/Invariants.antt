@@ -1,0 +1,5 @@
+-- the counter's ledger is that of its blank
+use Rattle.sample_stores.proofs.tests.commands.tell.Given as goal
+
+abbrev pub ghosts-tell_with : goal.ghosts-tell_with
+ghosts-tell_with a = record { name = a.blank.name; parts = a.blank.parts }
