@@ -1,7 +1,8 @@
 -- The numbers and lines of the statuses.
 use Rattle.std.specs.Prelude.{ℕ, List, [], codes}
 use Rattle.ecdis_cli.specs.declared.run.status.Status.{Status}
-use Rattle.ecdis_cli.specs.declared.run.status.Status.TheVariants.{Done, Words, ScriptFault, ScriptLong, DeskFault, NoMemory}
+use Rattle.ecdis_cli.specs.declared.run.status.Status.TheVariants.{Done, Words, ScriptFault, ScriptLong, DeskFault}
+use Rattle.ecdis_cli.specs.declared.run.status.Status.TheVariants.{NoMemory}
 
 -- the number with which the program ends
 abbrev pub number_of : Status → ℕ

@@ -1,0 +1,5 @@
+-- the counter's ledger is that of its blank
+use Rattle.store_bench.proofs.main.Given as goal
+
+abbrev pub ghosts-run : goal.ghosts-run
+ghosts-run a = record { name = a.blank.name; parts = a.blank.parts }
