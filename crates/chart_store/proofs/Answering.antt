@@ -1,5 +1,5 @@
 -- What a call answers, step by step.
-use Rattle.std.proofs.Common.{◌≡◌, Option, Some, None, Result, Ok, Err, ap}
+use Rattle.std.proofs.Common.{◌≡◌, Option, Some, None, Result, Err, ap}
 use Rattle.std.specs.Prelude.{unwrap_or}
 use Rattle.chart_model.specs.Answers.{◌>>=◌, FailsBy}
 use Rattle.update_sequence.specs.Answers.{GivesRead, GivesBuilt}

@@ -1,5 +1,5 @@
 -- What a command that is accepted leaves.
-use Rattle.std.proofs.Common.{◌≡◌, ◌≢◌, ℕ, List, [], ◌∷◌, ◌++◌, Option, Some, None, IfSome, Result, Ok, Err, refl, sym}
+use Rattle.std.proofs.Common.{◌≡◌, ◌≢◌, ℕ, List, [], ◌∷◌, ◌++◌, Option, Some, None, Result, Ok, Err, refl, sym}
 use Rattle.std.proofs.Common.{◌∙◌, ap, subst, fold, Bool, cond}
 use Rattle.std.specs.Prelude.{unwrap_or}
 use Rattle.std.specs.FinMap as map
@@ -15,7 +15,7 @@ use Rattle.chart_store.specs.declared.refusal.Refusal.{Refusal}
 use Rattle.chart_store.specs.declared.refusal.Refusal.TheVariants.{NoCell, NoUpdate}
 use Rattle.chart_store.specs.Kept.{kept_by}
 use Rattle.chart_store.specs.Live.{IsLive, AreLive, state_or}
-use Rattle.chart_store.specs.Loaded.{Outcome, HoldingsByKey, nothing_held, loaded}
+use Rattle.chart_store.specs.Loaded.{Outcome, HoldingsByKey, nothing_held}
 use Rattle.chart_store.specs.Next.{cells_with, outcome_by}
 use Rattle.chart_store.specs.declared.next.Next.{Next}
 use Rattle.chart_store.specs.Outcome.{left_by, rolled_back, dropped, outcome, state_with, after, charts, IsKeyOf}

@@ -1,5 +1,5 @@
 -- The names whose records an update changes.
-use Rattle.std.proofs.Common.{◌≡◌, ◌⊎◌, inl, inr, List, Option, Some, None, Result, Ok, Err, refl, sym, ◌∙◌, ap, subst}
+use Rattle.std.proofs.Common.{◌≡◌, ◌⊎◌, inl, inr, List, Option, Some, Result, Ok, Err, sym, ◌∙◌, ap, subst}
 use Rattle.std.specs.Prelude.{Contains, map}
 use Rattle.chart_model.specs.Answers.{◌>>=◌}
 use Rattle.update_sequence.specs.Others.{HasSame}
@@ -10,7 +10,6 @@ use Rattle.chart_model.specs.Dataset.{DatasetValue}
 use Rattle.chart_model.specs.declared.name.Name.{Name}
 use Rattle.update_sequence.specs.Built.{built}
 use Rattle.update_sequence.specs.declared.fault.BuildFault.{BuildFault}
-use Rattle.chart_store.specs.declared.refusal.Refusal.{Refusal}
 use Rattle.chart_store.specs.Refusal.{refusal_of_build}
 use Rattle.chart_store.specs.Fault.{or_refused}
 use Rattle.chart_store.specs.Taken.{chart_built}

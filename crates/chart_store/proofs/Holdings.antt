@@ -11,9 +11,7 @@ use Rattle.std.specs.FinMap as map
 use Rattle.std.proofs.lemmas.List.Sums.{sum_by-append, sum_by-cons}
 use Rattle.chart_model.specs.Keys.{key_cmp}
 use Rattle.chart_model.specs.State.{StateValue, IsState, IsHolding}
-use Rattle.chart_model.specs.declared.state.Held.{Held}
 use Rattle.chart_model.specs.declared.state.Holding.{Holding}
-use Rattle.chart_model.specs.Cell.{CellValue}
 use Rattle.chart_model.proofs.Keys.{key_cmp-total, key_cmp-IsAntisymmetric}
 use Rattle.chart_model.proofs.Maps.{each-empty, each-insert, each-remove}
 use Rattle.chart_model.proofs.Trees.{entries-empty}

@@ -1,6 +1,6 @@
 -- What a rollback keeps of a cell's files: the shortest list that they begin with, that is a sound list, and that ends
 -- with a file that has the update number and doesn't cancel the cell.
-use Rattle.std.specs.Prelude.{◌≡◌, ◌≢◌, ℕ, ◌==◌, Bool, true, false, not, ◌&&◌, List, [], ◌∷◌, ◌++◌, map, find}
+use Rattle.std.specs.Prelude.{◌≡◌, ◌≢◌, ℕ, ◌==◌, Bool, false, not, ◌&&◌, List, [], ◌∷◌, ◌++◌, map, find}
 use Rattle.std.specs.Prelude.{Option, Result, Ok, Err}
 use Rattle.chart_model.specs.Dataset.{DatasetValue}
 use Rattle.update_sequence.specs.Reading.{data_set_in}

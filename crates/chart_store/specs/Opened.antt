@@ -1,5 +1,4 @@
 -- Why the files of a store are not opened.
-use Rattle.std.specs.Prelude.{ℕ}
 use Rattle.bank_journal.specs.declared.fault.BankFault.{BankFault}
 use Rattle.bank_journal.specs.declared.fault.BankFault.TheVariants as banks
 use Rattle.chart_store.specs.declared.open_fault.OpenFault.{OpenFault}

@@ -3,7 +3,7 @@ use Rattle.std.specs.Prelude.{◌≡◌, ◌⊎◌, ℕ, ◌+◌, Bool, List, []
 use Rattle.chart_model.specs.State.{StateValue}
 use Rattle.chart_ports.specs.declared.images.Images.{Images}
 use Rattle.chart_ports.specs.Disk.{Only}
-use Rattle.chart_ports.specs.Moments.{MayBeLeft, image_of, images_of}
+use Rattle.chart_ports.specs.Moments.{MayBeLeft, images_of}
 use Rattle.bank_journal.specs.declared.bank.Bank.{Bank}
 use Rattle.bank_journal.specs.declared.content.BankContent.{BankContent}
 use Rattle.bank_journal.specs.Handle.{file_of, place_of}

@@ -18,7 +18,7 @@ use Rattle.update_sequence.specs.declared.effect.Effect.TheVariants.{Replace, Ex
 use Rattle.chart_store.specs.declared.refusal.Refusal.{Refusal}
 use Rattle.chart_store.specs.Refusal.{refusal_of_sequence, refusal_of_build}
 use Rattle.chart_store.specs.Fault.{or_refused}
-use Rattle.chart_store.specs.Loaded.{HoldingsByKey, files_of, files_after, bytes_of, cells_within, store_within}
+use Rattle.chart_store.specs.Loaded.{files_of, files_after, bytes_of, cells_within, store_within}
 use Rattle.chart_store.specs.Loaded.{Outcome}
 
 abbrev pub held_of : Option Holding → Option Held

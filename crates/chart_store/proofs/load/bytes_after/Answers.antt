@@ -1,5 +1,5 @@
 -- What a file replaces is live.
-use Rattle.std.proofs.Common.{◌≡◌, arith, ◌∙◌, ap}
+use Rattle.std.proofs.Common.{arith, ◌∙◌, ap}
 use Rattle.std.specs.Option.{option_copied}
 use Rattle.std.specs.FinMap as map
 use Rattle.chart_store.specs.Loaded.{HoldingsByKey, bytes_of, files_of}

@@ -1,10 +1,10 @@
 -- The step by what is held is the step by whole files.
-use Rattle.std.proofs.Common.{◌≡◌, ◌+◌, ◌<◌, ◌≤◌, List, ℕ, length, Ok, Result, sym, ◌∙◌, ap, subst, arith}
+use Rattle.std.proofs.Common.{◌≡◌, ◌≤◌, List, ℕ, length, Ok, Result, sym, ◌∙◌, ap, subst}
 use Rattle.update_sequence.specs.Reading.{data_set_in}
 use Rattle.chart_store.specs.Loaded.{Outcome, FILE_LIMIT}
 use Rattle.chart_store.specs.Next.{GivesNext}
 use Rattle.chart_store.specs.declared.refusal.Refusal.{Refusal}
-use Rattle.chart_store.proofs.Accepting.{loaded-taken, come_to-short, come_to-long}
+use Rattle.chart_store.proofs.Accepting.{loaded-taken}
 use Rattle.chart_store.proofs.Loading.{Laws}
 use Rattle.chart_store.proofs.load.next_of_file.Goals as goal
 

@@ -1,11 +1,11 @@
 -- What was judged can be built, and is then what the files leave.
-use Rattle.std.proofs.Common.{◌≡◌, ◌∙◌, Ok, Option, sym, ap, subst}
+use Rattle.std.proofs.Common.{◌∙◌, Option, sym, ap, subst}
 use Rattle.std.specs.FinMap as map
 use Rattle.std.specs.Option.{option_copied}
 use Rattle.chart_difference.specs.Difference.{AreChanged}
 use Rattle.chart_model.specs.Cell.{CellValue}
 use Rattle.chart_model.specs.Dataset.{DatasetValue}
-use Rattle.chart_store.specs.Taken.{chart_of, chart_after, MayBuild}
+use Rattle.chart_store.specs.Taken.{chart_after, MayBuild}
 use Rattle.chart_store.proofs.Loading.{Laws}
 use Rattle.chart_store.proofs.Placing.{Holds, may-build, chart-found, live-by, placed-in, changed-in}
 use Rattle.chart_store.proofs.load.placed.Goals as goal

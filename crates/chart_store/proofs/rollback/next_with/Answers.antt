@@ -1,5 +1,5 @@
 -- What is kept begins the files that are held.
-use Rattle.std.proofs.Common.{◌≡◌, ◌++◌, length, sym, ap, arith, ◌∙◌}
+use Rattle.std.proofs.Common.{length, sym, ap, arith, ◌∙◌}
 use Rattle.std.proofs.lemmas.List.Sums.{sum_by-append}
 use Rattle.chart_store.specs.Loaded.{bytes_of}
 use Rattle.chart_store.proofs.Holdings.{bytes_of-held, can-keep}
