@@ -1,0 +1,211 @@
+-- A line is read as it is spelled.
+use Rattle.std.proofs.Common.{◌≡◌, ℕ, ◌<◌, ◌≤◌, ◌⊎◌, Bool, true, false, cond, eqb, ◌&&◌, List, [], ◌∷◌, ◌++◌, length, Option, Some, None, refl, sym, ap, ◌∙◌, subst, inl, inr, arith, length-append}
+use Rattle.std.specs.Prelude.{codes, Result, Ok, Err, OnErr}
+use Rattle.std.specs.Option.{SomeIff}
+use Rattle.std.specs.List.{join_with_byte}
+use Rattle.std.specs.Str.{bytes_eq}
+use Rattle.std.proofs.lemmas.Bool.{and_parts}
+use Rattle.std.proofs.lemmas.List.Splits.{join_with_byte-slice_split, length-slice_split}
+use Rattle.std.proofs.lemmas.Result.{on_err_weaker}
+use Rattle.std.proofs.lemmas.Slice.Eq.{bytes_eq-Decides}
+use Rattle.chart_model.specs.Key.{IsKey, is_key}
+use Rattle.text_scan.specs.Number.{value_of}
+use Rattle.script_reader.specs.Word.{IsWord, is_word}
+use Rattle.script_reader.specs.Number.{IsShortNumber, is_short_number}
+use Rattle.script_reader.specs.declared.event.Event.{Event}
+use Rattle.script_reader.specs.declared.event.Event.TheVariants.{Info, Load, Rollback, Drop, Cells}
+use Rattle.script_reader.specs.Line.{AskFor, Spells}
+use Rattle.script_reader.specs.Reading.{words_of, info_in, load_in, rollback_in, drop_in, event_alone, event_with_one, event_with_two, event_of}
+use Rattle.script_reader.proofs.WordTests.{KeysAreTested, Decides-word, Decides-short, no_short}
+use Rattle.script_reader.proofs.Parting.{visible_unparted, digits_unparted, tested_unparted, split_one, split_two, split_three}
+
+-- ---- from words to what they ask for
+
+-- the branch that a choice took
+chosen : {A : Type 0} (b : Bool) (x y z : A) → cond b x y ≡ z → ((b ≡ true) × (x ≡ z)) ⊎ ((b ≡ false) × (y ≡ z))
+chosen true x y z e = inl (refl, e)
+chosen false x y z e = inr (refl, e)
+
+pub some_is : {A : Type 0} (x y : A) → ◌≡◌ {A = Option A} (Some x) (Some y) → x ≡ y
+some_is x y e = cc
+
+-- a choice between an event and none, that gave an event
+taken : (b : Bool) (x y : Event) → cond b (Some x) None ≡ Some y → (b ≡ true) × (x ≡ y)
+taken true x y e = (refl, some_is x y e)
+taken false x y e = absurd cc
+
+is_verb : (verb text : List ℕ) → bytes_eq verb text ≡ true → verb ≡ text
+is_verb verb text h = (bytes_eq-Decides verb text).0 h
+
+found_info : (verb word : List ℕ) (event : Event) → verb ≡ codes "info" → info_in word ≡ Some event → AskFor event (verb ∷ word ∷ [])
+found_info verb word event v e =
+    let t = taken (is_word word) (Info word) event e in
+    subst (λ (x : Event). AskFor x (verb ∷ word ∷ [])) t.1 (ap (λ (l : List ℕ). l ∷ word ∷ []) v, (Decides-word word).0 t.0)
+
+found_load : (verb word : List ℕ) (event : Event) → verb ≡ codes "load" → load_in word ≡ Some event → AskFor event (verb ∷ word ∷ [])
+found_load verb word event v e =
+    let t = taken (is_word word) (Load word) event e in
+    subst (λ (x : Event). AskFor x (verb ∷ word ∷ [])) t.1 (ap (λ (l : List ℕ). l ∷ word ∷ []) v, (Decides-word word).0 t.0)
+
+found_drop : KeysAreTested → (verb word : List ℕ) (event : Event) → verb ≡ codes "drop" → drop_in word ≡ Some event → AskFor event (verb ∷ word ∷ [])
+found_drop tested verb word event v e =
+    let t = taken (is_key word) (Drop word) event e in
+    subst (λ (x : Event). AskFor x (verb ∷ word ∷ [])) t.1 (ap (λ (l : List ℕ). l ∷ word ∷ []) v, (tested word).0 t.0)
+
+found_rollback : KeysAreTested → (verb cell digits : List ℕ) (event : Event) → verb ≡ codes "rollback" → rollback_in cell digits ≡ Some event
+    → AskFor event (verb ∷ cell ∷ digits ∷ [])
+found_rollback tested verb cell digits event v e =
+    let t = taken (is_key cell && is_short_number digits) (Rollback cell (value_of digits)) event e in
+    let p = and_parts (is_key cell) (is_short_number digits) t.0 in
+    subst (λ (x : Event). AskFor x (verb ∷ cell ∷ digits ∷ [])) t.1
+    (record {
+      digits = digits;
+      spoken = ap (λ (l : List ℕ). l ∷ cell ∷ digits ∷ []) v;
+      key = (tested cell).0 p.0;
+      short = (Decides-short digits).0 p.1;
+      value = refl;
+    })
+
+found_alone : (verb : List ℕ) (event : Event) → event_alone verb ≡ Some event → AskFor event (verb ∷ [])
+found_alone verb event e =
+    let t = taken (bytes_eq verb (codes "cells")) Cells event e in
+    subst (λ (x : Event). AskFor x (verb ∷ [])) t.1 (ap (λ (l : List ℕ). l ∷ []) (is_verb verb (codes "cells") t.0))
+
+found_with_one : KeysAreTested → (verb word : List ℕ) (event : Event) → event_with_one verb word ≡ Some event → AskFor event (verb ∷ word ∷ [])
+found_with_one tested verb word event e =
+    elim (chosen (bytes_eq verb (codes "info")) (info_in word) _ (Some event) e) [
+      | inl h ↦ found_info verb word event (is_verb verb (codes "info") h.0) h.1
+      | inr h ↦ elim (chosen (bytes_eq verb (codes "load")) (load_in word) _ (Some event) h.1) [
+        | inl i ↦ found_load verb word event (is_verb verb (codes "load") i.0) i.1
+        | inr i ↦ elim (chosen (bytes_eq verb (codes "drop")) (drop_in word) None (Some event) i.1) [
+          | inl j ↦ found_drop tested verb word event (is_verb verb (codes "drop") j.0) j.1
+          | inr j ↦ absurd (let none = j.1 in cc)
+        ]
+      ]
+    ]
+
+found_with_two : KeysAreTested → (verb cell digits : List ℕ) (event : Event) → event_with_two verb cell digits ≡ Some event
+    → AskFor event (verb ∷ cell ∷ digits ∷ [])
+found_with_two tested verb cell digits event e =
+    elim (chosen (bytes_eq verb (codes "rollback")) (rollback_in cell digits) None (Some event) e) [
+      | inl h ↦ found_rollback tested verb cell digits event (is_verb verb (codes "rollback") h.0) h.1
+      | inr h ↦ absurd (let none = h.1 in cc)
+    ]
+
+pub asked : KeysAreTested → (words : List (List ℕ)) (event : Event) → event_of words ≡ Some event → AskFor event words
+unfolding event_of
+asked tested [] event e = absurd cc
+asked tested (verb ∷ []) event e = found_alone verb event e
+asked tested (verb ∷ word ∷ []) event e = found_with_one tested verb word event e
+asked tested (verb ∷ first ∷ second ∷ []) event e = found_with_two tested verb first second event e
+asked tested (verb ∷ first ∷ second ∷ third ∷ more) event e = absurd cc
+
+pub found : KeysAreTested → (line : List ℕ) (event : Event) → event_of (words_of line) ≡ Some event → Spells line event
+found tested line event e = record {
+  words = words_of line;
+  asking = asked tested (words_of line) event e;
+  parted = sym (join_with_byte-slice_split 32 line);
+}
+
+-- ---- from what is asked for to words
+
+pub asked_again : KeysAreTested → (event : Event) (words : List (List ℕ)) → AskFor event words → event_of words ≡ Some event
+unfolding event_of
+asked_again tested (Info name) words a = ap event_of a.0 ∙ rw ((Decides-word name).1 a.1) refl
+asked_again tested (Load name) words a = ap event_of a.0 ∙ rw ((Decides-word name).1 a.1) refl
+asked_again tested (Rollback cell update) words a =
+    ap event_of a.spoken ∙ rw ((tested cell).1 a.key, (Decides-short a.digits).1 a.short) (ap (λ (n : ℕ). Some (Rollback cell n)) (sym a.value))
+asked_again tested (Drop cell) words a = ap event_of a.0 ∙ rw ((tested cell).1 a.1) refl
+asked_again tested Cells words a = ap event_of a
+
+pub split_again : (event : Event) (words : List (List ℕ)) → AskFor event words → words_of (join_with_byte 32 words) ≡ words
+split_again (Info name) words a =
+    ap (λ (w : List (List ℕ)). words_of (join_with_byte 32 w)) a.0
+    ∙ split_two (codes "info") name (tested_unparted (codes "info") refl) (visible_unparted name a.1.visible) ∙ sym a.0
+split_again (Load name) words a =
+    ap (λ (w : List (List ℕ)). words_of (join_with_byte 32 w)) a.0
+    ∙ split_two (codes "load") name (tested_unparted (codes "load") refl) (visible_unparted name a.1.visible) ∙ sym a.0
+split_again (Rollback cell update) words a =
+    ap (λ (w : List (List ℕ)). words_of (join_with_byte 32 w)) a.spoken
+    ∙ split_three (codes "rollback") cell a.digits (tested_unparted (codes "rollback") refl) (visible_unparted cell a.key.visible) (digits_unparted a.digits a.short.0.1)
+    ∙ sym a.spoken
+split_again (Drop cell) words a =
+    ap (λ (w : List (List ℕ)). words_of (join_with_byte 32 w)) a.0
+    ∙ split_two (codes "drop") cell (tested_unparted (codes "drop") refl) (visible_unparted cell a.1.visible) ∙ sym a.0
+split_again Cells words a =
+    ap (λ (w : List (List ℕ)). words_of (join_with_byte 32 w)) a ∙ split_one (codes "cells") (tested_unparted (codes "cells") refl) ∙ sym a
+
+pub given : KeysAreTested → (line : List ℕ) (event : Event) → Spells line event → event_of (words_of line) ≡ Some event
+given tested line event s =
+    ap (λ (l : List ℕ). event_of (words_of l)) s.parted
+    ∙ ap event_of (split_again event s.words s.asking)
+    ∙ asked_again tested event s.words s.asking
+
+-- a word behind the third is one too many
+too_many : (a b c : List ℕ) (words : List (List ℕ)) → 0 < length words → None ≡ event_of (a ∷ b ∷ c ∷ words)
+unfolding event_of
+too_many a b c [] h = absurd (omega arith)
+too_many a b c (word ∷ words) h = refl
+
+pub fourth_word : (words : List (List ℕ)) (a b c rest : List ℕ) → words ≡ a ∷ b ∷ c ∷ words_of rest → None ≡ event_of words
+fourth_word words a b c rest e =
+    too_many a b c (words_of rest) (omega (arith, length-slice_split (λ x. eqb x 32) rest)) ∙ sym (ap event_of e)
+
+-- ---- the words of one verb
+
+-- a value that there is exactly where a fact holds
+pub some_read : {X : Type 0} (P : Type 0) (o : Option X) (x v : X) → SomeIff o P v → o ≡ Some x → P × (x ≡ v)
+some_read {X} P o x v h e = subst (λ (y : Option X). SomeIff y P v) e h
+
+pub when_failed : {T E : Type 0} (P : Type 0) (r : Result T E) → P → OnErr r P
+when_failed P (Ok x) p = tt
+when_failed P (Err e) p = p
+
+pub info_read : (word name : List ℕ) → IsWord word → name ≡ word → Some (Info name) ≡ info_in word
+info_read word name is same = rw (same, (Decides-word word).1 is) refl
+
+pub load_read : (word name : List ℕ) → IsWord word → name ≡ word → Some (Load name) ≡ load_in word
+load_read word name is same = rw (same, (Decides-word word).1 is) refl
+
+pub info_again : (word : List ℕ) → IsWord word → info_in word ≡ Some (Info word)
+info_again word is = rw ((Decides-word word).1 is) refl
+
+pub load_again : (word : List ℕ) → IsWord word → load_in word ≡ Some (Load word)
+load_again word is = rw ((Decides-word word).1 is) refl
+
+pub rollback_read : KeysAreTested → (cell digits key : List ℕ) (number : ℕ) → IsKey cell → key ≡ cell → IsShortNumber digits → number ≡ value_of digits
+    → Some (Rollback key number) ≡ rollback_in cell digits
+rollback_read tested cell digits key number is same short value = rw (same, value, (tested cell).1 is, (Decides-short digits).1 short) refl
+
+pub rollback_missed : (cell digits : List ℕ) → ¬ IsShortNumber digits → None ≡ rollback_in cell digits
+rollback_missed cell digits other =
+    elim (is_key cell) as (λ b. None ≡ cond (b && is_short_number digits) (Some (Rollback cell (value_of digits))) None) [
+      | true ↦ rw (no_short digits other) refl
+      | false ↦ refl
+    ]
+
+-- memory that runs out at the name of a file, seen from the verb
+pub info_failed : {T E : Type 0} (verb word : List ℕ) (r : Result T E) → bytes_eq verb (codes "info") ≡ true → OnErr r (info_in word ≡ Some (Info word))
+    → OnErr r ((event : Event) × (event_with_one verb word ≡ Some event))
+info_failed verb word r is h = on_err_weaker r (λ e. (Info word, rw is e)) h
+
+pub load_failed : {T E : Type 0} (verb word : List ℕ) (r : Result T E) → bytes_eq verb (codes "info") ≡ false → bytes_eq verb (codes "load") ≡ true
+    → OnErr r (load_in word ≡ Some (Load word)) → OnErr r ((event : Event) × (event_with_one verb word ≡ Some event))
+load_failed verb word r other is h = on_err_weaker r (λ e. (Load word, rw (other, is) e)) h
+
+-- ---- what the line is
+
+-- the length of a line that asks for something
+asked_short : (event : Event) (words : List (List ℕ)) → AskFor event words → length (join_with_byte 32 words) ≤ 1024
+asked_short (Info name) words a =
+    omega (arith, ap (λ (w : List (List ℕ)). length (join_with_byte 32 w)) a.0, length-append (codes "info") (32 ∷ name), a.1.short)
+asked_short (Load name) words a =
+    omega (arith, ap (λ (w : List (List ℕ)). length (join_with_byte 32 w)) a.0, length-append (codes "load") (32 ∷ name), a.1.short)
+asked_short (Rollback cell update) words a =
+    omega (arith, ap (λ (w : List (List ℕ)). length (join_with_byte 32 w)) a.spoken, length-append (codes "rollback") (32 ∷ (cell ++ 32 ∷ a.digits)), length-append cell (32 ∷ a.digits), a.key.short, a.short.1)
+asked_short (Drop cell) words a =
+    omega (arith, ap (λ (w : List (List ℕ)). length (join_with_byte 32 w)) a.0, length-append (codes "drop") (32 ∷ cell), a.1.short)
+asked_short Cells words a = omega (arith, ap (λ (w : List (List ℕ)). length (join_with_byte 32 w)) a)
+
+pub spelled_short : (line : List ℕ) (event : Event) → Spells line event → length line ≤ 1024
+spelled_short line event s = omega (arith, ap length s.parted, asked_short event s.words s.asking)

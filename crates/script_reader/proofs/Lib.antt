@@ -1,0 +1,4 @@
+pub mod WordTests
+pub mod Parting
+pub mod Events
+pub mod Answered

@@ -1,0 +1,16 @@
+use Rattle.std.proofs.Common.{◌≡◌, true, false, rules}
+use Rattle.std.specs.Prelude.{codes}
+use Rattle.std.specs.Str.{bytes_eq}
+use Rattle.script_reader.proofs.Events.{info_failed, load_failed}
+use Rattle.script_reader.proofs.event.event_with_one.Goals as goal
+
+pub returns-then-eq-clause-memory : goal.returns-then-eq-clause-memory
+returns-then-eq-clause-memory c =
+    let is : bytes_eq c.args.verb.now (codes "info") ≡ true = search rules in
+    info_failed c.args.verb.now c.args.word.now c.info_of.result is c.info_of.ensures.memory
+
+pub returns-then-eq-2-clause-memory : goal.returns-then-eq-2-clause-memory
+returns-then-eq-2-clause-memory c =
+    let other : bytes_eq c.args.verb.now (codes "info") ≡ false = search rules in
+    let is : bytes_eq c.args.verb.now (codes "load") ≡ true = search rules in
+    load_failed c.args.verb.now c.args.word.now c.load_of.result other is c.load_of.ensures.memory

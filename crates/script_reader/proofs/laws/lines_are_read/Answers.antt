@@ -1,0 +1,17 @@
+use Rattle.script_reader.proofs.Answered.{read_event, read_again, read_silent, read_bad, read_bad_again, one_event}
+use Rattle.script_reader.proofs.laws.lines_are_read.Goals as goal
+
+pub returns-clause-event : goal.returns-clause-event
+returns-clause-event c =
+    λ number line event. (read_event c.keys_are_tested.ensures number line event, read_again c.keys_are_tested.ensures number line event)
+
+pub returns-clause-silent : goal.returns-clause-silent
+returns-clause-silent c = λ number line. read_silent number line
+
+pub returns-clause-bad : goal.returns-clause-bad
+returns-clause-bad c =
+    λ number line fault.
+    (read_bad c.keys_are_tested.ensures number line fault, λ b. let e = read_bad_again c.keys_are_tested.ensures number line b.1 in let f = b.0 in cc)
+
+pub returns-clause-one : goal.returns-clause-one
+returns-clause-one c = λ line a b. one_event c.keys_are_tested.ensures line a b

@@ -1,0 +1,29 @@
+-- What is answered is what was wanted, as far as memory lasts.
+use Rattle.std.proofs.Common.{◌∙◌, sym, refl, arith}
+use Rattle.script_reader.specs.Reading.{event_in}
+use Rattle.script_reader.proofs.Answered.{answer_given, answer_free, answer_bad}
+use Rattle.script_reader.proofs.line.read_line.Goals as goal
+
+pub returns-clause-only : goal.returns-clause-only
+returns-clause-only c =
+    λ event spells other.
+    let number = c.args.number in
+    let line = c.args.line.now in
+    answer_given c.read.result (event_in number line) c.read.ensures other ∙ (c.lines_are_read.ensures.event number line event).1 spells
+
+pub returns-clause-bad : goal.returns-clause-bad
+returns-clause-bad c =
+    let number = c.args.number in
+    let line = c.args.line.now in (
+      λ e. ((c.lines_are_read.ensures.bad number line _).0 (answer_bad c.read.result (event_in number line) number c.read.ensures e)).1,
+      λ bad. let wanted = (c.lines_are_read.ensures.bad number line _).1 (refl, bad) in
+          answer_free c.read.result (event_in number line) c.read.ensures (λ event e. let both = sym wanted ∙ e in cc) ∙ wanted,
+    )
+
+pub returns-clause-long : goal.returns-clause-long
+returns-clause-long c =
+    λ long speaks.
+    (returns-clause-bad c).1 (record {
+      speaks = speaks;
+      asks_nothing = λ event spells. let short = c.long_lines_are_read_by_their_front.ensures.short c.args.line.now event spells in omega arith;
+    })

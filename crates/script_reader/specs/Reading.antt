@@ -1,0 +1,73 @@
+-- What a line asks for, as a function.
+use Rattle.std.specs.Prelude.{◌≡◌, ℕ, Bool, true, ◌&&◌, ◌==◌, if◌then◌else◌, List, [], ◌∷◌, codes}
+use Rattle.std.specs.Prelude.{Option, Some, None, Result, Ok, Err}
+use Rattle.std.specs.List.{slice_split}
+use Rattle.std.specs.Str.{bytes_eq}
+use Rattle.chart_model.specs.Key.{is_key}
+use Rattle.text_scan.specs.Number.{value_of}
+use Rattle.script_reader.specs.Word.{is_word}
+use Rattle.script_reader.specs.Number.{is_short_number}
+use Rattle.script_reader.specs.declared.event.Event.{Event}
+use Rattle.script_reader.specs.declared.event.Event.TheVariants.{Info, Load, Rollback, Drop, Cells}
+use Rattle.script_reader.specs.declared.fault.LineFault.{LineFault}
+use Rattle.script_reader.specs.declared.fault.LineFault.TheVariants.{BadLine, NoMemory}
+
+-- what is between the spaces of a line
+abbrev pub words_of : List ℕ → List (List ℕ)
+words_of line = slice_split (λ byte. byte == 32) line
+
+-- each verb's event, by the words that it takes
+abbrev pub info_in : List ℕ → Option Event
+info_in name = if is_word name then Some (Info name) else None
+
+abbrev pub load_in : List ℕ → Option Event
+load_in name = if is_word name then Some (Load name) else None
+
+abbrev pub rollback_in : List ℕ → List ℕ → Option Event
+rollback_in cell digits =
+    if is_key cell && is_short_number digits then Some (Rollback cell (value_of digits)) else None
+
+abbrev pub drop_in : List ℕ → Option Event
+drop_in cell = if is_key cell then Some (Drop cell) else None
+
+-- a verb that takes no word, one word, or two
+abbrev pub event_alone : List ℕ → Option Event
+event_alone verb = if bytes_eq verb (codes "cells") then Some Cells else None
+
+abbrev pub event_with_one : List ℕ → List ℕ → Option Event
+event_with_one verb word =
+    if bytes_eq verb (codes "info") then info_in word
+    else if bytes_eq verb (codes "load") then load_in word
+    else if bytes_eq verb (codes "drop") then drop_in word
+    else None
+
+abbrev pub event_with_two : List ℕ → List ℕ → List ℕ → Option Event
+event_with_two verb first second = if bytes_eq verb (codes "rollback") then rollback_in first second else None
+
+-- what words ask for
+unfoldable pub event_of : List (List ℕ) → Option Event
+event_of [] = None
+event_of (verb ∷ []) = event_alone verb
+event_of (verb ∷ word ∷ []) = event_with_one verb word
+event_of (verb ∷ first ∷ second ∷ []) = event_with_two verb first second
+event_of (verb ∷ first ∷ second ∷ third ∷ more) = None
+
+-- an empty line and a remark say nothing
+abbrev pub is_silent : List ℕ → Bool
+is_silent [] = true
+is_silent (first ∷ rest) = first == 35
+
+-- any other line asks for an event, or is the bad line of this number
+abbrev pub event_or_bad : ℕ → Option Event → Result (Option Event) LineFault
+event_or_bad number (Some event) = Ok (Some event)
+event_or_bad number None = Err (BadLine number)
+
+-- what the line of this number asks for: nothing, an event, or it is bad
+abbrev pub event_in : ℕ → List ℕ → Result (Option Event) LineFault
+event_in number line = if is_silent line then Ok None else event_or_bad number (event_of (words_of line))
+
+-- an answer is what was wanted; memory may run out only where that was an event
+abbrev pub Answers : Result (Option Event) LineFault → Result (Option Event) LineFault → Type 0
+Answers (Ok event) wanted = Ok event ≡ wanted
+Answers (Err (BadLine number)) wanted = Err (BadLine number) ≡ wanted
+Answers (Err NoMemory) wanted = (event : Event) × (wanted ≡ Ok (Some event))

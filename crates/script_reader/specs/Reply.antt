@@ -1,0 +1,30 @@
+-- The bytes of a reply.
+use Rattle.std.specs.Prelude.{ℕ, List, [], ◌∷◌, ◌++◌, codes, pos}
+use Rattle.std.specs.List.{join_with_byte}
+use Rattle.text_scan.specs.Written.{decimal_of}
+use Rattle.script_reader.specs.declared.reply.Reply.{Reply}
+use Rattle.script_reader.specs.declared.reply.Reply.TheVariants.{Info, Load, Cancel, Rollback, Drop, Cells, Refused}
+
+-- the decimal text of a number
+abbrev pub number : ℕ → List ℕ
+number n = decimal_of (pos n)
+
+-- words parted by single spaces, and the line feed that ends their line
+abbrev pub line_of : List (List ℕ) → List ℕ
+line_of words = join_with_byte 32 words ++ 10 ∷ []
+
+-- what a refusal names stands behind its code, where it names anything
+abbrev pub words_if : List ℕ → List (List ℕ)
+words_if [] = []
+words_if (first ∷ rest) = (first ∷ rest) ∷ []
+
+unfoldable pub printed : Reply → List ℕ
+printed (Info key edition update records) =
+    line_of (codes "ok" ∷ codes "info" ∷ key ∷ number edition ∷ number update ∷ number records ∷ [])
+printed (Load key edition update) = line_of (codes "ok" ∷ codes "load" ∷ key ∷ number edition ∷ number update ∷ [])
+printed (Cancel key) = line_of (codes "ok" ∷ codes "cancel" ∷ key ∷ [])
+printed (Rollback key edition update) =
+    line_of (codes "ok" ∷ codes "rollback" ∷ key ∷ number edition ∷ number update ∷ [])
+printed (Drop key) = line_of (codes "ok" ∷ codes "drop" ∷ key ∷ [])
+printed (Cells count lines) = line_of (codes "ok" ∷ codes "cells" ∷ number count ∷ []) ++ lines
+printed (Refused code values) = line_of (codes "no" ∷ number code ∷ words_if values)

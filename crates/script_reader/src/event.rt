@@ -1,0 +1,127 @@
+//! What the lines of a script ask for.
+
+ghost use Rattle.std.specs.Prelude.{◌≡◌, IfOk, OnErr, Some};
+ghost use Rattle.script_reader.specs.declared.event.Event.{Event as EventValue};
+ghost use Rattle.script_reader.specs.declared.event.Event.TheVariants.{Info, Load};
+ghost use Rattle.script_reader.specs.Reading.{info_in, load_in, rollback_in, drop_in};
+ghost use Rattle.script_reader.specs.Reading.{words_of, event_alone, event_with_one, event_with_two, event_of};
+
+use crate::word::Word;
+use crate::words::{cut_word, read_short};
+use chart_model::{Key, keys_are_tested};
+use std::alloc::{AllocError, Global};
+
+/// What a line of the script asks for.
+#[derive(Debug, Drop)]
+pub enum Event {
+    /// What the file of this name says of itself.
+    Info(Word),
+    /// The file of this name is taken over.
+    Load(Word),
+    /// The cell goes back to the update of this number.
+    Rollback(Key, u32),
+    /// The cell is taken away.
+    Drop(Key),
+    /// The cells that are held are listed.
+    Cells,
+}
+
+/// What a verb alone asks for.
+fn event_alone(verb: &[u8]) -> Option<Event>
+    ensures { result ≡ event_alone verb.now }
+{
+    if verb == b"cells".as_slice() {
+        Some(Event::Cells)
+    } else {
+        None
+    }
+}
+
+/// `info` and the name of a file.
+fn info_of(alloc: Global, word: &[u8]) -> Result<Option<Event>, AllocError>
+    ensures event { IfOk result (λ event. event ≡ info_in word.now) }
+    ensures memory { OnErr result (info_in word.now ≡ Some (Info word.now)) }
+{
+    match Word::from_bytes(alloc, word)? {
+        Some(name) => Ok(Some(Event::Info(name))),
+        None => Ok(None),
+    }
+}
+
+/// `load` and the name of a file.
+fn load_of(alloc: Global, word: &[u8]) -> Result<Option<Event>, AllocError>
+    ensures event { IfOk result (λ event. event ≡ load_in word.now) }
+    ensures memory { OnErr result (load_in word.now ≡ Some (Load word.now)) }
+{
+    match Word::from_bytes(alloc, word)? {
+        Some(name) => Ok(Some(Event::Load(name))),
+        None => Ok(None),
+    }
+}
+
+/// `rollback`, a cell and the number of an update.
+fn rollback_of(cell: &[u8], digits: &[u8]) -> Option<Event>
+    ensures { result ≡ rollback_in cell.now digits.now }
+{
+    keys_are_tested();
+    let cell = Key::from_bytes(cell)?;
+    let update = read_short(digits)?;
+    Some(Event::Rollback(cell, update))
+}
+
+/// `drop` and a cell.
+fn drop_of(cell: &[u8]) -> Option<Event>
+    ensures { result ≡ drop_in cell.now }
+{
+    keys_are_tested();
+    let cell = Key::from_bytes(cell)?;
+    Some(Event::Drop(cell))
+}
+
+/// What a verb and one word ask for.
+fn event_with_one(alloc: Global, verb: &[u8], word: &[u8]) -> Result<Option<Event>, AllocError>
+    ensures event { IfOk result (λ event. event ≡ event_with_one verb.now word.now) }
+    ensures memory { OnErr result ((event : EventValue) × (event_with_one verb.now word.now ≡ Some event)) }
+{
+    if verb == b"info".as_slice() {
+        info_of(alloc, word)
+    } else if verb == b"load".as_slice() {
+        load_of(alloc, word)
+    } else if verb == b"drop".as_slice() {
+        Ok(drop_of(word))
+    } else {
+        Ok(None)
+    }
+}
+
+/// What a verb and two words ask for.
+fn event_with_two(verb: &[u8], first: &[u8], second: &[u8]) -> Option<Event>
+    ensures { result ≡ event_with_two verb.now first.now second.now }
+{
+    if verb == b"rollback".as_slice() {
+        rollback_of(first, second)
+    } else {
+        None
+    }
+}
+
+/// What a text's words ask for. Memory is taken for the name of a file alone.
+#[tactic(auto, unfolding(crate::specs::Reading::event_of))]
+pub fn event_on(alloc: Global, text: &[u8]) -> Result<Option<Event>, AllocError>
+    ensures event { IfOk result (λ event. event ≡ event_of (words_of text.now)) }
+    ensures memory { OnErr result ((event : EventValue) × (event_of (words_of text.now) ≡ Some event)) }
+{
+    let (verb, rest) = cut_word(text);
+    let Some(rest) = rest else {
+        return Ok(event_alone(verb));
+    };
+    let (first, rest) = cut_word(rest);
+    let Some(rest) = rest else {
+        return event_with_one(alloc, verb, first);
+    };
+    let (second, rest) = cut_word(rest);
+    match rest {
+        Some(_) => Ok(None),
+        None => Ok(event_with_two(verb, first, second)),
+    }
+}

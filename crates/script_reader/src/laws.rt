@@ -1,0 +1,33 @@
+//! What holds of lines and of what they ask for.
+
+ghost use Rattle.std.specs.Prelude.{◌≡◌, ◌↔◌, ◌<◌, ◌≤◌, ◌++◌, List, ℕ, length, Some, None, Ok, Err};
+ghost use Rattle.script_reader.specs.declared.event.Event.{Event};
+ghost use Rattle.script_reader.specs.declared.fault.LineFault.{LineFault};
+ghost use Rattle.script_reader.specs.declared.fault.LineFault.TheVariants.{BadLine};
+ghost use Rattle.script_reader.specs.Line.{Spells, IsSilent, IsBad};
+ghost use Rattle.script_reader.specs.Reading.{event_in};
+
+use chart_model::keys_are_tested;
+
+/// The function that definitions cite gives the event that a line spells, and a line spells one event at
+/// most. It gives none exactly for a silent line, and a fault, which has the line's number, exactly for a
+/// bad one.
+pub fn lines_are_read()
+    ensures event { (number : ℕ) (line : List ℕ) (event : Event) →
+        (event_in number line ≡ Ok (Some event)) ↔ Spells line event }
+    ensures silent { (number : ℕ) (line : List ℕ) → (event_in number line ≡ Ok None) ↔ IsSilent line }
+    ensures bad { (number : ℕ) (line : List ℕ) (fault : LineFault) →
+        (event_in number line ≡ Err fault) ↔ ((fault ≡ BadLine number) × IsBad line) }
+    ensures one { (line : List ℕ) (a b : Event) → Spells line a → Spells line b → a ≡ b }
+{
+    keys_are_tested();
+}
+
+/// A line that asks for an event has at most 1,024 bytes, so that a longer one is told by its front.
+pub fn long_lines_are_read_by_their_front()
+    ensures short { (line : List ℕ) (event : Event) → Spells line event → length line ≤ 1024 }
+    ensures front { (number : ℕ) (front rest : List ℕ) → 1024 < length front →
+        event_in number (front ++ rest) ≡ event_in number front }
+{
+    keys_are_tested();
+}

@@ -1,0 +1,32 @@
+//! The lines of a script, and the replies to them.
+//!
+//! A line is a verb and the words that it takes, parted by single spaces. Nothing stands before the
+//! first word, nor behind the last; a line feed and a carriage return are removed before. NAME is 1 to
+//! 255 visible ASCII characters (0x21 to 0x7E), CELL 1 to 32 of them, U 1 to 9 digits.
+//!
+//! - `info NAME`: what the file says of itself, `ok info KEY EDITION UPDATE RECORDS`;
+//! - `load NAME`: the file is taken over, `ok load KEY EDITION UPDATE`, or `ok cancel KEY`;
+//! - `rollback CELL U`: the cell goes back to an update, `ok rollback KEY EDITION UPDATE`;
+//! - `drop CELL`: the cell is taken away, `ok drop KEY`;
+//! - `cells`: what is held, `ok cells COUNT` and a line for each cell.
+//!
+//! Nothing is replied to an empty line, nor to one that begins with `#`. Any other line is a bad line. A
+//! refusal is `no CODE`, and behind a space what it names, where it names anything.
+#![tactic(auto)]
+
+mod event;
+mod fault;
+mod laws;
+mod line;
+mod reply;
+#[cfg(test)]
+mod tests;
+mod word;
+mod words;
+
+pub use event::Event;
+pub use fault::LineFault;
+pub use laws::{lines_are_read, long_lines_are_read_by_their_front};
+pub use line::read_line;
+pub use reply::{Reply, print_reply};
+pub use word::Word;

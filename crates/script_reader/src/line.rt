@@ -1,0 +1,55 @@
+//! A line, read.
+
+ghost use Rattle.std.specs.Prelude.{◌≡◌, ◌↔◌, ◌<◌, ◌≢◌, length, Some, None, Ok, Err};
+ghost use Rattle.script_reader.specs.declared.event.Event.{Event as EventValue};
+ghost use Rattle.script_reader.specs.declared.fault.LineFault.TheVariants.{BadLine, NoMemory};
+ghost use Rattle.script_reader.specs.Line.{Spells, IsSilent, IsBad};
+ghost use Rattle.script_reader.specs.Reading.{is_silent, event_in, Answers};
+
+use crate::event::{Event, event_on};
+use crate::fault::LineFault;
+use crate::laws::{lines_are_read, long_lines_are_read_by_their_front};
+use std::alloc::Global;
+
+/// Whether nothing is replied to the line: it is empty, or a remark, which begins with `#`.
+fn is_silent(line: &[u8]) -> bool
+    ensures { result ≡ is_silent line.now }
+{
+    line.is_empty() || line[0] == b'#'
+}
+
+/// What the line asks for, as the function on lists has it.
+fn read(alloc: Global, line: &[u8], number: u64) -> Result<Option<Event>, LineFault>
+    ensures { Answers result (event_in number line.now) }
+{
+    if is_silent(line) {
+        return Ok(None);
+    }
+    match event_on(alloc, line)? {
+        Some(event) => Ok(Some(event)),
+        None => Err(LineFault::BadLine(number)),
+    }
+}
+
+/// What the line asks for: an event where the line is an event's words, parted by single spaces; none
+/// where it is empty or begins with `#`; else it is the bad line of this number. A line has neither the
+/// line feed that ended it nor a carriage return before that. Of a line of more than 1,024 bytes the first
+/// 1,025 are enough: it is a bad line, unless it begins with `#`.
+///
+/// Memory is taken for the name of a file alone.
+pub fn read_line(alloc: Global, line: &[u8], number: u64) -> Result<Option<Event>, LineFault>
+    ensures found { (event : EventValue) → result ≡ Ok (Some event) → Spells line.now event }
+    // No line that asks for an event is refused.
+    ensures only { (event : EventValue) →
+        Spells line.now event → result ≢ Err NoMemory → result ≡ Ok (Some event) }
+    ensures none { (result ≡ Ok None) ↔ IsSilent line.now }
+    ensures bad { (result ≡ Err (BadLine number)) ↔ IsBad line.now }
+    // Memory runs out only where the line asks for an event.
+    ensures memory { result ≡ Err NoMemory → (event : EventValue) × Spells line.now event }
+    ensures long { 1024 < length line.now → ¬ IsSilent line.now → result ≡ Err (BadLine number) }
+    ensures function { Answers result (event_in number line.now) }
+{
+    lines_are_read();
+    long_lines_are_read_by_their_front();
+    read(alloc, line, number)
+}

@@ -1,0 +1,158 @@
+//! What is replied to a line, as bytes.
+
+ghost use Rattle.std.specs.Prelude.{◌≡◌, ◌++◌, ◌∷◌, [], codes, IfOk, OnOk};
+ghost use Rattle.std.specs.List.{join_with_byte};
+ghost use Rattle.script_reader.specs.Reply.{number, line_of, words_if, printed};
+
+use chart_model::{Key, Octets};
+use std::alloc::{AllocError, Global};
+use text_scan::write_number;
+
+/// What is replied to a line.
+#[derive(Debug, Drop)]
+pub enum Reply {
+    /// What a file says of itself: its cell, edition and update, and the number of its data records.
+    Info(Key, u32, u32, u64),
+    /// A file of this cell was taken over: the edition and the update that are held now.
+    Load(Key, u32, u32),
+    /// A file has cancelled this cell.
+    Cancel(Key),
+    /// The cell went back to this edition and update.
+    Rollback(Key, u32, u32),
+    /// The cell was taken away.
+    Drop(Key),
+    /// So many cells are held, with the lines that follow, each ended by a line feed.
+    Cells(u64, Octets),
+    /// The line is refused: the refusal's code, and what it names, parted by single spaces.
+    Refused(u8, Octets),
+}
+
+/// Adds a word behind a space.
+fn push_word(line: &mut Octets, word: &[u8]) -> Result<(), AllocError>
+    ensures { OnOk result (line.new ≡ line.old ++ 32 ∷ word.now) }
+{
+    line.extend_from_slice(b" ")?;
+    line.extend_from_slice(word)
+}
+
+/// Adds a number behind a space.
+fn push_number(alloc: Global, line: &mut Octets, n: u64) -> Result<(), AllocError>
+    ensures { OnOk result (line.new ≡ line.old ++ 32 ∷ number n) }
+{
+    line.extend_from_slice(b" ")?;
+    write_number(alloc, line, n as i128)
+}
+
+/// Ends a line.
+fn end_line(line: &mut Octets) -> Result<(), AllocError>
+    ensures { OnOk result (line.new ≡ line.old ++ 10 ∷ []) }
+{
+    line.extend_from_slice(b"\n")
+}
+
+/// `ok` and a verb.
+fn accepted(alloc: Global, verb: &[u8]) -> Result<Octets, AllocError>
+    ensures { IfOk result (λ line. line ≡ join_with_byte 32 (codes "ok" ∷ verb.now ∷ [])) }
+{
+    let mut line = Octets::from_vec(Vec::new(alloc));
+    line.extend_from_slice(b"ok")?;
+    push_word(&mut line, verb)?;
+    Ok(line)
+}
+
+/// The line of a verb and a cell.
+fn print_cell(alloc: Global, verb: &[u8], key: &Key) -> Result<Octets, AllocError>
+    ensures { IfOk result (λ line. line ≡ line_of (codes "ok" ∷ verb.now ∷ key.now ∷ [])) }
+{
+    let mut line = accepted(alloc, verb)?;
+    push_word(&mut line, key.as_slice())?;
+    end_line(&mut line)?;
+    Ok(line)
+}
+
+/// The line of a verb, a cell, and the edition and the update that are held of it.
+fn print_held(
+    alloc: Global,
+    verb: &[u8],
+    key: &Key,
+    edition: u32,
+    update: u32,
+) -> Result<Octets, AllocError>
+    ensures { IfOk result (λ line. line
+        ≡ line_of (codes "ok" ∷ verb.now ∷ key.now ∷ number edition ∷ number update ∷ [])) }
+{
+    let mut line = accepted(alloc, verb)?;
+    push_word(&mut line, key.as_slice())?;
+    push_number(alloc, &mut line, edition as u64)?;
+    push_number(alloc, &mut line, update as u64)?;
+    end_line(&mut line)?;
+    Ok(line)
+}
+
+/// The line of what a file says of itself.
+fn print_info(
+    alloc: Global,
+    key: &Key,
+    edition: u32,
+    update: u32,
+    records: u64,
+) -> Result<Octets, AllocError>
+    ensures { IfOk result (λ line. line ≡ line_of
+        (codes "ok" ∷ codes "info" ∷ key.now ∷ number edition ∷ number update ∷ number records ∷ [])) }
+{
+    let mut line = accepted(alloc, b"info")?;
+    push_word(&mut line, key.as_slice())?;
+    push_number(alloc, &mut line, edition as u64)?;
+    push_number(alloc, &mut line, update as u64)?;
+    push_number(alloc, &mut line, records)?;
+    end_line(&mut line)?;
+    Ok(line)
+}
+
+/// The line of the number of cells, and those that follow it.
+fn print_cells(alloc: Global, count: u64, lines: &Octets) -> Result<Octets, AllocError>
+    ensures { IfOk result (λ line. line
+        ≡ line_of (codes "ok" ∷ codes "cells" ∷ number count ∷ []) ++ lines.now) }
+{
+    let mut line = accepted(alloc, b"cells")?;
+    push_number(alloc, &mut line, count)?;
+    end_line(&mut line)?;
+    line.extend_from_slice(lines.as_slice())?;
+    Ok(line)
+}
+
+/// The line of a refusal.
+fn print_refusal(alloc: Global, code: u8, values: &Octets) -> Result<Octets, AllocError>
+    ensures { IfOk result (λ line. line ≡ line_of (codes "no" ∷ number code ∷ words_if values.now)) }
+{
+    let mut line = Octets::from_vec(Vec::new(alloc));
+    line.extend_from_slice(b"no")?;
+    push_number(alloc, &mut line, code as u64)?;
+    let values = values.as_slice();
+    if !values.is_empty() {
+        push_word(&mut line, values)?;
+    }
+    end_line(&mut line)?;
+    Ok(line)
+}
+
+/// The bytes of the reply: its words, parted by single spaces, and a line feed; behind `ok cells` the
+/// lines that follow, as they are. Numbers are plain decimals.
+#[tactic(auto, unfolding(crate::specs::Reply::printed))]
+pub fn print_reply(alloc: Global, reply: &Reply) -> Result<Octets, AllocError>
+    ensures { IfOk result (λ bytes. bytes ≡ printed reply.now) }
+{
+    match reply {
+        Reply::Info(key, edition, update, records) => {
+            print_info(alloc, key, *edition, *update, *records)
+        }
+        Reply::Load(key, edition, update) => print_held(alloc, b"load", key, *edition, *update),
+        Reply::Cancel(key) => print_cell(alloc, b"cancel", key),
+        Reply::Rollback(key, edition, update) => {
+            print_held(alloc, b"rollback", key, *edition, *update)
+        }
+        Reply::Drop(key) => print_cell(alloc, b"drop", key),
+        Reply::Cells(count, lines) => print_cells(alloc, *count, lines),
+        Reply::Refused(code, values) => print_refusal(alloc, *code, values),
+    }
+}

@@ -1,0 +1,151 @@
+//! Lines and replies, worked out by hand from the rules.
+
+use super::*;
+use chart_model::{Key, Octets};
+use std::alloc::{AllocError, Global};
+use std::test::Fail;
+
+/// An event, in a few words.
+fn shown(alloc: Global, event: &Event) -> Result<Vec<u8>, AllocError> {
+    match event {
+        Event::Info(name) => Ok(format!(in alloc; "info {}", name.as_str())?.into_bytes()),
+        Event::Load(name) => Ok(format!(in alloc; "load {}", name.as_str())?.into_bytes()),
+        Event::Rollback(cell, update) => {
+            let mut text = format!(in alloc; "rollback {update} ")?.into_bytes();
+            text.extend_from_slice(cell.as_slice())?;
+            Ok(text)
+        }
+        Event::Drop(cell) => {
+            let mut text = Vec::from_slice(alloc, b"drop ")?;
+            text.extend_from_slice(cell.as_slice())?;
+            Ok(text)
+        }
+        Event::Cells => Vec::from_slice(alloc, b"cells"),
+    }
+}
+
+/// What line 7 is read as, in a few words.
+fn answer(alloc: Global, line: &[u8]) -> Result<Vec<u8>, AllocError> {
+    match &read_line(alloc, line, 7) {
+        Ok(None) => Vec::from_slice(alloc, b"nothing"),
+        Ok(Some(event)) => shown(alloc, event),
+        Err(LineFault::BadLine(number)) => Ok(format!(in alloc; "bad {number}")?.into_bytes()),
+        Err(LineFault::NoMemory) => Vec::from_slice(alloc, b"no memory"),
+    }
+}
+
+/// A text with so many letters behind it.
+fn with_letters(alloc: Global, front: &[u8], count: usize) -> Result<Vec<u8>, AllocError> {
+    let mut line = Vec::from_slice(alloc, front)?;
+    for _ in 0..count {
+        line.push(b'x')?;
+    }
+    Ok(line)
+}
+
+#[test]
+fn lines(rt: HostRuntime) -> Result<(), Fail> {
+    let cases: [(&[u8], &[u8]); 36] = [
+        (b"", b"nothing"),
+        (b"#", b"nothing"),
+        (b"# cells", b"nothing"),
+        (b"#\r", b"nothing"),
+        (b"info ENC/AA5TEST1.000", b"info ENC/AA5TEST1.000"),
+        (b"load !~", b"load !~"),
+        (b"load #", b"load #"),
+        (b"load load", b"load load"),
+        (b"rollback AA5TEST1 7", b"rollback 7 AA5TEST1"),
+        (b"rollback AA5TEST1 0", b"rollback 0 AA5TEST1"),
+        (b"rollback X 000000012", b"rollback 12 X"),
+        (b"rollback 1 999999999", b"rollback 999999999 1"),
+        (b"drop ZZ", b"drop ZZ"),
+        (
+            b"drop 12345678901234567890123456789012",
+            b"drop 12345678901234567890123456789012",
+        ),
+        (b"cells", b"cells"),
+        // no words, or not these
+        (b" ", b"bad 7"),
+        (b"\r", b"bad 7"),
+        (b" #", b"bad 7"),
+        (b" cells", b"bad 7"),
+        (b"cells ", b"bad 7"),
+        (b"cells x", b"bad 7"),
+        (b"Cells", b"bad 7"),
+        (b"cell", b"bad 7"),
+        (b"load", b"bad 7"),
+        (b"load ", b"bad 7"),
+        (b"load  T", b"bad 7"),
+        (b"load T ", b"bad 7"),
+        (b"load T U", b"bad 7"),
+        (b"load\tT", b"bad 7"),
+        (b"load T\xE9", b"bad 7"),
+        (b"drop 123456789012345678901234567890123", b"bad 7"),
+        (b"rollback X", b"bad 7"),
+        (b"rollback X 1234567890", b"bad 7"),
+        (b"rollback X +1", b"bad 7"),
+        (b"rollback  1", b"bad 7"),
+        (b"rollback X 1 2", b"bad 7"),
+    ];
+    for (line, read) in &cases {
+        let text = answer(rt.alloc(), line)?;
+        assert!(rt; text.as_slice() == *read, "{line:?}");
+    }
+    lines_are_read();
+    long_lines_are_read_by_their_front();
+    Ok(())
+}
+
+#[test]
+fn long_lines(rt: HostRuntime) -> Result<(), Fail> {
+    let alloc = rt.alloc();
+    let longest_name = with_letters(alloc, b"load ", 255)?;
+    assert!(rt; answer(alloc, &longest_name)? == longest_name);
+    let cases: [(&[u8], usize, &[u8]); 4] = [
+        (b"load ", 256, b"bad 7"),
+        (b"load ", 1019, b"bad 7"),
+        (b"load ", 1020, b"bad 7"),
+        (b"#", 1024, b"nothing"),
+    ];
+    for (front, count, read) in &cases {
+        let line = with_letters(alloc, front, *count)?;
+        let text = answer(alloc, &line)?;
+        assert!(rt; text.as_slice() == *read, "{count}");
+    }
+    Ok(())
+}
+
+#[test]
+fn replies(rt: HostRuntime) -> Result<(), Fail> {
+    let alloc = rt.alloc();
+    let key = Key::from_bytes(b"AA5TEST1").ok_or("a key")?;
+    let lines = Octets::from_vec(Vec::from_slice(alloc, b"cell AA5TEST1 1 0 1 2\n")?);
+    let values = Octets::from_vec(Vec::from_slice(alloc, b"AA5TEST1 7")?);
+    let none = Octets::from_vec(Vec::new(alloc));
+    let cases: [(Reply, &[u8]); 8] = [
+        (
+            Reply::Info(key, 1, 2, 18_446_744_073_709_551_615),
+            b"ok info AA5TEST1 1 2 18446744073709551615\n",
+        ),
+        (Reply::Load(key, 1, 0), b"ok load AA5TEST1 1 0\n"),
+        (Reply::Cancel(key), b"ok cancel AA5TEST1\n"),
+        (
+            Reply::Rollback(key, 3, 4_294_967_295),
+            b"ok rollback AA5TEST1 3 4294967295\n",
+        ),
+        (Reply::Drop(key), b"ok drop AA5TEST1\n"),
+        (
+            Reply::Cells(1, lines),
+            b"ok cells 1\ncell AA5TEST1 1 0 1 2\n",
+        ),
+        (Reply::Refused(74, values), b"no 74 AA5TEST1 7\n"),
+        (Reply::Refused(72, none), b"no 72\n"),
+    ];
+    for (reply, bytes) in &cases {
+        assert!(rt;
+            print_reply(alloc, reply)?.as_slice() == *bytes,
+            "{reply:?}"
+        );
+    }
+    Ok(())
+}
