@@ -7,7 +7,7 @@ use Rattle.script_reader.specs.declared.event.Event.{Event}
 use Rattle.script_reader.specs.declared.event.Event.TheVariants.{Info, Load, Rollback, Drop, Cells}
 use Rattle.script_reader.specs.declared.fault.LineFault.{LineFault}
 use Rattle.script_reader.specs.declared.fault.LineFault.TheVariants.{BadLine, NoMemory}
-use Rattle.script_reader.specs.Line.{AskFor, Spells, IsSilent, IsBad}
+use Rattle.script_reader.specs.Line.{AskFor, NamesFile, Spells, IsSilent, IsBad}
 use Rattle.script_reader.specs.Reading.{words_of, event_of, is_silent, event_or_bad, event_in, Answers}
 use Rattle.script_reader.proofs.WordTests.{KeysAreTested}
 use Rattle.script_reader.proofs.Events.{some_is, found, given, spelled_short}
@@ -130,7 +130,7 @@ answer_ok answer wanted event h e = sym (subst (λ (a : Answer). Answers a wante
 pub answer_bad : (answer wanted : Answer) (number : ℕ) → Answers answer wanted → answer ≡ Err (BadLine number) → wanted ≡ Err (BadLine number)
 answer_bad answer wanted number h e = sym (subst (λ (a : Answer). Answers a wanted) e h)
 
-pub answer_memory : (answer wanted : Answer) → Answers answer wanted → answer ≡ Err NoMemory → (event : Event) × (wanted ≡ Ok (Some event))
+pub answer_memory : (answer wanted : Answer) → Answers answer wanted → answer ≡ Err NoMemory → (event : Event) × (wanted ≡ Ok (Some event)) × NamesFile event
 answer_memory answer wanted h e = subst (λ (a : Answer). Answers a wanted) e h
 
 -- where memory didn't run out the answer is what was wanted

@@ -14,7 +14,7 @@ use Rattle.script_reader.specs.Word.{IsWord, is_word}
 use Rattle.script_reader.specs.Number.{IsShortNumber, is_short_number}
 use Rattle.script_reader.specs.declared.event.Event.{Event}
 use Rattle.script_reader.specs.declared.event.Event.TheVariants.{Info, Load, Rollback, Drop, Cells}
-use Rattle.script_reader.specs.Line.{AskFor, Spells}
+use Rattle.script_reader.specs.Line.{AskFor, NamesFile, Spells}
 use Rattle.script_reader.specs.Reading.{words_of, info_in, load_in, rollback_in, drop_in, event_alone, event_with_one, event_with_two, event_of}
 use Rattle.script_reader.proofs.WordTests.{KeysAreTested, Decides-word, Decides-short, no_short}
 use Rattle.script_reader.proofs.Parting.{visible_unparted, digits_unparted, tested_unparted, split_one, split_two, split_three}
@@ -186,12 +186,12 @@ rollback_missed cell digits other =
 
 -- memory that runs out at the name of a file, seen from the verb
 pub info_failed : {T E : Type 0} (verb word : List ℕ) (r : Result T E) → bytes_eq verb (codes "info") ≡ true → OnErr r (info_in word ≡ Some (Info word))
-    → OnErr r ((event : Event) × (event_with_one verb word ≡ Some event))
-info_failed verb word r is h = on_err_weaker r (λ e. (Info word, rw is e)) h
+    → OnErr r ((event : Event) × (event_with_one verb word ≡ Some event) × NamesFile event)
+info_failed verb word r is h = on_err_weaker r (λ e. (Info word, rw is e, tt)) h
 
 pub load_failed : {T E : Type 0} (verb word : List ℕ) (r : Result T E) → bytes_eq verb (codes "info") ≡ false → bytes_eq verb (codes "load") ≡ true
-    → OnErr r (load_in word ≡ Some (Load word)) → OnErr r ((event : Event) × (event_with_one verb word ≡ Some event))
-load_failed verb word r other is h = on_err_weaker r (λ e. (Load word, rw (other, is) e)) h
+    → OnErr r (load_in word ≡ Some (Load word)) → OnErr r ((event : Event) × (event_with_one verb word ≡ Some event) × NamesFile event)
+load_failed verb word r other is h = on_err_weaker r (λ e. (Load word, rw (other, is) e, tt)) h
 
 -- ---- what the line is
 

@@ -24,6 +24,14 @@ AskFor (Rollback cell update) words = AskForRollback cell update words
 AskFor (Drop cell) words = (words ≡ codes "drop" ∷ cell ∷ []) × IsKey cell
 AskFor Cells words = words ≡ codes "cells" ∷ []
 
+-- the events that name a file
+abbrev pub NamesFile : Event → Type 0
+NamesFile (Info name) = ⊤
+NamesFile (Load name) = ⊤
+NamesFile (Rollback cell update) = ⊥
+NamesFile (Drop cell) = ⊥
+NamesFile Cells = ⊥
+
 -- the line is such words, parted by single spaces, with nothing before the first and nothing behind the last
 pub record Spells (line : List ℕ) (event : Event) : Type 0 where
   pub words : List (List ℕ)

@@ -10,6 +10,7 @@ use Rattle.script_reader.specs.Number.{is_short_number}
 use Rattle.script_reader.specs.declared.event.Event.{Event}
 use Rattle.script_reader.specs.declared.event.Event.TheVariants.{Info, Load, Rollback, Drop, Cells}
 use Rattle.script_reader.specs.declared.fault.LineFault.{LineFault}
+use Rattle.script_reader.specs.Line.{NamesFile}
 use Rattle.script_reader.specs.declared.fault.LineFault.TheVariants.{BadLine, NoMemory}
 
 -- what is between the spaces of a line
@@ -66,8 +67,8 @@ event_or_bad number None = Err (BadLine number)
 abbrev pub event_in : ℕ → List ℕ → Result (Option Event) LineFault
 event_in number line = if is_silent line then Ok None else event_or_bad number (event_of (words_of line))
 
--- an answer is what was wanted; memory may run out only where that was an event
+-- an answer is what was wanted; memory may run out only where that was an event that names a file
 abbrev pub Answers : Result (Option Event) LineFault → Result (Option Event) LineFault → Type 0
 Answers (Ok event) wanted = Ok event ≡ wanted
 Answers (Err (BadLine number)) wanted = Err (BadLine number) ≡ wanted
-Answers (Err NoMemory) wanted = (event : Event) × (wanted ≡ Ok (Some event))
+Answers (Err NoMemory) wanted = (event : Event) × (wanted ≡ Ok (Some event)) × NamesFile event

@@ -3,6 +3,7 @@
 ghost use Rattle.std.specs.Prelude.{◌≡◌, IfOk, OnErr, Some};
 ghost use Rattle.script_reader.specs.declared.event.Event.{Event as EventValue};
 ghost use Rattle.script_reader.specs.declared.event.Event.TheVariants.{Info, Load};
+ghost use Rattle.script_reader.specs.Line.{NamesFile};
 ghost use Rattle.script_reader.specs.Reading.{info_in, load_in, rollback_in, drop_in};
 ghost use Rattle.script_reader.specs.Reading.{words_of, event_alone, event_with_one, event_with_two, event_of};
 
@@ -81,7 +82,8 @@ fn drop_of(cell: &[u8]) -> Option<Event>
 /// What a verb and one word ask for.
 fn event_with_one(alloc: Global, verb: &[u8], word: &[u8]) -> Result<Option<Event>, AllocError>
     ensures event { IfOk result (λ event. event ≡ event_with_one verb.now word.now) }
-    ensures memory { OnErr result ((event : EventValue) × (event_with_one verb.now word.now ≡ Some event)) }
+    ensures memory { OnErr result ((event : EventValue) ×
+        (event_with_one verb.now word.now ≡ Some event) × NamesFile event) }
 {
     if verb == b"info".as_slice() {
         info_of(alloc, word)
@@ -109,7 +111,8 @@ fn event_with_two(verb: &[u8], first: &[u8], second: &[u8]) -> Option<Event>
 #[tactic(auto, unfolding(crate::specs::Reading::event_of))]
 pub fn event_on(alloc: Global, text: &[u8]) -> Result<Option<Event>, AllocError>
     ensures event { IfOk result (λ event. event ≡ event_of (words_of text.now)) }
-    ensures memory { OnErr result ((event : EventValue) × (event_of (words_of text.now) ≡ Some event)) }
+    ensures memory { OnErr result ((event : EventValue) ×
+        (event_of (words_of text.now) ≡ Some event) × NamesFile event) }
 {
     let (verb, rest) = cut_word(text);
     let Some(rest) = rest else {

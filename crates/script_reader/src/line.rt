@@ -3,7 +3,7 @@
 ghost use Rattle.std.specs.Prelude.{◌≡◌, ◌↔◌, ◌<◌, ◌≢◌, length, Some, None, Ok, Err};
 ghost use Rattle.script_reader.specs.declared.event.Event.{Event as EventValue};
 ghost use Rattle.script_reader.specs.declared.fault.LineFault.TheVariants.{BadLine, NoMemory};
-ghost use Rattle.script_reader.specs.Line.{Spells, IsSilent, IsBad};
+ghost use Rattle.script_reader.specs.Line.{Spells, IsSilent, IsBad, NamesFile};
 ghost use Rattle.script_reader.specs.Reading.{is_silent, event_in, Answers};
 
 use crate::event::{Event, event_on};
@@ -44,8 +44,9 @@ pub fn read_line(alloc: Global, line: &[u8], number: u64) -> Result<Option<Event
         Spells line.now event → result ≢ Err NoMemory → result ≡ Ok (Some event) }
     ensures none { (result ≡ Ok None) ↔ IsSilent line.now }
     ensures bad { (result ≡ Err (BadLine number)) ↔ IsBad line.now }
-    // Memory runs out only where the line asks for an event.
-    ensures memory { result ≡ Err NoMemory → (event : EventValue) × Spells line.now event }
+    // Memory runs out only where the line names a file.
+    ensures memory { result ≡ Err NoMemory →
+        (event : EventValue) × Spells line.now event × NamesFile event }
     ensures long { 1024 < length line.now → ¬ IsSilent line.now → result ≡ Err (BadLine number) }
     ensures function { Answers result (event_in number line.now) }
 {

@@ -1,7 +1,7 @@
 -- What is answered is what was wanted, as far as memory lasts.
 use Rattle.std.proofs.Common.{◌∙◌, sym, refl, arith}
 use Rattle.script_reader.specs.Reading.{event_in}
-use Rattle.script_reader.proofs.Answered.{answer_given, answer_free, answer_bad}
+use Rattle.script_reader.proofs.Answered.{answer_given, answer_free, answer_bad, answer_memory}
 use Rattle.script_reader.proofs.line.read_line.Goals as goal
 
 pub returns-clause-only : goal.returns-clause-only
@@ -27,3 +27,11 @@ returns-clause-long c =
       speaks = speaks;
       asks_nothing = λ event spells. let short = c.long_lines_are_read_by_their_front.ensures.short c.args.line.now event spells in omega arith;
     })
+
+pub returns-clause-memory : goal.returns-clause-memory
+returns-clause-memory c =
+    λ e.
+    let number = c.args.number in
+    let line = c.args.line.now in
+    let named = answer_memory c.read.result (event_in number line) c.read.ensures e in
+    (named.0, (c.lines_are_read.ensures.event number line named.0).0 named.1, named.2)
