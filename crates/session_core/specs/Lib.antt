@@ -1,0 +1,10 @@
+pub mod Fetch
+pub mod General
+pub mod Info
+pub mod Listing
+pub mod Values
+pub mod Refusal
+pub mod Answers
+pub mod Model
+pub mod Turn
+pub mod Session

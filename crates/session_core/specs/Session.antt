@@ -1,0 +1,46 @@
+-- What contracts see of a session, and what a turn of it does.
+use Rattle.std.specs.Prelude.{◌≡◌, ℕ, Bool, List, Result, Ok, Err}
+use Rattle.chart_ports.specs.declared.images.Images.{Images}
+use Rattle.chart_store.specs.declared.store.Store.{Store}
+use Rattle.chart_store.specs.Store.{StandsForEither, room_of, state_of}
+use Rattle.script_reader.specs.declared.event.Event.{Event}
+use Rattle.script_reader.specs.declared.reply.Reply.{Reply}
+use Rattle.session_core.specs.declared.fault.EventFault.{EventFault}
+use Rattle.session_core.specs.declared.fault.EventFault.TheVariants.{Refused, DeskFault, NoMemory}
+use Rattle.session_core.specs.declared.fault.TurnFault.{TurnFault}
+use Rattle.session_core.specs.declared.session.Session.{Session}
+use Rattle.session_core.specs.Fetch.{Fetches}
+use Rattle.session_core.specs.Model.{Model}
+use Rattle.session_core.specs.Turn.{Turn, refused, turn_of}
+
+-- its store
+abbrev pub store_of : Session → Store
+store_of session = session.store
+
+abbrev pub model_by : Store → Model
+model_by store = record { state = state_of store; room = room_of store }
+
+-- what its replies depend on
+abbrev pub model_of : Session → Model
+model_of session = model_by (store_of session)
+
+-- the answer and the model after it are those of the turn; where there is none, what is held is as it was
+abbrev pub GivesTurn : Result Reply TurnFault → Model → Model → Turn → Type 0
+GivesTurn (Ok reply) before now turn = (turn.reply ≡ reply) × (turn.model ≡ now)
+GivesTurn (Err fault) before now turn = now.state ≡ before.state
+
+-- the same of an event that is carried out: a refusal leaves all as it was
+abbrev pub GivesEvent : Result Reply EventFault → Model → Model → Turn → Type 0
+GivesEvent (Ok reply) before now turn = (turn.reply ≡ reply) × (turn.model ≡ now)
+GivesEvent (Err (Refused refusal)) before now turn = (turn ≡ refused before refusal) × (now ≡ before)
+GivesEvent (Err DeskFault) before now turn = now.state ≡ before.state
+GivesEvent (Err NoMemory) before now turn = now.state ≡ before.state
+
+-- A turn of an event: by some answers of the shelf it is the one that is given, and a crash at any moment of it leaves
+-- files that stand for what was held before, or for what the turn leaves. Nothing is said.
+pub record Turned (AreAnswers : Fetches → Type 0) (Leaves : (Images → List ℕ → Type 0) → Type 0) (said : List ℕ)
+    (event : Event) (before : Model) (IsGiven : Turn → Type 0) : Type 0 where
+  pub fetches : Fetches
+  pub answers : AreAnswers fetches
+  pub gives : IsGiven (turn_of fetches before event)
+  pub leaves : Leaves (StandsForEither said before.state (turn_of fetches before event).model.state)

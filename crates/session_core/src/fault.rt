@@ -1,0 +1,100 @@
+//! Why an event has no reply, or is refused one.
+
+ghost use Rattle.std.specs.Prelude.{◌≡◌};
+ghost use Rattle.session_core.specs.declared.fault.EventFault.TheVariants.{NoMemory as NoMemoryForEvent};
+ghost use Rattle.session_core.specs.declared.fault.TurnFault.TheVariants.{NoMemory};
+
+use crate::refusal::Refusal;
+use chart_ports::ShelfError;
+use chart_store::{SubmitFault, TakeFault};
+use std::alloc::{AllocError, AllocFailed};
+use thiserror::Error;
+use update_sequence::ReadFault;
+
+/// Why an event has no reply. What is held is as it was; the session is used no more.
+#[derive(Clone, Copy, Debug, PartialEq, Eq, Error)]
+pub enum TurnFault {
+    /// A call of the desk failed. A store that is opened again holds what was held, or what the event leaves.
+    #[error("the disk failed")]
+    DeskFault,
+    #[error("there was no memory")]
+    NoMemory,
+}
+
+impl From<AllocError> for TurnFault {
+    ghost from_gives = { λ _ e. e ≡ NoMemory };
+
+    fn from(_: AllocError) -> TurnFault {
+        TurnFault::NoMemory
+    }
+}
+
+/// Why an event is not carried out. What is held stays as it was.
+#[derive(Debug, Drop)]
+pub enum EventFault {
+    /// It is refused.
+    Refused(Refusal),
+    /// A call of the desk failed.
+    DeskFault,
+    /// There was no memory.
+    NoMemory,
+}
+
+impl From<AllocError> for EventFault {
+    ghost from_gives = { λ _ e. e ≡ NoMemoryForEvent };
+
+    fn from(_: AllocError) -> EventFault {
+        EventFault::NoMemory
+    }
+}
+
+impl<T: Drop> From<AllocFailed<T>> for EventFault {
+    ghost from_gives = { λ _ e. e ≡ NoMemoryForEvent };
+
+    fn from(_: AllocFailed<T>) -> EventFault {
+        EventFault::NoMemory
+    }
+}
+
+impl From<ShelfError> for EventFault {
+    ghost use Rattle.std.specs.Prelude.{◌≡◌};
+    ghost use Rattle.session_core.specs.Answers.{fault_of_shelf};
+
+    ghost from_gives = { λ fault e. e ≡ fault_of_shelf fault };
+
+    fn from(fault: ShelfError) -> EventFault {
+        match fault {
+            ShelfError::Failed => EventFault::Refused(Refusal::ShelfFault),
+            ShelfError::NoMemory => EventFault::NoMemory,
+        }
+    }
+}
+
+impl From<ReadFault> for EventFault {
+    ghost use Rattle.std.specs.Prelude.{◌≡◌};
+    ghost use Rattle.session_core.specs.Answers.{fault_of_read};
+
+    ghost from_gives = { λ fault e. e ≡ fault_of_read fault };
+
+    fn from(fault: ReadFault) -> EventFault {
+        match TakeFault::from(fault) {
+            TakeFault::Refused(refusal) => EventFault::Refused(Refusal::Store(refusal)),
+            TakeFault::NoMemory => EventFault::NoMemory,
+        }
+    }
+}
+
+impl From<SubmitFault> for EventFault {
+    ghost use Rattle.std.specs.Prelude.{◌≡◌};
+    ghost use Rattle.session_core.specs.Answers.{fault_of_submit};
+
+    ghost from_gives = { λ fault e. e ≡ fault_of_submit fault };
+
+    fn from(fault: SubmitFault) -> EventFault {
+        match fault {
+            SubmitFault::Refused(refusal) => EventFault::Refused(Refusal::Store(refusal)),
+            SubmitFault::DeskFault => EventFault::DeskFault,
+            SubmitFault::NoMemory => EventFault::NoMemory,
+        }
+    }
+}

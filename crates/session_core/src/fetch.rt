@@ -1,0 +1,39 @@
+//! Files by their names.
+
+ghost use Rattle.std.specs.Prelude.{◌≡◌, ◌≤◌, IsTrue};
+ghost use Rattle.session_core.specs.Answers.{Gives};
+ghost use Rattle.session_core.specs.Fetch.{AreFetched, Fetches, file_in};
+
+use crate::fault::EventFault;
+use crate::refusal::Refusal;
+use chart_model::Octets;
+use chart_ports::{Fetched, Shelf};
+use chart_store::{FILE_LIMIT, Refusal as StoreRefusal};
+use script_reader::Word;
+use std::alloc::Global;
+
+/// The bytes of the file that a shelf answered with.
+fn file_in(name: Word, fetched: Fetched) -> Result<Octets, EventFault>
+    ensures { Gives result (file_in name (Some fetched)) }
+{
+    match fetched {
+        Fetched::Bytes(bytes) => Ok(Octets::from_vec(bytes.into_vec())),
+        Fetched::Absent => Err(EventFault::Refused(Refusal::NoFile(name))),
+        Fetched::Long => {
+            let refusal = StoreRefusal::FileLong(FILE_LIMIT);
+            Err(EventFault::Refused(Refusal::Store(refusal)))
+        }
+    }
+}
+
+/// The file of this name.
+pub fn fetch<L: Shelf>(alloc: Global, name: Word, shelf: &mut L) -> Result<Octets, EventFault>
+    ensures found { (fetches : Fetches)
+        × AreFetched L.tells (L.files shelf.old) (L.faults shelf.old) (L.faults shelf.new) fetches
+        × Gives result (file_in name (fetches name)) }
+    ensures same { IsTrue L.tells → L.files shelf.new ≡ L.files shelf.old }
+    ensures later { L.faults shelf.old ≤ L.faults shelf.new }
+{
+    let fetched = shelf.fetch(alloc, name.as_str(), FILE_LIMIT)?;
+    file_in(name, fetched)
+}

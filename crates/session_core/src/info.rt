@@ -1,0 +1,31 @@
+//! The line `info`.
+
+ghost use Rattle.std.specs.Prelude.{◌≡◌, ◌≤◌, IsTrue};
+ghost use Rattle.session_core.specs.Answers.{Gives};
+ghost use Rattle.session_core.specs.Fetch.{AreFetched, Fetches};
+ghost use Rattle.session_core.specs.Info.{info_of};
+
+use crate::fault::EventFault;
+use crate::fetch::fetch;
+use crate::general::{General, read_general};
+use chart_ports::{Shelf, Steps};
+use script_reader::Word;
+use std::alloc::Global;
+use std::sync::ledger::Ledger;
+
+/// What the file of this name says of itself.
+pub fn inform<L: Shelf, C: Ledger>(
+    alloc: Global,
+    name: Word,
+    shelf: &mut L,
+    steps: &mut Steps<C>,
+) -> Result<General, EventFault>
+    ensures found { (fetches : Fetches)
+        × AreFetched L.tells (L.files shelf.old) (L.faults shelf.old) (L.faults shelf.new) fetches
+        × Gives result (info_of name (fetches name)) }
+    ensures same { IsTrue L.tells → L.files shelf.new ≡ L.files shelf.old }
+    ensures later { L.faults shelf.old ≤ L.faults shelf.new }
+{
+    let bytes = fetch(alloc, name, shelf)?;
+    Ok(read_general(alloc, bytes.as_slice(), steps)?)
+}

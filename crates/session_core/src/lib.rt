@@ -1,0 +1,23 @@
+//! One turn of a session: an event of the script is carried out, and its reply told.
+//!
+//! What is replied to an event depends on what is held, on the room in the journal, and on what the shelf
+//! answers to its fetch; what it leaves is the same, or what the one command leaves that it stands for. A
+//! refusal is a reply.
+#![tactic(auto)]
+
+mod cells;
+mod fault;
+mod fetch;
+mod general;
+mod info;
+mod laws;
+mod refusal;
+mod session;
+#[cfg(test)]
+mod tests;
+mod values;
+
+pub use fault::TurnFault;
+pub use laws::turns_follow_their_commands;
+pub use refusal::Refusal;
+pub use session::Session;

@@ -1,0 +1,105 @@
+//! Why a line is refused.
+
+ghost use Rattle.std.specs.Prelude.{◌≡◌, IfOk};
+ghost use Rattle.std.specs.List.{join_with_byte};
+ghost use Rattle.session_core.specs.Refusal.{store_code, code_of, store_values, values_of, reply_of};
+
+use crate::values::{Value, join};
+use chart_model::Octets;
+use chart_store::Refusal as StoreRefusal;
+use script_reader::{Reply, Word};
+use std::alloc::{AllocError, Global};
+
+/// Why a line is refused: with its code, what it names.
+#[derive(Debug, Drop)]
+pub enum Refusal {
+    /// 70: the line of this number asks for nothing that there is.
+    BadLine(u64),
+    /// 71: there is no file of this name.
+    NoFile(Word),
+    /// 72: the shelf failed.
+    ShelfFault,
+    /// 10 to 63, 73 and 74: the store refuses.
+    Store(StoreRefusal),
+}
+
+/// The number that says why the store refuses a command.
+fn store_code(refusal: &StoreRefusal) -> u8
+    ensures { result ≡ store_code refusal.now }
+{
+    match refusal {
+        StoreRefusal::Leader(_) => 10,
+        StoreRefusal::Directory(_) => 11,
+        StoreRefusal::Span(_) => 12,
+        StoreRefusal::Terminator(_) => 13,
+        StoreRefusal::Descriptor(_) => 14,
+        StoreRefusal::Subfield { .. } => 15,
+        StoreRefusal::NoGeneral => 20,
+        StoreRefusal::MissingField { .. } => 21,
+        StoreRefusal::Value { .. } => 22,
+        StoreRefusal::Profile(_) => 23,
+        StoreRefusal::NoBase(_) => 30,
+        StoreRefusal::StaleBase { .. } => 31,
+        StoreRefusal::Edition { .. } => 32,
+        StoreRefusal::Gap { .. } => 33,
+        StoreRefusal::Cancelled(_) => 34,
+        StoreRefusal::Present { .. } => 40,
+        StoreRefusal::Absent { .. } => 41,
+        StoreRefusal::Version { .. } => 42,
+        StoreRefusal::Foid { .. } => 43,
+        StoreRefusal::Index { .. } => 44,
+        StoreRefusal::Count { .. } => 45,
+        StoreRefusal::NoControl { .. } => 46,
+        StoreRefusal::Mixed { .. } => 47,
+        StoreRefusal::Dangling { .. } => 50,
+        StoreRefusal::EdgeNodes(_) => 51,
+        StoreRefusal::RingOpen(_) => 52,
+        StoreRefusal::WrongPointer(_) => 53,
+        StoreRefusal::FileLong(_) => 60,
+        StoreRefusal::CellsFull(_) => 61,
+        StoreRefusal::StoreFull(_) => 62,
+        StoreRefusal::BankFull { .. } => 63,
+        StoreRefusal::NoCell(_) => 73,
+        StoreRefusal::NoUpdate { .. } => 74,
+    }
+}
+
+/// What the refusal of a store names.
+fn store_values(alloc: Global, refusal: &StoreRefusal) -> Result<Octets, AllocError>
+    ensures { IfOk result (λ values. values ≡ join_with_byte 32 (store_values refusal.now)) }
+{
+    TODO
+}
+
+impl Refusal {
+    /// The number that says why.
+    pub fn code(&self) -> u8
+        ensures { result ≡ code_of self.now }
+    {
+        match self {
+            Refusal::BadLine(_) => 70,
+            Refusal::NoFile(_) => 71,
+            Refusal::ShelfFault => 72,
+            Refusal::Store(refusal) => store_code(refusal),
+        }
+    }
+
+    /// What it names, parted by single spaces.
+    fn values(&self, alloc: Global) -> Result<Octets, AllocError>
+        ensures { IfOk result (λ values. values ≡ join_with_byte 32 (values_of self.now)) }
+    {
+        match self {
+            Refusal::BadLine(number) => join(alloc, &[Value::Number(*number)]),
+            Refusal::NoFile(name) => join(alloc, &[Value::Text(name.as_str().as_bytes())]),
+            Refusal::ShelfFault => join(alloc, &[]),
+            Refusal::Store(refusal) => store_values(alloc, refusal),
+        }
+    }
+
+    /// What is replied to a line that is refused for it.
+    pub fn reply(&self, alloc: Global) -> Result<Reply, AllocError>
+        ensures { IfOk result (λ reply. reply ≡ reply_of self.now) }
+    {
+        Ok(Reply::Refused(self.code(), self.values(alloc)?))
+    }
+}
