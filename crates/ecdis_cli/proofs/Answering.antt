@@ -1,185 +1,198 @@
--- What a command answers, step by step.
-use Rattle.std.proofs.Common.{◌≡◌, ℕ, Bool, true, false, cond, List, length, leb, Option, Some, None, Result, Ok, Err, refl, sym, ◌∙◌, ap, subst}
-use Rattle.std.specs.Prelude.{IsErrOf, IsErrAnd, unwrap_or}
-use Rattle.std.proofs.lemmas.Result.{err_from_is_err_and}
-use Rattle.chart_model.specs.Answers.{◌>>=◌, or_fault_as}
+-- A line's reply, and how it is said.
+use Rattle.std.proofs.Common.{◌≡◌, ℕ, ◌+◌, ◌<◌, ◌≤◌, ◌⊎◌, Bool, List, [], ◌∷◌, ◌++◌, length, refl, sym, ◌∙◌, ap, subst, arith, inl, inr}
+use Rattle.std.specs.Prelude.{Option, Some, None, Result, Ok, Err, IsTrue}
+use Rattle.std.proofs.lemmas.List.{append-nil}
+use Rattle.std.proofs.lemmas.List.Elements.{All-nil, All-cons}
 use Rattle.chart_model.specs.State.{StateValue}
-use Rattle.chart_ports.specs.Count.{Rose}
-use Rattle.chart_ports.specs.Fetched.{fetched_of}
-use Rattle.chart_ports.specs.declared.shelf.Fetched.{Fetched}
-use Rattle.chart_ports.specs.declared.shelf.Fetched.TheVariants.{Bytes, Long}
-use Rattle.chart_ports.specs.declared.shelf.ShelfError.{ShelfError}
-use Rattle.chart_ports.specs.declared.shelf.ShelfError.TheVariants as of_shelf
-use Rattle.update_sequence.specs.Answers.{GivesRead}
-use Rattle.update_sequence.specs.declared.fault.ReadFault.{ReadFault}
-use Rattle.update_sequence.specs.declared.fault.ReadFault.TheVariants as of_read
-use Rattle.chart_store.specs.Fault.{fault_of, or_refused}
-use Rattle.chart_store.specs.Loaded as loading
-use Rattle.chart_store.specs.Loaded.{FILE_LIMIT, Outcome, loaded, loaded_with}
-use Rattle.chart_store.specs.Refusal.{refusal_of_read}
-use Rattle.chart_store.specs.declared.fault.TakeFault.{TakeFault}
-use Rattle.chart_store.specs.declared.fault.TakeFault.TheVariants as of_store
-use Rattle.chart_store.specs.declared.taken.Taken.{Taken}
-use Rattle.chart_store.specs.declared.refusal.Refusal as row
-use Rattle.chart_store.specs.declared.refusal.Refusal.TheVariants.{NoGeneral, FileLong}
-use Rattle.ecdis_cli.specs.declared.session.fault.CommandFault.{CommandFault}
-use Rattle.ecdis_cli.specs.declared.session.fault.CommandFault.TheVariants.{Refused, NoMemory}
-use Rattle.ecdis_cli.specs.declared.session.general.General.{General}
-use Rattle.ecdis_cli.specs.declared.session.refusal.Refusal.{Refusal}
-use Rattle.ecdis_cli.specs.declared.session.refusal.Refusal.TheVariants.{ShelfFault, File}
-use Rattle.ecdis_cli.specs.declared.script.event.Event.{Event}
-use Rattle.ecdis_cli.specs.Line.{is_silent}
-use Rattle.ecdis_cli.specs.Event.{event_on}
-use Rattle.ecdis_cli.specs.Turn.{turn_of, turn_on, turn_to, silent}
-use Rattle.ecdis_cli.specs.Commands.{Gives, fault_of_shelf, fault_of_store, fault_of_read}
-use Rattle.ecdis_cli.specs.Marked.{Marked}
-use Rattle.ecdis_cli.specs.General.{general_in}
-use Rattle.ecdis_cli.specs.Fetch.{Files, file_in, file_or_none, fetched}
-use Rattle.ecdis_cli.specs.Info.{info_of}
-use Rattle.ecdis_cli.specs.Load.{load_of, GivesLoaded}
+use Rattle.chart_model.specs.declared.command.Command.{Command}
+use Rattle.chart_ports.specs.Moments.{LeavesOnly, MayBeLeft}
+use Rattle.chart_ports.specs.Said.{SaysFront}
+use Rattle.chart_ports.specs.declared.images.Images.{Images}
+use Rattle.chart_ports.proofs.Moments.{started, goes_on, and_then, weaker}
+use Rattle.chart_store.specs.Images.{StandFor}
+use Rattle.chart_store.specs.Outcome.{after, state_with}
+use Rattle.chart_store.specs.Store.{StandsForEither}
+use Rattle.script_reader.specs.Reading.{event_in}
+use Rattle.script_reader.specs.Reply.{printed}
+use Rattle.script_reader.specs.declared.event.Event.{Event}
+use Rattle.script_reader.specs.declared.fault.LineFault.{LineFault}
+use Rattle.script_reader.specs.declared.reply.Reply.{Reply}
+use Rattle.session_core.specs.Fetch.{AreFetched, Files, Fetches}
+use Rattle.session_core.specs.Model.{Model, model_with}
+use Rattle.session_core.specs.Turn.{Turn, turn_of}
+use Rattle.ecdis_cli.specs.Crash.{LeavesPrefix}
+use Rattle.ecdis_cli.specs.Progress.{Answered, Interrupted, IsAfter, IsSpoken, Taken}
+use Rattle.ecdis_cli.specs.Replied.{LeavesSaying, Replied}
+use Rattle.ecdis_cli.specs.Script.{IsAnswer, commands_in, listed, output}
+use Rattle.ecdis_cli.specs.Step.{Step, said_in, said_of, step_by, step_to}
+use Rattle.ecdis_cli.specs.World.{World}
+use Rattle.ecdis_cli.proofs.Crashes.{prefix-saying, prefix-turn}
+use Rattle.ecdis_cli.proofs.Failures.{TellsFailure, failed-one}
+use Rattle.ecdis_cli.proofs.Lists.{after-none, after-one}
+use Rattle.ecdis_cli.proofs.Taking.{front-none}
 
--- ---- marks
+-- ---- what holds of a step
 
-pub Marked-map : (a b : ℕ) (P Q : Bool → Type 0) → ((mark : Bool) → P mark → Q mark) → Marked a b P → Marked a b Q
-Marked-map a b P Q f x = record { mark = x.mark; is_so = f x.mark x.is_so; cause = x.cause }
+-- a turn without a command leaves all as it was
+abbrev pub Rests : Type 0
+Rests = (fetches : Fetches) (model : Model) (event : Event) → (turn_of fetches model event).command ≡ None
+    → (turn_of fetches model event).model ≡ model
 
--- no fetch failed
-pub Marked-served : (a b : ℕ) (P : Bool → Type 0) → P false → Marked a b P
-Marked-served a b P h = record { mark = false; is_so = h; cause = λ t. absurd (let f : false ≡ true = t in cc) }
+-- a turn with one leaves what it leaves
+abbrev pub Follows : Type 0
+Follows = (fetches : Fetches) (model : Model) (event : Event) (command : Command) → (turn_of fetches model event).command ≡ Some command
+    → (turn_of fetches model event).model ≡ model_with model.room command (state_with model.state command)
 
--- a fault ends the command, whatever its fetch was
-pub Marked-stop : {A : Type 0} (a b : ℕ) (r : Result A CommandFault) (fault : CommandFault) (wanted : Bool → Result A Refusal) → IsErrAnd r (λ y. y ≡ fault)
-    → Marked a b (λ failed. Gives (Err fault) (wanted failed)) → Marked a b (λ failed. Gives r (wanted failed))
-Marked-stop {A = A} a b r fault wanted stopped x =
-    let p = err_from_is_err_and r stopped in
-    subst (λ (s : Result A CommandFault). Marked a b (λ failed. Gives s (wanted failed))) (sym (p.1 ∙ ap Err p.2)) x
+abbrev pub Speaks : Type 0
+Speaks = (reply : Reply) → 0 < length (printed reply)
 
--- the same of a file that is loaded
-pub Marked-refused : (a b : ℕ) (r : Result Taken CommandFault) (state : StateValue) (fault : CommandFault) (wanted : Bool → Result Outcome Refusal) → IsErrAnd r (λ y. y ≡ fault)
-    → Marked a b (λ failed. GivesLoaded (Err fault) state (wanted failed)) → Marked a b (λ failed. GivesLoaded r state (wanted failed))
-Marked-refused a b r state fault wanted stopped x =
-    let p = err_from_is_err_and r stopped in
-    subst (λ (s : Result Taken CommandFault). Marked a b (λ failed. GivesLoaded s state (wanted failed))) (sym (p.1 ∙ ap Err p.2)) x
+turn-held : Rests → Follows → (fetches : Fetches) (model : Model) (event : Event) (command : Option Command) → (turn_of fetches model event).command ≡ command
+    → (turn_of fetches model event).model.state ≡ after model.state (listed command ++ [])
+turn-held rests follows fetches model event None e = ap (λ (m : Model). m.state) (rests fetches model event e) ∙ sym (after-none model.state)
+turn-held rests follows fetches model event (Some command) e =
+    ap (λ (m : Model). m.state) (follows fetches model event command e) ∙ sym (after-one model.state command)
 
--- ---- steps
+held-by : Rests → Follows → (fetches : Fetches) (model : Model) (number : ℕ) (asked : Result (Option Event) LineFault)
+    → (step_by fetches model number asked).model.state ≡ after model.state (commands_in (step_by fetches model number asked ∷ []))
+held-by rests follows fetches model number (Ok None) = sym (after-none model.state)
+held-by rests follows fetches model number (Ok (Some event)) = turn-held rests follows fetches model event (turn_of fetches model event).command refl
+held-by rests follows fetches model number (Err fault) = sym (after-none model.state)
 
--- a fault ends the command
-pub Gives-stop : {A B : Type 0} (fault : CommandFault) (r : Result A Refusal) (next : A → Result B Refusal) → Gives (Err fault) r → Gives (Err fault) (r >>= next)
-Gives-stop (Refused refusal) r next h = ap (λ s. s >>= next) h
-Gives-stop NoMemory r next h = tt
+pub step-held : Rests → Follows → (fetches : Fetches) (model : Model) (number : ℕ) (line : List ℕ)
+    → (step_to fetches model number line).model.state ≡ after model.state (commands_in (step_to fetches model number line ∷ []))
+unfolding step_to
+step-held rests follows fetches model number line = held-by rests follows fetches model number (event_in number line)
 
--- a value goes on to the next step
-pub Gives-next : {A B : Type 0} (answer : Result B CommandFault) (r : Result A Refusal) (x : A) (next : A → Result B Refusal) → Gives (Ok x) r → Gives answer (next x) → Gives answer (r >>= next)
-Gives-next answer r x next h = subst (λ s. Gives answer (s >>= next)) (sym h)
+spoken-by : Speaks → (fetches : Fetches) (model : Model) (number : ℕ) (asked : Result (Option Event) LineFault) → IsSpoken (step_by fetches model number asked)
+spoken-by speaks fetches model number (Ok None) = inl refl
+spoken-by speaks fetches model number (Ok (Some event)) = inr (speaks (turn_of fetches model event).reply)
+spoken-by speaks fetches model number (Err fault) = inl refl
 
--- a fault below is refused as its row of the table
-refused-row : {A E : Type 0} (refusal : E → Option row.Refusal) (fault : E) (wanted : Result A E) → wanted ≡ Err fault
-    → Gives {A = A} (Err (fault_of_store (fault_of (refusal fault)))) (or_fault_as File (or_refused refusal wanted))
-refused-row {A = A} {E = E} refusal fault wanted h =
-    let as_row : Option row.Refusal → Result A Refusal = λ o. Err (File (unwrap_or o NoGeneral)) in
-    elim (refusal fault) as (λ o. refusal fault ≡ o → Gives {A = A} (Err (fault_of_store (fault_of o))) (or_fault_as File (or_refused refusal wanted))) [
-      | Some refused ↦ λ e. ap (λ (r : Result A E). or_fault_as File (or_refused refusal r)) h ∙ ap as_row e
-      | None ↦ λ e. tt
-    ] refl
+step-spoken : Speaks → (fetches : Fetches) (model : Model) (number : ℕ) (line : List ℕ) → IsSpoken (step_to fetches model number line)
+unfolding step_to
+step-spoken speaks fetches model number line = spoken-by speaks fetches model number (event_in number line)
 
-pub Gives-read : {A : Type 0} (fault : ReadFault) (wanted : Result A ReadFault) → GivesRead (Err fault) wanted
-    → Gives {A = A} (Err (fault_of_read fault)) (or_fault_as File (or_refused refusal_of_read wanted))
-Gives-read (of_read.File fault) wanted h = refused-row refusal_of_read (of_read.File fault) wanted h
-Gives-read (of_read.Dataset fault) wanted h = refused-row refusal_of_read (of_read.Dataset fault) wanted h
-Gives-read of_read.NoMemory wanted h = tt
+-- ---- the step is taken
 
--- ---- fetches
+pub Taken-one : Rests → Follows → Speaks → TellsFailure → (tells : Bool) (files : Files) (Leaves : (Images → List ℕ → Type 0) → Type 0)
+    (number : ℕ) (line : List ℕ) (before : World) (faults : ℕ) (fetches : Fetches) → before.faults ≤ faults
+    → AreFetched tells files before.faults faults fetches
+    → Leaves (LeavesPrefix before.model.state (step_to fetches before.model number line ∷ []) before.said)
+    → Taken tells files Leaves before faults (fetches ∷ []) (step_to fetches before.model number line ∷ [])
+Taken-one rests follows speaks law tells files Leaves number line before faults fetches later answers crash =
+    let step : Step = step_to fetches before.model number line in
+    record {
+      told = All-cons (IsAnswer tells files) fetches [] answers.told (All-nil (IsAnswer tells files));
+      spoken = All-cons IsSpoken step [] (step-spoken speaks fetches before.model number line) (All-nil IsSpoken);
+      held = step-held rests follows fetches before.model number line;
+      failed = failed-one law fetches before.model number line before.faults faults later answers.cause;
+      later = later;
+      crash = crash;
+    }
 
--- what the shelf has is what it answers
-file_or_none-fetched : (name : List ℕ) (file : Option (List ℕ)) → file_or_none name file ≡ file_in name (fetched_of FILE_LIMIT file)
-file_or_none-fetched name None = refl
-file_or_none-fetched name (Some bytes) =
-    elim (leb (length bytes) FILE_LIMIT) as (λ b. or_fault_as File (cond b (Ok bytes) (Err (FileLong FILE_LIMIT))) ≡ file_in name (cond b (Bytes bytes) Long)) [ true ↦ refl | false ↦ refl ]
+output-one : (step : Step) → output (step ∷ []) ≡ said_in step
+output-one step = append-nil (said_in step)
 
-pub fetched-found : (files : Files) (name shown : List ℕ) (a b : ℕ) (answer : Result (List ℕ) CommandFault) (fetched' : Fetched)
-    → shown ≡ name → fetched' ≡ fetched_of FILE_LIMIT (files shown) → Gives answer (file_in name fetched')
-    → Marked a b (λ failed. Gives answer (fetched files failed name))
-unfolding fetched
-fetched-found files name shown a b answer fetched' same is h =
-    Marked-served a b (λ failed. Gives answer (fetched files failed name))
-    (subst (Gives answer) (ap (file_in name) (is ∙ ap (λ (n : List ℕ). fetched_of FILE_LIMIT (files n)) same) ∙ sym (file_or_none-fetched name (files name))) h)
+module _ {D : Type 0} (clock : D → ℕ) (might : D → ℕ → Images → List ℕ → Type 0)
+    (rests : Rests) (follows : Follows) (speaks : Speaks) (law : TellsFailure)
+    (tells : Bool) (files : Files) (number : ℕ) (line : List ℕ) (before : World) (faults : ℕ) (later : before.faults ≤ faults) where
+  -- the moments of a turn
+  turn-crash : (d0 d1 : D) (fetches : Fetches)
+      → LeavesOnly clock might d0 d1 (StandsForEither before.said before.model.state (step_to fetches before.model number line).model.state)
+      → LeavesOnly clock might d0 d1 (LeavesPrefix before.model.state (step_to fetches before.model number line ∷ []) before.said)
+  turn-crash d0 d1 fetches moments =
+      let step : Step = step_to fetches before.model number line in
+      weaker clock might d0 d1 (StandsForEither before.said before.model.state step.model.state) (LeavesPrefix before.model.state (step ∷ []) before.said)
+      (λ images so_far x. prefix-turn before.model.state step.model.state step before.said so_far images
+      (step-held rests follows fetches before.model number line) x) moments
 
--- a fetch that gives nothing
-pub fetched-failed : (files : Files) (name : List ℕ) (a b : ℕ) (fault : ShelfError) → (IsErrOf {T = Fetched} (Err fault) of_shelf.Failed → Rose a b)
-    → Marked a b (λ failed. Gives {A = List ℕ} (Err (fault_of_shelf fault)) (fetched files failed name))
-unfolding fetched
-fetched-failed files name a b of_shelf.Failed cause = record { mark = true; is_so = refl; cause = λ _. cause refl }
-fetched-failed files name a b of_shelf.NoMemory cause = record { mark = false; is_so = tt; cause = λ t. absurd (let f : false ≡ true = t in cc) }
+  -- there is no reply
+  pub answered-silent : (IsGiven : Step → Type 0) (d0 d1 : D) (now : World) → now.faults ≡ faults → now.said ≡ before.said
+      → ((step : Step) → IsGiven step → (step.reply ≡ None) × (step.model ≡ now.model))
+      → Replied tells files (LeavesOnly clock might d0 d1) before.said number line before.model before.faults faults IsGiven
+      → Answered tells files (LeavesOnly clock might d0 d1) number line before now
+  answered-silent IsGiven d0 d1 now counted silent gives x =
+      let step : Step = step_to x.fetches before.model number line in
+      let given : (step.reply ≡ None) × (step.model ≡ now.model) = gives step x.gives in
+      record {
+        fetches = x.fetches;
+        taken = subst (λ (n : ℕ). Taken tells files (LeavesOnly clock might d0 d1) before n (x.fetches ∷ []) (step ∷ [])) (sym counted)
+            (Taken-one rests follows speaks law tells files (LeavesOnly clock might d0 d1) number line before faults x.fetches later x.answers (turn-crash d0 d1 x.fetches x.leaves));
+        after = record {
+          said = silent ∙ sym (append-nil before.said) ∙ ap (λ (o : Option Reply). before.said ++ (said_of o ++ [])) (sym given.0);
+          reached = sym given.1;
+        };
+      }
 
--- ---- info
+  -- it isn't come to
+  pub interrupted-before : (IsGiven : Step → Type 0) (d0 d1 : D) (now : World) → now.faults ≡ faults → now.said ≡ before.said
+      → Replied tells files (LeavesOnly clock might d0 d1) before.said number line before.model before.faults faults IsGiven
+      → Interrupted tells files (LeavesOnly clock might d0 d1) number line before now
+  interrupted-before IsGiven d0 d1 now counted silent x =
+      let step : Step = step_to x.fetches before.model number line in
+      record {
+        fetches = x.fetches;
+        taken = subst (λ (n : ℕ). Taken tells files (LeavesOnly clock might d0 d1) before n (x.fetches ∷ []) (step ∷ [])) (sym counted)
+            (Taken-one rests follows speaks law tells files (LeavesOnly clock might d0 d1) number line before faults x.fetches later x.answers (turn-crash d0 d1 x.fetches x.leaves));
+        front = front-none before.said (output (step ∷ [])) now.said silent;
+      }
 
-pub info_of-stop : (fault : CommandFault) (file : Result (List ℕ) Refusal) → Gives (Err fault) file → Gives {A = General} (Err fault) (info_of file)
-unfolding info_of
-info_of-stop fault file h = Gives-stop fault file _ h
+  -- the moments of a turn, and of its reply
+  said-crash : (d0 d1 d2 : D) (may_leave : ℕ → List ℕ → Type 0) (fetches : Fetches) (left : Model) (reply : Reply) (middle : List ℕ) → middle ≡ before.said
+      → (step_to fetches before.model number line).reply ≡ Some reply → (step_to fetches before.model number line).model ≡ left
+      → ((images : Images) → MayBeLeft may_leave images → StandFor images left.state)
+      → LeavesOnly clock might d0 d1 (StandsForEither before.said before.model.state (step_to fetches before.model number line).model.state)
+      → LeavesOnly clock might d1 d2 (LeavesSaying may_leave middle (printed reply))
+      → LeavesOnly clock might d0 d2 (LeavesPrefix before.model.state (step_to fetches before.model number line ∷ []) before.said)
+  said-crash d0 d1 d2 may_leave fetches left reply middle silent replied reached stands first then_said =
+      let step : Step = step_to fetches before.model number line in
+      and_then clock might d0 d1 d2 (LeavesPrefix before.model.state (step ∷ []) before.said) (turn-crash d0 d1 fetches first)
+      (weaker clock might d1 d2 (LeavesSaying may_leave middle (printed reply)) (LeavesPrefix before.model.state (step ∷ []) before.said)
+      (λ images so_far x. prefix-saying before.model.state left.state step before.said so_far images
+      (ap (λ (m : Model). m.state) (sym reached) ∙ step-held rests follows fetches before.model number line)
+      (stands images x.left)
+      (subst (λ (l : List ℕ). SaysFront before.said l so_far) (ap said_of (sym replied))
+      (subst (λ (l : List ℕ). SaysFront l (printed reply) so_far) silent x.front))) then_said)
 
--- the file that was fetched is none that tells of itself
-pub info_of-read : (file : Result (List ℕ) Refusal) (bytes shown : List ℕ) (fault : ReadFault) → shown ≡ bytes → GivesRead (Err fault) (general_in shown) → Gives (Ok bytes) file → Gives {A = General} (Err (fault_of_read fault)) (info_of file)
-unfolding info_of
-info_of-read file bytes shown fault same h x =
-    Gives-next (Err (fault_of_read fault)) file bytes _ x
-    (Gives-read fault (general_in bytes) (subst (λ (l : List ℕ). GivesRead (Err fault) (general_in l)) same h))
+  -- the reply was said
+  pub answered-said : (IsGiven : Step → Type 0) (d0 d1 d2 : D) (may_leave : ℕ → List ℕ → Type 0) (reply : Reply) (middle : List ℕ) (now : World)
+      → now.faults ≡ faults → middle ≡ before.said → now.said ≡ middle ++ printed reply
+      → ((step : Step) → IsGiven step → (step.reply ≡ Some reply) × (step.model ≡ now.model))
+      → ((images : Images) → MayBeLeft may_leave images → StandFor images now.model.state)
+      → Replied tells files (LeavesOnly clock might d0 d1) before.said number line before.model before.faults faults IsGiven
+      → LeavesOnly clock might d1 d2 (LeavesSaying may_leave middle (printed reply))
+      → Answered tells files (LeavesOnly clock might d0 d2) number line before now
+  answered-said IsGiven d0 d1 d2 may_leave reply middle now counted silent said gives stands x then_said =
+      let step : Step = step_to x.fetches before.model number line in
+      let given : (step.reply ≡ Some reply) × (step.model ≡ now.model) = gives step x.gives in
+      record {
+        fetches = x.fetches;
+        taken = subst (λ (n : ℕ). Taken tells files (LeavesOnly clock might d0 d2) before n (x.fetches ∷ []) (step ∷ [])) (sym counted)
+            (Taken-one rests follows speaks law tells files (LeavesOnly clock might d0 d2) number line before faults x.fetches later x.answers
+            (said-crash d0 d1 d2 may_leave x.fetches now.model reply middle silent given.0 given.1 stands x.leaves then_said));
+        after = record {
+          said = said ∙ ap (λ (l : List ℕ). l ++ printed reply) silent ∙ ap (λ (o : Option Reply). before.said ++ said_of o) (sym given.0)
+              ∙ ap (λ (l : List ℕ). before.said ++ l) (sym (output-one step));
+          reached = sym given.1;
+        };
+      }
 
-pub info_of-done : (file : Result (List ℕ) Refusal) (bytes shown : List ℕ) (general : General) → shown ≡ bytes → general_in shown ≡ Ok general → Gives (Ok bytes) file → Gives (Ok general) (info_of file)
-unfolding info_of
-info_of-done file bytes shown general same h x =
-    Gives-next (Ok general) file bytes (λ l. or_fault_as File (or_refused refusal_of_read (general_in l))) x (ap (λ (l : List ℕ). or_fault_as File (or_refused refusal_of_read (general_in l))) (sym same) ∙ ap (λ (r : Result General ReadFault). or_fault_as File (or_refused refusal_of_read r)) h)
-
--- ---- load
-
-pub load_of-stop : (state state' : StateValue) (fault : CommandFault) (file : Result (List ℕ) Refusal) → Gives (Err fault) file → GivesLoaded (Err fault) state' (load_of state file)
-unfolding load_of
-load_of-stop state state' (Refused refusal) file h = ap (λ f. f >>= λ bytes. or_fault_as File (loaded state bytes)) h
-load_of-stop state state' NoMemory file h = tt
-
--- the file that was fetched, and what is answered to it
-load_of-file : (state : StateValue) (file : Result (List ℕ) Refusal) (bytes : List ℕ) → Gives (Ok bytes) file → load_of state file ≡ or_fault_as File (loaded state bytes)
-unfolding load_of
-load_of-file state file bytes h = ap (λ f. f >>= λ l. or_fault_as File (loaded state l)) h
-
-pub load_of-refused : (state state' : StateValue) (fault : TakeFault) (file : Result (List ℕ) Refusal) (bytes : List ℕ) → Gives (Ok bytes) file
-    → loading.GivesLoaded (Err fault) state' (loaded state bytes) → GivesLoaded (Err (fault_of_store fault)) state' (load_of state file)
-load_of-refused state state' (of_store.Refused refusal) file bytes found h = load_of-file state file bytes found ∙ ap (or_fault_as File) h
-load_of-refused state state' of_store.NoMemory file bytes found h = tt
-
-pub load_of-done : (state state' : StateValue) (cell : Taken) (file : Result (List ℕ) Refusal) (bytes : List ℕ) → Gives (Ok bytes) file
-    → loading.GivesLoaded (Ok cell) state' (loaded state bytes) → GivesLoaded (Ok cell) state' (load_of state file)
-load_of-done state state' cell file bytes found h = load_of-file state file bytes found ∙ ap (or_fault_as File) h
-
--- ---- turns
-
-pub turn_to-event : (files : Files) (state : StateValue) (number : ℕ) (line : List ℕ) (failed : Bool) (event : Event) → is_silent line ≡ false → event_on line ≡ Some event
-    → turn_to files state number line failed ≡ turn_of files state failed event
-unfolding turn_to
-turn_to-event files state number line failed event spoken is =
-    ap (λ (b : Bool). cond b (silent state) (turn_on files state number failed (event_on line))) spoken
-    ∙ ap (turn_on files state number failed) is
-
--- ---- faults of the shelf
-
--- an answer is no other than this fault
-is_fault : {A : Type 0} (r : Result A CommandFault) (fault other : CommandFault) → IsErrAnd r (λ y. y ≡ fault) → r ≡ Err other → other ≡ fault
-is_fault r fault other stopped is =
-    let p = err_from_is_err_and r stopped in
-    let same : ◌≡◌ {A = CommandFault} other p.0 = let e : Err other ≡ Err p.0 = sym is ∙ p.1 in cc in
-    same ∙ p.2
-
--- a fetch that gives nothing
-pub fetch-cause : {A : Type 0} (a b : ℕ) (r : Result A CommandFault) (fault : ShelfError) → IsErrAnd r (λ y. y ≡ fault_of_shelf fault)
-    → (IsErrOf {T = Fetched} (Err fault) of_shelf.Failed → Rose a b) → r ≡ Err (Refused ShelfFault) → Rose a b
-fetch-cause a b r of_shelf.Failed stopped cause is = cause refl
-fetch-cause a b r of_shelf.NoMemory stopped cause is = absurd (let e : Refused ShelfFault ≡ NoMemory = is_fault r NoMemory (Refused ShelfFault) stopped is in cc)
-
--- a fault of the store
-pub store-cause : {A X : Type 0} (r : Result A CommandFault) (fault : TakeFault) → IsErrAnd r (λ y. y ≡ fault_of_store fault) → r ≡ Err (Refused ShelfFault) → X
-store-cause r (of_store.Refused refusal) stopped is = absurd (let e : Refused ShelfFault ≡ Refused (File refusal) = is_fault r _ _ stopped is in cc)
-store-cause r of_store.NoMemory stopped is = absurd (let e : Refused ShelfFault ≡ NoMemory = is_fault r _ _ stopped is in cc)
-
--- an error that is passed on
-pub passed-cause : {A B : Type 0} (a b : ℕ) (r : Result A CommandFault) (fault : CommandFault) → IsErrAnd r (λ y. y ≡ fault)
-    → (IsErrOf {T = B} (Err fault) (Refused ShelfFault) → Rose a b) → r ≡ Err (Refused ShelfFault) → Rose a b
-passed-cause a b r fault stopped cause is = cause (ap Err (sym (is_fault r fault (Refused ShelfFault) stopped is)))
+  -- a front of the reply was said
+  pub interrupted-said : (IsGiven : Step → Type 0) (d0 d1 d2 : D) (may_leave : ℕ → List ℕ → Type 0) (reply : Reply) (middle : List ℕ) (now : World)
+      → now.faults ≡ faults → middle ≡ before.said → SaysFront middle (printed reply) now.said
+      → ((step : Step) → IsGiven step → (step.reply ≡ Some reply) × (step.model ≡ now.model))
+      → ((images : Images) → MayBeLeft may_leave images → StandFor images now.model.state)
+      → Replied tells files (LeavesOnly clock might d0 d1) before.said number line before.model before.faults faults IsGiven
+      → LeavesOnly clock might d1 d2 (LeavesSaying may_leave middle (printed reply))
+      → Interrupted tells files (LeavesOnly clock might d0 d2) number line before now
+  interrupted-said IsGiven d0 d1 d2 may_leave reply middle now counted silent front gives stands x then_said =
+      let step : Step = step_to x.fetches before.model number line in
+      let given : (step.reply ≡ Some reply) × (step.model ≡ now.model) = gives step x.gives in
+      record {
+        fetches = x.fetches;
+        taken = subst (λ (n : ℕ). Taken tells files (LeavesOnly clock might d0 d2) before n (x.fetches ∷ []) (step ∷ [])) (sym counted)
+            (Taken-one rests follows speaks law tells files (LeavesOnly clock might d0 d2) number line before faults x.fetches later x.answers
+            (said-crash d0 d1 d2 may_leave x.fetches now.model reply middle silent given.0 given.1 stands x.leaves then_said));
+        front = subst (λ (l : List ℕ). SaysFront before.said l now.said) (ap said_of (sym given.0) ∙ sym (output-one step))
+            (subst (λ (l : List ℕ). SaysFront l (printed reply) now.said) silent front);
+      }

@@ -1,9 +1,8 @@
-pub mod Texts
-pub mod Lines
-pub mod Failures
-pub mod Steps
-pub mod Blames
-pub mod Runs
-pub mod Answering
-pub mod Leaving
-pub mod CellLines
+mod Lists
+mod Crashes
+mod Taking
+mod Failures
+mod Lines
+mod Steps
+mod Runs
+mod Answering

@@ -1,28 +1,23 @@
--- Lines and their replies.
-use Rattle.std.proofs.Common.{◌≡◌, ℕ, zero, suc, ◌+◌, ◌-◌, ◌<◌, ◌≤◌, ◌⊎◌, Bool, true, false, cond, ◌&&◌, List, [], ◌∷◌, ◌++◌, length, take, drop, get_or, eqb, refl, sym, ◌∙◌, ap, subst, arith, inl, inr, append_assoc, length-append, length-drop, length-take-le}
-use Rattle.std.specs.Prelude.{Option, Some, None, nat_eq, codes}
-use Rattle.std.specs.Str.{bytes_eq}
-use Rattle.std.specs.List.{slice_split, starts_with}
+-- Lines of a script, and their steps.
+use Rattle.std.proofs.Common.{◌≡◌, ℕ, zero, suc, ◌+◌, ◌-◌, ◌<◌, ◌≤◌, ◌⊎◌, Bool, true, false, cond, List, [], ◌∷◌, ◌++◌, length, take, drop, get_or, eqb, refl, sym, ◌∙◌, ap, subst, arith, inl, inr, append_assoc, length-append, length-take-le}
+use Rattle.std.specs.Prelude.{Option, Result}
+use Rattle.std.specs.List.{slice_split}
 use Rattle.std.specs.Str.Lines.{lines, lines_of_parts, strip_carriage_return}
-use Rattle.std.specs.Option.{option_map, option_or, option_and_then}
 use Rattle.std.proofs.lemmas.Bool.Decides.{nat_tests}
-use Rattle.std.proofs.lemmas.List.{append-nil}
+use Rattle.std.proofs.lemmas.List.{append-nil, take-append-drop, take-append-le, take-take}
 use Rattle.std.proofs.lemmas.List.Elements.{All-nil, All-cons, All-head, All-tail, All-append}
 use Rattle.std.proofs.lemmas.List.Splits.{slice_split_at, slice_split_none, length-slice_split}
-use Rattle.chart_model.specs.State.{StateValue}
-use Rattle.ecdis_cli.specs.declared.script.event.Event.{Event}
-use Rattle.ecdis_cli.specs.declared.script.event.Event.TheVariants.{Info, Load, Cells}
-use Rattle.ecdis_cli.specs.declared.session.reply.Reply.TheVariants.{Refused}
-use Rattle.ecdis_cli.specs.declared.session.refusal.Refusal.TheVariants.{BadLine}
-use Rattle.ecdis_cli.specs.Line.{is_word, is_silent, word_if, word_after}
-use Rattle.ecdis_cli.specs.Event.{event_on}
-use Rattle.ecdis_cli.specs.Fetch.{Files}
-use Rattle.ecdis_cli.specs.Reply.{printed}
-use Rattle.ecdis_cli.specs.Turn.{Turn, silent, refused, turn_on, turn_to, said_of, reply_to, state_after}
-use Rattle.ecdis_cli.specs.Replies.{first_mark, other_marks, replies_from, joined, onto_ended, ended}
-use Rattle.ecdis_cli.specs.Progress.{Unbroken, output_from}
+use Rattle.script_reader.specs.Reading.{event_in}
+use Rattle.script_reader.specs.declared.event.Event.{Event}
+use Rattle.script_reader.specs.declared.fault.LineFault.{LineFault}
+use Rattle.session_core.specs.Fetch.{Fetches}
+use Rattle.session_core.specs.Model.{Model}
+use Rattle.ecdis_cli.specs.Ended.{ended, onto_ended}
+use Rattle.ecdis_cli.specs.Progress.{Unbroken}
+use Rattle.ecdis_cli.specs.Script.{first_answer, other_answers, steps_from}
+use Rattle.ecdis_cli.specs.Step.{Step, step_by, step_to}
 
--- Lines
+-- ---- lines
 
 pub parts-cons : (line : List ℕ) (parts : List (List ℕ)) → 0 < length parts → lines_of_parts (line ∷ parts) ≡ strip_carriage_return line ∷ lines_of_parts parts
 parts-cons line [] h = absurd (omega arith)
@@ -59,89 +54,59 @@ cut_at_feed (byte ∷ bytes) =
       ]
     ] refl
 
--- Replies
+pub one_more : (line : List ℕ) (byte : ℕ) → Unbroken line → eqb byte 10 ≡ false → Unbroken (line ++ byte ∷ [])
+one_more line byte h ne = All-append (λ b. eqb b 10 ≡ false) line (byte ∷ []) h (All-cons (λ b. eqb b 10 ≡ false) byte [] ne (All-nil (λ b. eqb b 10 ≡ false)))
 
--- what is said to the lines after the first, which was replied to so
-abbrev pub output_behind : Files → StateValue → ℕ → List ℕ → List ℕ → List Bool → List ℕ
-output_behind files state number line rest marks = output_from files (state_after files state number line (first_mark marks)) (number + 1) rest (other_marks marks)
+pub All-front : (xs ys : List ℕ) → Unbroken (xs ++ ys) → Unbroken xs
+All-front [] ys h = All-nil (λ b. eqb b 10 ≡ false)
+All-front (x ∷ xs) ys h = All-cons (λ b. eqb b 10 ≡ false) x xs (All-head (λ b. eqb b 10 ≡ false) x (xs ++ ys) h) (All-front xs ys (All-tail (λ b. eqb b 10 ≡ false) x (xs ++ ys) h))
 
-pub output-feed : (files : Files) (state : StateValue) (number : ℕ) (line rest : List ℕ) (marks : List Bool) → Unbroken line
-    → output_from files state number (line ++ 10 ∷ rest) marks
-    ≡ reply_to files state number (strip_carriage_return line) (first_mark marks) ++ output_behind files state number (strip_carriage_return line) rest marks
-unfolding output_from
-output-feed files state number line rest marks h =
-    ap (λ (ls : List (List ℕ)). joined (replies_from files state number ls marks)) (lines-feed line rest h)
+pub All-behind : (xs ys : List ℕ) → Unbroken (xs ++ ys) → Unbroken ys
+All-behind [] ys h = h
+All-behind (x ∷ xs) ys h = All-behind xs ys (All-tail (λ b. eqb b 10 ≡ false) x (xs ++ ys) h)
 
-pub output-one : (files : Files) (state : StateValue) (number : ℕ) (line : List ℕ) (marks : List Bool)
-    → joined (replies_from files state number (line ∷ []) marks) ≡ reply_to files state number line (first_mark marks)
-output-one files state number line marks = append-nil (reply_to files state number line (first_mark marks))
+-- ---- their steps
 
-pub reply_to-empty : (files : Files) (state : StateValue) (number : ℕ) (mark : Bool) → reply_to files state number [] mark ≡ []
-unfolding reply_to turn_to
-reply_to-empty files state number mark = refl
+abbrev pub step_first : Model → ℕ → List ℕ → List Fetches → Step
+step_first model number line answers = step_to (first_answer answers) model number line
+
+-- the steps of the lines behind a first step
+abbrev pub steps_behind : Step → ℕ → List ℕ → List Fetches → List Step
+steps_behind step number rest answers = step ∷ steps_from step.model (number + 1) (lines rest) (other_answers answers)
+
+pub steps-feed : (model : Model) (number : ℕ) (line rest : List ℕ) (answers : List Fetches) → Unbroken line
+    → steps_from model number (lines (line ++ 10 ∷ rest)) answers
+    ≡ steps_behind (step_first model number (strip_carriage_return line) answers) number rest answers
+steps-feed model number line rest answers h =
+    ap (λ (ls : List (List ℕ)). steps_from model number ls answers) (lines-feed line rest h)
 
 -- the last line has no line feed
-pub output-last : (files : Files) (state : StateValue) (number : ℕ) (line : List ℕ) (marks : List Bool) → Unbroken line
-    → output_from files state number line marks ≡ reply_to files state number line (first_mark marks)
-unfolding output_from
-output-last files state number [] marks h = sym (reply_to-empty files state number (first_mark marks))
-output-last files state number (byte ∷ line) marks h =
-    let some : eqb (length (byte ∷ line)) 0 ≡ false = grind (arith, nat_tests) in
-    ap (λ (ls : List (List ℕ)). joined (replies_from files state number ls marks))
-    (lines-last (byte ∷ line) h ∙ ap (λ (b : Bool). cond b [] ((byte ∷ line) ∷ [])) some)
-    ∙ output-one files state number (byte ∷ line) marks
+pub steps-last : (model : Model) (number : ℕ) (line : List ℕ) (answers : List Fetches) → Unbroken line → 0 < length line
+    → steps_from model number (lines line) answers ≡ step_first model number line answers ∷ []
+steps-last model number line answers h some =
+    let nonempty : eqb (length line) 0 ≡ false = grind (arith, nat_tests) in
+    ap (λ (ls : List (List ℕ)). steps_from model number ls answers)
+    (lines-last line h ∙ ap (λ (b : Bool). cond b [] (line ∷ [])) nonempty)
 
--- Long lines
+pub steps-empty : (model : Model) (number : ℕ) (answers : List Fetches) → steps_from model number (lines []) answers ≡ []
+steps-empty model number answers = refl
 
-pub and-false : (b : Bool) → (b && false) ≡ false
-and-false true = refl
-and-false false = refl
+-- ---- long lines
 
-bytes_eq-longer : (xs ys : List ℕ) → length ys < length xs → bytes_eq xs ys ≡ false
-bytes_eq-longer [] ys h = absurd (omega arith)
-bytes_eq-longer (x ∷ xs) [] h = refl
-bytes_eq-longer (x ∷ xs) (y ∷ ys) h = ap (λ (b : Bool). nat_eq x y && b) (bytes_eq-longer xs ys (omega arith)) ∙ and-false (nat_eq x y)
+-- a longer line is read by its front
+abbrev pub ReadByFront : Type 0
+ReadByFront = (number : ℕ) (front rest : List ℕ) → 1024 < length front → event_in number (front ++ rest) ≡ event_in number front
 
-pub is_word-long : (bytes : List ℕ) → 256 ≤ length bytes → is_word bytes ≡ false
-is_word-long bytes h = grind (arith, nat_tests)
+pub event-front : ReadByFront → (number : ℕ) (line : List ℕ) → 1024 < length line → event_in number (take 1025 line) ≡ event_in number line
+event-front law number line h =
+    let long : 1024 < length (take 1025 line) = omega (arith, h, length-take-le 1025 line (omega (arith, h))) in
+    sym (law number (take 1025 line) (drop 1025 line) long) ∙ ap (event_in number) (take-append-drop 1025 line)
 
-word_after-long : (verb line : List ℕ) → 256 + length verb ≤ length line → word_after verb line ≡ None
-word_after-long verb line h =
-    let no : is_word (drop (length verb) line) ≡ false = is_word-long (drop (length verb) line) (omega (arith, length-drop (length verb) line)) in
-    let none : word_if (drop (length verb) line) ≡ None = ap (λ (b : Bool). cond b (Some (drop (length verb) line)) None) no in
-    elim (starts_with nat_eq line verb) as (λ b. option_and_then word_if (cond b (Some (drop (length verb) line)) None) ≡ None) [ true ↦ none | false ↦ refl ]
-
-pub event_on-long : (line : List ℕ) → 261 ≤ length line → event_on line ≡ None
-event_on-long line h =
-    ap (λ (b : Bool). cond b (Some Cells) (option_or (option_map Info (word_after (codes "info ") line)) (option_map Load (word_after (codes "load ") line))))
-    (bytes_eq-longer line (codes "cells") (omega arith))
-    ∙ ap (λ (o : Option (List ℕ)). option_or (option_map Info o) (option_map Load (word_after (codes "load ") line))) (word_after-long (codes "info ") line (omega arith))
-    ∙ ap (λ (o : Option (List ℕ)). option_map Load o) (word_after-long (codes "load ") line (omega arith))
-
--- the turn of a long line depends on its first byte alone
-turn_to-long : (files : Files) (state : StateValue) (number : ℕ) (line : List ℕ) (mark : Bool) → 261 ≤ length line
-    → turn_to files state number line mark ≡ cond (is_silent line) (silent state) (refused state (BadLine number))
-unfolding turn_to
-turn_to-long files state number line mark h =
-    ap (λ (o : Option Event). cond (is_silent line) (silent state) (turn_on files state number mark o)) (event_on-long line h)
-
--- what is said to a long line
-abbrev pub long_reply : ℕ → Bool → List ℕ
-long_reply number is_remark = cond is_remark [] (printed (Refused (BadLine number)))
-
-pub reply_to-long : (files : Files) (state : StateValue) (number : ℕ) (line : List ℕ) (mark : Bool) → 261 ≤ length line
-    → reply_to files state number line mark ≡ long_reply number (is_silent line)
-unfolding reply_to
-reply_to-long files state number line mark h =
-    ap (λ (t : Turn). said_of t.reply) (turn_to-long files state number line mark h)
-    ∙ elim (is_silent line) as (λ v. said_of (cond v (silent state) (refused state (BadLine number))).reply ≡ long_reply number v) [ true ↦ refl | false ↦ refl ]
-
-pub state_after-long : (files : Files) (state : StateValue) (number : ℕ) (line : List ℕ) (mark : Bool) → 261 ≤ length line
-    → state_after files state number line mark ≡ state
-unfolding state_after
-state_after-long files state number line mark h =
-    ap (λ (t : Turn). t.state) (turn_to-long files state number line mark h)
-    ∙ elim (is_silent line) as (λ v. (cond v (silent state) (refused state (BadLine number))).state ≡ state) [ true ↦ refl | false ↦ refl ]
+pub step-front : ReadByFront → (fetches : Fetches) (model : Model) (number : ℕ) (line : List ℕ) → 1024 < length line
+    → step_to fetches model number line ≡ step_to fetches model number (take 1025 line)
+unfolding step_to
+step-front law fetches model number line h =
+    ap (step_by fetches model number) (sym (event-front law number line h))
 
 pub length-strip : (line : List ℕ) → length line ≤ length (strip_carriage_return line) + 1
 length-strip line =
@@ -150,67 +115,63 @@ length-strip line =
       | false ↦ omega arith
     ]
 
-pub is_silent-take : (n : ℕ) (line : List ℕ) → 1 ≤ n → is_silent (take n line) ≡ is_silent line
-is_silent-take zero line h = absurd (omega arith)
-is_silent-take (suc n) [] h = refl
-is_silent-take (suc n) (byte ∷ line) h = refl
-
-pub is_silent-strip : (line : List ℕ) → 2 ≤ length line → is_silent (strip_carriage_return line) ≡ is_silent line
-is_silent-strip line h =
-    elim (eqb (get_or line (length line - 1) 0) 13) as (λ v. is_silent (cond v (take (length line - 1) line) line) ≡ is_silent line) [
-      | true ↦ is_silent-take (length line - 1) line (omega arith)
+pub take-strip : (line : List ℕ) → 1026 ≤ length line → take 1025 (strip_carriage_return line) ≡ take 1025 line
+take-strip line h =
+    elim (eqb (get_or line (length line - 1) 0) 13) as (λ v. take 1025 (cond v (take (length line - 1) line) line) ≡ take 1025 line) [
+      | true ↦ take-take 1025 (length line - 1) line (omega arith)
       | false ↦ refl
     ]
 
-pub is_silent-append : (line more : List ℕ) → 1 ≤ length line → is_silent (line ++ more) ≡ is_silent line
-is_silent-append [] more h = absurd (omega arith)
-is_silent-append (byte ∷ line) more h = refl
+-- a line that has begun with so many bytes, however it goes on
+step-begun : ReadByFront → (fetches : Fetches) (model : Model) (number : ℕ) (line more : List ℕ) → 1026 ≤ length line
+    → step_to fetches model number (line ++ more) ≡ step_to fetches model number (take 1025 line)
+step-begun law fetches model number line more h =
+    step-front law fetches model number (line ++ more) (omega (arith, h, length-append line more))
+    ∙ ap (step_to fetches model number) (take-append-le 1025 line more (omega (arith, h)))
 
--- the reply to a line that has begun with so many bytes, however it goes on
-pub reply_to-begun : (files : Files) (state : StateValue) (number : ℕ) (line more : List ℕ) (mark : Bool) → 262 ≤ length line
-    → reply_to files state number (line ++ more) mark ≡ long_reply number (is_silent line)
-reply_to-begun files state number line more mark h =
-    reply_to-long files state number (line ++ more) mark (omega (arith, length-append line more))
-    ∙ ap (long_reply number) (is_silent-append line more (omega arith))
+step-begun_strip : ReadByFront → (fetches : Fetches) (model : Model) (number : ℕ) (line more : List ℕ) → 1026 ≤ length line
+    → step_to fetches model number (strip_carriage_return (line ++ more)) ≡ step_to fetches model number (take 1025 line)
+step-begun_strip law fetches model number line more h =
+    step-front law fetches model number (strip_carriage_return (line ++ more))
+    (omega (arith, h, length-append line more, length-strip (line ++ more)))
+    ∙ ap (step_to fetches model number) (take-strip (line ++ more) (omega (arith, h, length-append line more))
+    ∙ take-append-le 1025 line more (omega (arith, h)))
 
-long-strip : (line more : List ℕ) → 262 ≤ length line → 261 ≤ length (strip_carriage_return (line ++ more))
-long-strip line more h = omega (arith, length-append line more, length-strip (line ++ more))
+-- a long line, however it goes on, and the lines behind it
+steps-begun : ReadByFront → (model : Model) (number : ℕ) (line more rest : List ℕ) (answers : List Fetches) → 1026 ≤ length line
+    → Unbroken line → Unbroken more
+    → steps_from model number (lines (line ++ (more ++ 10 ∷ rest))) answers
+    ≡ steps_behind (step_first model number (take 1025 line) answers) number rest answers
+steps-begun law model number line more rest answers long h u =
+    ap (λ (l : List ℕ). steps_from model number (lines l) answers) (sym (append_assoc line more (10 ∷ rest)))
+    ∙ steps-feed model number (line ++ more) rest answers (All-append (λ b. eqb b 10 ≡ false) line more h u)
+    ∙ ap (λ (s : Step). steps_behind s number rest answers) (step-begun_strip law (first_answer answers) model number line more long)
 
-pub reply_to-begun_strip : (files : Files) (state : StateValue) (number : ℕ) (line more : List ℕ) (mark : Bool) → 262 ≤ length line
-    → reply_to files state number (strip_carriage_return (line ++ more)) mark ≡ long_reply number (is_silent line)
-reply_to-begun_strip files state number line more mark h =
-    reply_to-long files state number (strip_carriage_return (line ++ more)) mark (long-strip line more h)
-    ∙ ap (long_reply number) (is_silent-strip (line ++ more) (omega (arith, length-append line more)) ∙ is_silent-append line more (omega arith))
-
--- a long line, however it goes on, and what is said to the lines behind it
-output-begun : (files : Files) (state : StateValue) (number : ℕ) (line more rest : List ℕ) (marks : List Bool) → 262 ≤ length line → Unbroken line → Unbroken more
-    → output_from files state number (line ++ (more ++ 10 ∷ rest)) marks
-    ≡ long_reply number (is_silent line) ++ output_from files state (number + 1) rest (other_marks marks)
-output-begun files state number line more rest marks long h u =
-    ap (λ (l : List ℕ). output_from files state number l marks) (sym (append_assoc line more (10 ∷ rest)))
-    ∙ output-feed files state number (line ++ more) rest marks (All-append (λ b. eqb b 10 ≡ false) line more h u)
-    ∙ ap (λ (l : List ℕ). l ++ output_behind files state number (strip_carriage_return (line ++ more)) rest marks) (reply_to-begun_strip files state number line more (first_mark marks) long)
-    ∙ ap (λ (s : StateValue). long_reply number (is_silent line) ++ output_from files s (number + 1) rest (other_marks marks))
-    (state_after-long files state number (strip_carriage_return (line ++ more)) (first_mark marks) (long-strip line more long))
+steps-begun_last : ReadByFront → (model : Model) (number : ℕ) (line more : List ℕ) (answers : List Fetches) → 1026 ≤ length line
+    → Unbroken line → Unbroken more
+    → steps_from model number (lines (line ++ more)) answers ≡ step_first model number (take 1025 line) answers ∷ []
+steps-begun_last law model number line more answers long h u =
+    steps-last model number (line ++ more) answers (All-append (λ b. eqb b 10 ≡ false) line more h u)
+    (omega (arith, long, length-append line more))
+    ∙ ap (λ (s : Step). s ∷ []) (step-begun law (first_answer answers) model number line more long)
 
 -- the rest of a long line changes nothing
-pub output-long : (files : Files) (state : StateValue) (number : ℕ) (line : List ℕ) (byte : ℕ) (rest : List ℕ) (marks : List Bool)
-    → 262 ≤ length line → Unbroken line → eqb byte 10 ≡ false
-    → output_from files state number (line ++ byte ∷ rest) marks ≡ output_from files state number (line ++ rest) marks
-output-long files state number line byte rest marks long h ne =
-    elim (cut_at_feed rest) as (λ _. output_from files state number (line ++ byte ∷ rest) marks ≡ output_from files state number (line ++ rest) marks) [
+pub steps-long : ReadByFront → (model : Model) (number : ℕ) (line : List ℕ) (byte : ℕ) (rest : List ℕ) (answers : List Fetches)
+    → 1026 ≤ length line → Unbroken line → eqb byte 10 ≡ false
+    → steps_from model number (lines (line ++ byte ∷ rest)) answers ≡ steps_from model number (lines (line ++ rest)) answers
+steps-long law model number line byte rest answers long h ne =
+    elim (cut_at_feed rest) as (λ _. steps_from model number (lines (line ++ byte ∷ rest)) answers ≡ steps_from model number (lines (line ++ rest)) answers) [
       | inl u ↦
-          output-last files state number (line ++ byte ∷ rest) marks (All-append (λ b. eqb b 10 ≡ false) line (byte ∷ rest) h (All-cons (λ b. eqb b 10 ≡ false) byte rest ne u))
-          ∙ reply_to-begun files state number line (byte ∷ rest) (first_mark marks) long
-          ∙ sym (output-last files state number (line ++ rest) marks (All-append (λ b. eqb b 10 ≡ false) line rest h u)
-          ∙ reply_to-begun files state number line rest (first_mark marks) long)
+          steps-begun_last law model number line (byte ∷ rest) answers long h (All-cons (λ b. eqb b 10 ≡ false) byte rest ne u)
+          ∙ sym (steps-begun_last law model number line rest answers long h u)
       | inr f ↦
-          ap (λ (l : List ℕ). output_from files state number (line ++ byte ∷ l) marks) f.whole
-          ∙ output-begun files state number line (byte ∷ f.line) f.rest marks long h (All-cons (λ b. eqb b 10 ≡ false) byte f.line ne f.unbroken)
-          ∙ sym (ap (λ (l : List ℕ). output_from files state number (line ++ l) marks) f.whole ∙ output-begun files state number line f.line f.rest marks long h f.unbroken)
+          ap (λ (l : List ℕ). steps_from model number (lines (line ++ byte ∷ l)) answers) f.whole
+          ∙ steps-begun law model number line (byte ∷ f.line) f.rest answers long h (All-cons (λ b. eqb b 10 ≡ false) byte f.line ne f.unbroken)
+          ∙ sym (ap (λ (l : List ℕ). steps_from model number (lines (line ++ l)) answers) f.whole
+          ∙ steps-begun law model number line f.line f.rest answers long h f.unbroken)
     ]
 
--- Lines that have ended
+-- ---- lines that have ended
 
 pub ended-unbroken : (bytes : List ℕ) → Unbroken bytes → ended bytes ≡ []
 ended-unbroken [] h = refl
@@ -228,11 +189,11 @@ pub record IsCons (bytes : List ℕ) : Type 0 where
   pub others : List ℕ
   pub whole : bytes ≡ first ∷ others
 
-pub onto_ended-cons : (byte : ℕ) (bytes : List ℕ) → IsCons bytes → onto_ended byte bytes ≡ byte ∷ bytes
+onto_ended-cons : (byte : ℕ) (bytes : List ℕ) → IsCons bytes → onto_ended byte bytes ≡ byte ∷ bytes
 onto_ended-cons byte [] x = absurd (let e : [] ≡ x.first ∷ x.others = x.whole in cc)
 onto_ended-cons byte (next ∷ more) x = refl
 
-pub cons-front : (bytes more : List ℕ) → IsCons more → IsCons (bytes ++ more)
+cons-front : (bytes more : List ℕ) → IsCons more → IsCons (bytes ++ more)
 cons-front [] more x = x
 cons-front (byte ∷ bytes) more x = record { first = byte; others = bytes ++ more; whole = refl }
 
@@ -241,11 +202,11 @@ pub ended-append : (bytes more : List ℕ) → IsCons (ended more) → ended (by
 ended-append [] more x = refl
 ended-append (byte ∷ bytes) more x = ap (onto_ended byte) (ended-append bytes more x) ∙ onto_ended-cons byte (bytes ++ ended more) (cons-front bytes (ended more) x)
 
-pub onto_ten : (bytes : List ℕ) → IsCons (onto_ended 10 bytes)
+onto_ten : (bytes : List ℕ) → IsCons (onto_ended 10 bytes)
 onto_ten [] = record { first = 10; others = []; whole = refl }
 onto_ten (next ∷ more) = record { first = 10; others = next ∷ more; whole = refl }
 
-pub ended-feed : (line rest : List ℕ) → IsCons (ended (line ++ 10 ∷ rest))
+ended-feed : (line rest : List ℕ) → IsCons (ended (line ++ 10 ∷ rest))
 ended-feed line rest =
     subst IsCons (sym (ended-append line (10 ∷ rest) (onto_ten (ended rest)))) (cons-front line (ended (10 ∷ rest)) (onto_ten (ended rest)))
 
@@ -256,9 +217,7 @@ ended-fed bytes f = subst (λ (l : List ℕ). IsCons (ended l)) (sym f.whole) (e
 pub ended-line : (line : List ℕ) → ended (line ++ 10 ∷ []) ≡ line ++ 10 ∷ []
 ended-line line = ended-append line (10 ∷ []) (onto_ten [])
 
-pub output-empty : (files : Files) (state : StateValue) (number : ℕ) (marks : List Bool) → output_from files state number [] marks ≡ []
-unfolding output_from
-output-empty files state number marks = refl
-
-pub output-ended_none : (files : Files) (state : StateValue) (number : ℕ) (bytes : List ℕ) (marks : List Bool) → Unbroken bytes → output_from files state number (ended bytes) marks ≡ []
-output-ended_none files state number bytes marks h = ap (λ (l : List ℕ). output_from files state number l marks) (ended-unbroken bytes h) ∙ output-empty files state number marks
+pub steps-ended_none : (model : Model) (number : ℕ) (bytes : List ℕ) (answers : List Fetches) → Unbroken bytes
+    → steps_from model number (lines (ended bytes)) answers ≡ []
+steps-ended_none model number bytes answers h =
+    ap (λ (l : List ℕ). steps_from model number (lines l) answers) (ended-unbroken bytes h)

@@ -1,27 +1,42 @@
 -- The run of a whole script.
-use Rattle.std.proofs.Common.{◌≡◌, ◌≢◌, ℕ, ◌+◌, ◌<◌, ◌≤◌, ◌⊎◌, Bool, false, List, [], ◌∷◌, ◌++◌, length, take, drop, eqb, refl, sym, ◌∙◌, ap, subst, arith, inl, inr, append_assoc, length-append, length-take-le}
-use Rattle.std.specs.Prelude.{min, IsTrue}
+use Rattle.std.proofs.Common.{◌≡◌, ◌≢◌, ℕ, ◌+◌, ◌<◌, ◌≤◌, ◌⊎◌, Bool, true, false, List, [], ◌∷◌, ◌++◌, length, take, drop, eqb, leb, refl, sym, ◌∙◌, ap, subst, arith, inl, inr, append_assoc, length-append, length-take-le}
+use Rattle.std.proofs.Math.ListN.{replicate}
+use Rattle.std.specs.Prelude.{Ok, min, IsTrue}
+use Rattle.std.specs.List.{All}
 use Rattle.std.specs.Str.Lines.{lines}
-use Rattle.std.proofs.lemmas.List.{append-nil, take-append-drop, take-take}
-use Rattle.std.proofs.lemmas.List.Elements.{All-nil}
+use Rattle.std.proofs.lemmas.Bool.Decides.{nat_tests}
+use Rattle.std.proofs.lemmas.List.{append-nil, length-replicate, take-append-drop, take-take}
+use Rattle.std.proofs.lemmas.List.Elements.{All-append, All-nil, All-replicate}
 use Rattle.std.proofs.Math.Seq.{take-append_seam}
 use Rattle.chart_ports.specs.Count.{LAST, IsSteady, Rose, RoseBy}
-use Rattle.ecdis_cli.specs.declared.session.stop.Stop.{Stop}
-use Rattle.ecdis_cli.specs.declared.session.stop.Stop.TheVariants.{DeskFault, NoMemory}
-use Rattle.ecdis_cli.specs.Stop.{status_of}
+use Rattle.chart_ports.specs.Moments.{LeavesOnly}
+use Rattle.chart_ports.specs.Said.{SaysFront}
+use Rattle.chart_ports.specs.declared.images.Images.{Images}
+use Rattle.chart_ports.proofs.Moments.{weaker}
+use Rattle.chart_store.specs.Images.{read_of}
+use Rattle.session_core.specs.Fetch.{Files, Fetches, fetches_of}
+use Rattle.session_core.specs.Model.{Model}
+use Rattle.ecdis_cli.specs.declared.run.stop.Stop.{Stop}
+use Rattle.ecdis_cli.specs.declared.run.stop.Stop.TheVariants.{DeskFault, NoMemory}
 use Rattle.ecdis_cli.specs.declared.run.status.Status.TheVariants as stops
 use Rattle.ecdis_cli.specs.declared.run.status.Status.{Status}
 use Rattle.ecdis_cli.specs.declared.run.status.Status.TheVariants.{Done}
-use Rattle.ecdis_cli.specs.Fetch.{Files}
-use Rattle.chart_store.specs.Loaded.{nothing_held}
+use Rattle.ecdis_cli.specs.Crash.{LeavesPrefix}
+use Rattle.ecdis_cli.specs.Ended.{ended}
 use Rattle.ecdis_cli.specs.Limits.{SCRIPT_LIMIT}
-use Rattle.ecdis_cli.specs.World.{World, Outside, outside_of}
-use Rattle.ecdis_cli.specs.Turn.{reply_to}
-use Rattle.ecdis_cli.specs.Replies.{replies_from, replies_of, joined, ended, fetch_failures}
-use Rattle.ecdis_cli.specs.Progress.{Standing, at_start, Unbroken, Answered, Interrupted, output_from, marked, Advanced, Halted}
-use Rattle.ecdis_cli.specs.Run.{Replied}
-use Rattle.ecdis_cli.proofs.Lines.{output-last}
-use Rattle.ecdis_cli.proofs.Steps.{front-whole, front-after, front-same, decided, rose-more, rose-fewer, marked-append, rose-mark, failures-le-marked, Advanced-start, Advanced-then, Halted-then, Advanced-front, Halted-start, Fronted, Fronted-from}
+use Rattle.ecdis_cli.specs.Progress.{Advanced, ComeFirst, Finished, IsAfter, Stopped, Taken, Unbroken, Unfinished}
+use Rattle.ecdis_cli.specs.Run.{AnsweredTaken, Outside, Ran, Says, outside_of, reading_of}
+use Rattle.ecdis_cli.specs.Script.{IsAnswer, failures_in, model_after, output, steps_from, steps_of}
+use Rattle.ecdis_cli.specs.Step.{Step}
+use Rattle.ecdis_cli.specs.Stop.{status_of}
+use Rattle.ecdis_cli.specs.World.{Standing, World, at_start}
+use Rattle.ecdis_cli.proofs.Crashes.{prefix-extended}
+use Rattle.ecdis_cli.proofs.Failures.{Serves, TellsFailure, served-none}
+use Rattle.ecdis_cli.proofs.Lists.{failures-append, output-append}
+use Rattle.ecdis_cli.proofs.Steps.{Advanced-then, Stopped-then}
+use Rattle.ecdis_cli.proofs.Taking.{IsAfter-then, Taken-then, answers-same, front-after, front-append, front-none, front-same, front-whole}
+
+-- ---- statuses
 
 -- the statuses of a run that neither was done nor ended with its script
 pub record IsOther (status : Status) : Type 0 where
@@ -41,191 +56,272 @@ status_of-other NoMemory status e = record {
   not_long = λ d. let x : stops.NoMemory ≡ stops.ScriptLong = sym e ∙ d in cc;
 }
 
--- The whole script
+-- ---- the whole script
 
-pub replies_of-joined : (files : Files) (script : List ℕ) (marks : List Bool) → joined (replies_of files script marks) ≡ output_from files nothing_held 1 script marks
-unfolding output_from replies_of
-replies_of-joined files script marks = refl
+-- the shelf's answers to lines that were not come to: its files
+abbrev pub padding : Files → List ℕ → List Fetches
+padding files script = replicate (length (lines script)) (fetches_of files false)
 
-pub replies_of-failures : (files : Files) (script : List ℕ) (marks : List Bool) (a b : ℕ) → RoseBy (marked marks) a b → RoseBy (fetch_failures (replies_of files script marks)) a b
-unfolding replies_of
-replies_of-failures files script marks a b h = rose-fewer (fetch_failures (replies_from files nothing_held 1 (lines script) marks)) (marked marks) a b (failures-le-marked files nothing_held 1 (lines script) marks) h
+padding-serves : (files : Files) (script : List ℕ) → All Serves (padding files script)
+padding-serves files script = All-replicate Serves (length (lines script)) (fetches_of files false) (λ name e. cc)
+
+padding-told : (tells : Bool) (files : Files) (script : List ℕ) → All (IsAnswer tells files) (padding files script)
+padding-told tells files script = All-replicate (IsAnswer tells files) (length (lines script)) (fetches_of files false) (λ t. (false, refl))
+
+pub steps_of-start : (model : Model) (script : List ℕ) (answers : List Fetches) → steps_of model script answers ≡ steps_from model 1 (lines script) answers
+unfolding steps_of
+steps_of-start model script answers = refl
 
 -- where a run begins
-abbrev pub begun : Outside → Standing
-begun before = at_start before.said before.faults
+abbrev pub begun_at : Model → Outside → Standing
+begun_at model before = at_start model before.said before.faults
 
--- no line has begun there
 begun-unbroken : Unbroken []
 begun-unbroken = All-nil (λ byte. eqb byte 10 ≡ false)
 
--- the replies are those before the last line, and its own
-whole-last : (files : Files) (before : Outside) (at : Standing) (mark : Bool) → Unbroken at.line → (x : Advanced files (begun before) before.left at)
-    → joined (replies_of files before.left (x.marks ++ mark ∷ [])) ≡ x.replies ++ reply_to files at.world.state at.number at.line mark
-whole-last files before at mark h x =
-    replies_of-joined files before.left (x.marks ++ mark ∷ [])
-    ∙ ap (λ (l : List ℕ). output_from files nothing_held 1 l (x.marks ++ mark ∷ [])) (sym (append-nil before.left))
-    ∙ x.ahead [] (mark ∷ [])
-    ∙ ap (λ (l : List ℕ). x.replies ++ output_from files at.world.state at.number l (mark ∷ [])) (append-nil at.line)
-    ∙ ap (λ (l : List ℕ). x.replies ++ l) (output-last files at.world.state at.number at.line (mark ∷ []) h)
+-- the steps that were taken are the first of the script's, and those behind them say of no failure
+pub record Covers (files : Files) (model : Model) (script : List ℕ) (answers : List Fetches) (steps : List Step) : Type 0 where
+  pub later : List Step
+  pub whole : steps_of model script (answers ++ padding files script) ≡ steps ++ later
+  pub mild : failures_in later ≡ 0
 
--- so many fetches failed, as the shelf counted
-failed-last : (files : Files) (before : Outside) (at : Standing) (faults : ℕ) (mark : Bool) → at.world.faults ≤ faults → (IsTrue mark → Rose at.world.faults faults) → (x : Advanced files (begun before) before.left at)
-    → RoseBy (fetch_failures (replies_of files before.left (x.marks ++ mark ∷ []))) before.faults faults
-failed-last files before at faults mark later cause x =
-    replies_of-failures files before.left (x.marks ++ mark ∷ []) before.faults faults
-    (subst (λ (k : ℕ). RoseBy k before.faults faults) (sym (marked-append x.marks (mark ∷ [])))
-    (rose-more (marked x.marks) (marked (mark ∷ [])) before.faults at.world.faults faults x.later later x.failed (rose-mark mark at.world.faults faults later cause)))
-
--- the last line was answered
-pub Replied-done : (files : Files) (before : Outside) (at : Standing) (left : List ℕ) (now : World) → Unbroken at.line
-    → Advanced files (begun before) before.left at → Answered files at.number at.line at.world now → Replied files Done before (outside_of left now.said now.faults)
-Replied-done files before at left now h x y =
-    let said : now.said ≡ before.said ++ joined (replies_of files before.left (x.marks ++ y.mark ∷ []))
-    = y.said ∙ ap (λ (l : List ℕ). l ++ reply_to files at.world.state at.number at.line y.mark) x.said ∙ append_assoc before.said x.replies (reply_to files at.world.state at.number at.line y.mark)
-    ∙ ap (λ (l : List ℕ). before.said ++ l) (sym (whole-last files before at y.mark h x)) in
-    record {
-      marks = x.marks ++ y.mark ∷ [];
-      all = λ _. said;
-      front = front-whole before.said _ now.said said;
-      at_fault = λ d. absurd (let e : Done ≡ stops.ScriptFault = d in cc);
-      at_limit = λ d. absurd (let e : Done ≡ stops.ScriptLong = d in cc);
-      failures = failed-last files before at now.faults y.mark y.later y.cause x;
-    }
-
--- the last line was not
-pub Replied-cut : (files : Files) (before : Outside) (at : Standing) (left : List ℕ) (now : World) (status : Status) → IsOther status → Unbroken at.line
-    → Advanced files (begun before) before.left at → Interrupted files at.number at.line at.world now → Replied files status before (outside_of left now.said now.faults)
-Replied-cut files before at left now status other h x y = record {
-  marks = x.marks ++ y.mark ∷ [];
-  all = λ d. absurd (other.not_done d);
-  at_fault = λ d. absurd (other.not_fault d);
-  at_limit = λ d. absurd (other.not_long d);
-  front = front-same before.said _ _ now.said (sym (whole-last files before at y.mark h x)) (front-after before.said x.replies (reply_to files at.world.state at.number at.line y.mark) at.world.said now.said x.said y.front);
-  failures = failed-last files before at now.faults y.mark y.later y.cause x;
+covers-first : TellsFailure → (files : Files) (model : Model) (script : List ℕ) (answers : List Fetches) (steps : List Step)
+    → ComeFirst steps (padding files script) (steps_from model 1 (lines script) (answers ++ padding files script))
+    → Covers files model script answers steps
+covers-first law files model script answers steps x = record {
+  later = steps_from x.model x.number x.left (padding files script);
+  whole = steps_of-start model script (answers ++ padding files script) ∙ x.behind;
+  mild = served-none law x.model x.number x.left (padding files script) (padding-serves files script);
 }
 
--- the run ended before the script's end
-pub Replied-halted : (files : Files) (before : Outside) (left bytes rest : List ℕ) (now : World) (status : Status) → IsOther status → before.left ≡ bytes ++ rest
-    → Halted files (begun before) bytes now → Replied files status before (outside_of left now.said now.faults)
-Replied-halted files before left bytes rest now status other e halted =
-    let x : Fronted files (begun before) bytes now = Fronted-from files (begun before) bytes now begun-unbroken halted in
-    record {
-      marks = x.marks;
-      all = λ d. absurd (other.not_done d);
-      front = front-same before.said _ _ now.said (sym (replies_of-joined files before.left x.marks ∙ ap (λ (l : List ℕ). output_from files nothing_held 1 l x.marks) e)) (x.front rest);
-      at_fault = λ d. absurd (other.not_fault d);
-      at_limit = λ d. absurd (other.not_long d);
-      failures = replies_of-failures files before.left x.marks before.faults now.faults x.failed;
-    }
-
--- what was said is the replies to the lines that have ended
-pub said_ended : (files : Files) (before : Outside) (at : Standing) (bytes : List ℕ) → (x : Advanced files (begun before) bytes at)
-    → at.world.said ≡ before.said ++ joined (replies_of files (ended bytes) x.marks)
-said_ended files before at bytes x =
-    x.said ∙ ap (λ (l : List ℕ). before.said ++ l) (x.ended_lines begun-unbroken ∙ sym (replies_of-joined files (ended bytes) x.marks))
-
--- the source failed where these bytes were taken
-pub Replied-fault : (files : Files) (before : Outside) (at : Standing) (left bytes : List ℕ) → before.left ≡ bytes ++ left
-    → Advanced files (begun before) bytes at → Replied files stops.ScriptFault before (outside_of left at.world.said at.world.faults)
-Replied-fault files before at left bytes e x =
-    record {
-      marks = x.marks;
-      all = λ d. absurd (let f : stops.ScriptFault ≡ Done = d in cc);
-      front = front-same before.said _ _ at.world.said (sym (replies_of-joined files before.left x.marks ∙ ap (λ (l : List ℕ). output_from files nothing_held 1 l x.marks) e)) (Advanced-front files (begun before) at bytes x left);
-      at_fault = λ _. record { taken = bytes; split = e; said = said_ended files before at bytes x };
-      at_limit = λ d. absurd (let f : stops.ScriptFault ≡ stops.ScriptLong = d in cc);
-      failures = replies_of-failures files before.left x.marks before.faults at.world.faults x.failed;
-    }
-
--- the script has more than its limit, which these bytes are
-pub Replied-long : (files : Files) (before : Outside) (at : Standing) (left bytes rest : List ℕ) → before.left ≡ bytes ++ rest → length bytes ≡ SCRIPT_LIMIT
-    → Advanced files (begun before) bytes at → Replied files stops.ScriptLong before (outside_of left at.world.said at.world.faults)
-Replied-long files before at left bytes rest e limit x =
-    let within : take SCRIPT_LIMIT before.left ≡ bytes
-    = ap (λ (k : ℕ). take k before.left) (sym limit) ∙ ap (λ (l : List ℕ). take (length bytes) l) e ∙ take-append_seam bytes rest in
-    record {
-      marks = x.marks;
-      all = λ d. absurd (let f : stops.ScriptLong ≡ Done = d in cc);
-      front = front-same before.said _ _ at.world.said (sym (replies_of-joined files before.left x.marks ∙ ap (λ (l : List ℕ). output_from files nothing_held 1 l x.marks) e)) (Advanced-front files (begun before) at bytes x rest);
-      at_fault = λ d. absurd (let f : stops.ScriptLong ≡ stops.ScriptFault = d in cc);
-      at_limit = λ _. said_ended files before at bytes x
-          ∙ ap (λ (l : List ℕ). before.said ++ joined (replies_of files (ended l) x.marks)) (sym within);
-      failures = replies_of-failures files before.left x.marks before.faults at.world.faults x.failed;
-    }
-
--- A run under way: these bytes were taken
-pub record Underway (files : Files) (before : Outside) (left : List ℕ) (at : Standing) : Type 0 where
-  pub taken : List ℕ
-  pub split : before.left ≡ taken ++ left
-  pub advanced : Advanced files (begun before) taken at
-
-pub Underway-start : (files : Files) (before : Outside) (at : Standing) → at ≡ begun before → Underway files before before.left at
-Underway-start files before at is = record {
-  taken = [];
-  split = refl;
-  advanced = subst (λ (p : Standing). Advanced files (begun before) [] p) (sym is) (Advanced-start files (begun before));
+covers-all : (files : Files) (model : Model) (script : List ℕ) (answers : List Fetches) (steps : List Step)
+    → steps_from model 1 (lines script) (answers ++ padding files script) ≡ steps → Covers files model script answers steps
+covers-all files model script answers steps e = record {
+  later = [];
+  whole = steps_of-start model script (answers ++ padding files script) ∙ e ∙ sym (append-nil steps);
+  mild = refl;
 }
 
-pub Underway-next : (files files' : Files) (before : Outside) (p q : Standing) (left0 left1 bytes : List ℕ)
-    → files' ≡ files → left0 ≡ bytes ++ left1 → Underway files before left0 p → Advanced files' p bytes q → Underway files before left1 q
-Underway-next files files' before p q left0 left1 bytes same e x y = record {
-  taken = x.taken ++ bytes;
-  split = x.split ∙ ap (λ (l : List ℕ). x.taken ++ l) e ∙ sym (append_assoc x.taken bytes left1);
-  advanced = Advanced-then files (begun before) p q x.taken bytes x.advanced (subst (λ (fs : Files). Advanced fs p bytes q) same y);
+covers-front : (files : Files) (model : Model) (script : List ℕ) (answers : List Fetches) (steps : List Step) (said now : List ℕ)
+    → (x : Covers files model script answers steps) → SaysFront said (output steps) now
+    → SaysFront said (output (steps_of model script (answers ++ padding files script))) now
+covers-front files model script answers steps said now x front =
+    front-same said (output steps ++ output x.later) (output (steps_of model script (answers ++ padding files script))) now
+    (sym (ap output x.whole ∙ output-append steps x.later)) (front-append said (output steps) (output x.later) now front)
+
+-- ---- what a run says
+
+-- a run that neither was done nor ended with its script
+other-says : (files : Files) (model : Model) (status : Status) (before : Outside) (left said : List ℕ) (faults : ℕ) (answers : List Fetches) (steps : List Step)
+    → IsOther status → Covers files model before.left answers steps → SaysFront before.said (output steps) said
+    → Says status (λ script. steps_of model script (answers ++ padding files before.left)) before (outside_of left said faults)
+other-says files model status before left said faults answers steps other x front = record {
+  all = λ e. absurd (other.not_done e);
+  front = covers-front files model before.left answers steps before.said said x front;
+  at_fault = λ e. absurd (other.not_fault e);
+  at_limit = λ e. absurd (other.not_long e);
 }
 
--- the source fails at this place
-pub Underway-fault : (files : Files) (before : Outside) (at : Standing) (left left' : List ℕ) → left' ≡ left
-    → Underway files before left at → Replied files stops.ScriptFault before (outside_of left' at.world.said at.world.faults)
-Underway-fault files before at left left' e x =
-    subst (λ (l : List ℕ). Replied files stops.ScriptFault before (outside_of l at.world.said at.world.faults)) (sym e)
-    (Replied-fault files before at left x.taken x.split x.advanced)
+module _ {D : Type 0} (clock : D → ℕ) (might : D → ℕ → Images → List ℕ → Type 0)
+    (tells : Bool) (files : Files) (model : Model) (before : Outside) where
+  -- A run under way: these bytes were taken
+  pub record Underway (d0 d1 : D) (left : List ℕ) (at : Standing) : Type 0 where
+    pub taken : List ℕ
+    pub split : before.left ≡ taken ++ left
+    pub advanced : Advanced tells files (LeavesOnly clock might d0 d1) (begun_at model before) taken at
 
--- the run ends within further bytes
-pub Underway-halted : (files files' : Files) (before : Outside) (at : Standing) (left left0 left1 bytes : List ℕ) (now : World) (stop : Stop) (status : Status) → status ≡ status_of stop
-    → files' ≡ files → left0 ≡ bytes ++ left1 → Underway files before left0 at → Halted files' at bytes now
-    → Replied files status before (outside_of left now.said now.faults)
-Underway-halted files files' before at left left0 left1 bytes now stop status is same e x y =
-    Replied-halted files before left (x.taken ++ bytes) left1 now status (status_of-other stop status is)
-    (x.split ∙ ap (λ (l : List ℕ). x.taken ++ l) e ∙ sym (append_assoc x.taken bytes left1))
-    (Halted-then files (begun before) at x.taken bytes now x.advanced (subst (λ (fs : Files). Halted fs at bytes now) same y))
+  pub Underway-start : (d0 d1 : D) (at : Standing) → at ≡ begun_at model before
+      → Advanced tells files (LeavesOnly clock might d0 d1) (begun_at model before) [] (begun_at model before) → Underway d0 d1 before.left at
+  Underway-start d0 d1 at is x = record {
+    taken = [];
+    split = refl;
+    advanced = subst (λ (p : Standing). Advanced tells files (LeavesOnly clock might d0 d1) (begun_at model before) [] p) (sym is) x;
+  }
 
--- the script's limit is reached in the further bytes
-pub Underway-long : (files files' : Files) (before : Outside) (p q : Standing) (left left0 left1 bytes : List ℕ) (room : ℕ)
-    → files' ≡ files → left0 ≡ bytes ++ left1 → length bytes ≡ room → length before.left + room ≡ SCRIPT_LIMIT + length left0
-    → Underway files before left0 p → Advanced files' p bytes q → Replied files stops.ScriptLong before (outside_of left q.world.said q.world.faults)
-Underway-long files files' before p q left left0 left1 bytes room same e fits counted x y =
-    let z : Underway files before left1 q = Underway-next files files' before p q left0 left1 bytes same e x y in
-    let spent : length z.taken ≡ SCRIPT_LIMIT
-    = omega (arith, ap length z.split, length-append z.taken left1, ap length e, length-append bytes left1, counted, fits) in
-    Replied-long files before q left z.taken left1 z.split spent z.advanced
+  pub Underway-next : (files' : Files) (d0 d1 d2 : D) (p q : Standing) (left0 left1 bytes : List ℕ)
+      → (IsTrue tells → files' ≡ files) → left0 ≡ bytes ++ left1 → Underway d0 d1 left0 p
+      → Advanced tells files' (LeavesOnly clock might d1 d2) p bytes q → Underway d0 d2 left1 q
+  Underway-next files' d0 d1 d2 p q left0 left1 bytes same e x y = record {
+    taken = x.taken ++ bytes;
+    split = x.split ∙ ap (λ (l : List ℕ). x.taken ++ l) e ∙ sym (append_assoc x.taken bytes left1);
+    advanced = Advanced-then clock might tells files files' d0 d1 d2 (begun_at model before) p q x.taken bytes same x.advanced y;
+  }
 
--- the script ends here
-pub all_taken : (script taken left : List ℕ) → script ≡ taken ++ left → left ≡ [] → taken ≡ script
-all_taken script taken left e none = sym (e ∙ ap (λ (l : List ℕ). taken ++ l) none ∙ append-nil taken)
+module _ {D : Type 0} (clock : D → ℕ) (might : D → ℕ → Images → List ℕ → Type 0) (law : TellsFailure)
+    (tells : Bool) (files : Files) (model : Model) (before : Outside) (MayBeLeft : Images → Type 0) where
+  -- the run from its steps
+  ran-by : (d0 d1 : D) (status : Status) (now : Outside) (answers : List Fetches) (steps : List Step)
+      → Taken tells files (LeavesOnly clock might d0 d1) (begun_at model before).world now.faults answers steps
+      → Covers files model before.left answers steps
+      → Says status (λ script. steps_of model script (answers ++ padding files before.left)) before now
+      → (status ≡ Done → (images : Images) → MayBeLeft images
+      → read_of images ≡ Ok (reading_of (model_after model (steps_of model before.left (answers ++ padding files before.left)))))
+      → Ran tells files model status (LeavesOnly clock might d0 d1) (λ images so_far. ⊥) MayBeLeft before now
+  ran-by d0 d1 status now answers steps taken covers says end =
+      let whole : List Step = steps_of model before.left (answers ++ padding files before.left) in
+      record {
+        answers = answers ++ padding files before.left;
+        told = All-append (IsAnswer tells files) answers (padding files before.left) taken.told (padding-told tells files before.left);
+        enough = omega (arith, length-append answers (padding files before.left), length-replicate (length (lines before.left)) (fetches_of files false));
+        says = says;
+        failed = subst (λ (k : ℕ). RoseBy k before.faults now.faults)
+            (let none : failures_in steps ≡ failures_in steps + failures_in covers.later = omega (arith, covers.mild) in
+            none ∙ sym (failures-append steps covers.later) ∙ ap failures_in (sym covers.whole)) taken.failed;
+        crash = weaker clock might d0 d1 (LeavesPrefix model.state steps before.said)
+            (λ images so_far. ⊥ ⊎ LeavesPrefix model.state whole before.said images so_far)
+            (λ images so_far x. inr (subst (λ (l : List Step). LeavesPrefix model.state l before.said images so_far) (sym covers.whole)
+            (prefix-extended model.state steps covers.later before.said so_far images x))) taken.crash;
+        end = end;
+      }
 
-pub Underway-done : (files files' : Files) (before : Outside) (at : Standing) (left left0 : List ℕ) (now : World)
-    → files' ≡ files → Unbroken at.line → left0 ≡ [] → Underway files before left0 at → Answered files' at.number at.line at.world now
-    → Replied files Done before (outside_of left now.said now.faults)
-Underway-done files files' before at left left0 now same h none x y =
-    Replied-done files before at left now h
-    (subst (λ (bs : List ℕ). Advanced files (begun before) bs at) (all_taken before.left x.taken left0 x.split none) x.advanced)
-    (subst (λ (fs : Files). Answered fs at.number at.line at.world now) same y)
+  -- the steps so far, before those of the rest
+  underway-covers : (d0 d1 : D) (left : List ℕ) (at : Standing) → (x : Underway clock might tells files model before d0 d1 left at)
+      → Covers files model before.left x.advanced.answers x.advanced.steps
+  underway-covers d0 d1 left at x =
+      let pad : List Fetches = padding files before.left in
+      covers-first law files model before.left x.advanced.answers x.advanced.steps (record {
+        model = at.world.model;
+        number = at.number;
+        left = lines (at.line ++ left);
+        behind = ap (λ (l : List ℕ). steps_from model 1 (lines l) (x.advanced.answers ++ pad)) x.split ∙ x.advanced.ahead left pad;
+      })
 
-pub Underway-cut : (files files' : Files) (before : Outside) (at : Standing) (left left0 : List ℕ) (now : World) (stop : Stop) (status : Status) → status ≡ status_of stop
-    → files' ≡ files → Unbroken at.line → left0 ≡ [] → Underway files before left0 at → Interrupted files' at.number at.line at.world now
-    → Replied files status before (outside_of left now.said now.faults)
-Underway-cut files files' before at left left0 now stop status is same h none x y =
-    Replied-cut files before at left now status (status_of-other stop status is) h
-    (subst (λ (bs : List ℕ). Advanced files (begun before) bs at) (all_taken before.left x.taken left0 x.split none) x.advanced)
-    (subst (λ (fs : Files). Interrupted fs at.number at.line at.world now) same y)
+  underway-front : (d0 d1 : D) (left : List ℕ) (at : Standing) → (x : Underway clock might tells files model before d0 d1 left at)
+      → SaysFront before.said (output (steps_of model before.left (x.advanced.answers ++ padding files before.left))) at.world.said
+  underway-front d0 d1 left at x =
+      covers-front files model before.left x.advanced.answers x.advanced.steps before.said at.world.said (underway-covers d0 d1 left at x)
+      (front-whole before.said (output x.advanced.steps) at.world.said x.advanced.after.said)
+
+  -- what was said is the replies to the lines that have ended
+  underway-ended : (d0 d1 : D) (left : List ℕ) (at : Standing) → (x : Underway clock might tells files model before d0 d1 left at)
+      → at.world.said ≡ before.said ++ output (steps_of model (ended x.taken) (x.advanced.answers ++ padding files before.left))
+  underway-ended d0 d1 left at x =
+      let pad : List Fetches = padding files before.left in
+      x.advanced.after.said ∙ ap (λ (l : List Step). before.said ++ output l)
+      (sym (steps_of-start model (ended x.taken) (x.advanced.answers ++ pad) ∙ x.advanced.ended_lines begun-unbroken pad))
+
+  -- the source fails at this place
+  pub Underway-fault : (d0 d1 : D) (at : Standing) (left left' : List ℕ) → left' ≡ left → Underway clock might tells files model before d0 d1 left at
+      → Ran tells files model stops.ScriptFault (LeavesOnly clock might d0 d1) (λ images so_far. ⊥) MayBeLeft before
+      (outside_of left' at.world.said at.world.faults)
+  Underway-fault d0 d1 at left left' e x =
+      ran-by d0 d1 stops.ScriptFault (outside_of left' at.world.said at.world.faults) x.advanced.answers x.advanced.steps x.advanced.taken
+      (underway-covers d0 d1 left at x)
+      (record {
+        all = λ d. absurd (let f : stops.ScriptFault ≡ Done = d in cc);
+        front = underway-front d0 d1 left at x;
+        at_fault = λ d. record {
+          taken = x.taken;
+          split = x.split ∙ ap (λ (l : List ℕ). x.taken ++ l) (sym e);
+          said = underway-ended d0 d1 left at x;
+        };
+        at_limit = λ d. absurd (let f : stops.ScriptFault ≡ stops.ScriptLong = d in cc);
+      }) (λ d. absurd (let f : stops.ScriptFault ≡ Done = d in cc))
+
+  -- the script's limit is reached in the further bytes
+  pub Underway-long : (files' : Files) (d0 d1 d2 : D) (p q : Standing) (left left0 left1 bytes : List ℕ) (room : ℕ)
+      → (IsTrue tells → files' ≡ files) → left0 ≡ bytes ++ left1 → length bytes ≡ room → length before.left + room ≡ SCRIPT_LIMIT + length left0
+      → Underway clock might tells files model before d0 d1 left0 p → Advanced tells files' (LeavesOnly clock might d1 d2) p bytes q
+      → Ran tells files model stops.ScriptLong (LeavesOnly clock might d0 d2) (λ images so_far. ⊥) MayBeLeft before
+      (outside_of left q.world.said q.world.faults)
+  Underway-long files' d0 d1 d2 p q left left0 left1 bytes room same e fits counted x y =
+      let z : Underway clock might tells files model before d0 d2 left1 q = Underway-next clock might tells files model before files' d0 d1 d2 p q left0 left1 bytes same e x y in
+      let spent : length z.taken ≡ SCRIPT_LIMIT
+      = omega (arith, ap length z.split, length-append z.taken left1, ap length e, length-append bytes left1, counted, fits) in
+      let within : take SCRIPT_LIMIT before.left ≡ z.taken
+      = ap (λ (k : ℕ). take k before.left) (sym spent) ∙ ap (λ (l : List ℕ). take (length z.taken) l) z.split ∙ take-append_seam z.taken left1 in
+      ran-by d0 d2 stops.ScriptLong (outside_of left q.world.said q.world.faults) z.advanced.answers z.advanced.steps z.advanced.taken
+      (underway-covers d0 d2 left1 q z)
+      (record {
+        all = λ d. absurd (let f : stops.ScriptLong ≡ Done = d in cc);
+        front = underway-front d0 d2 left1 q z;
+        at_fault = λ d. absurd (let f : stops.ScriptLong ≡ stops.ScriptFault = d in cc);
+        at_limit = λ d. underway-ended d0 d2 left1 q z
+            ∙ ap (λ (l : List ℕ). before.said ++ output (steps_of model (ended l) (z.advanced.answers ++ padding files before.left))) (sym within);
+      }) (λ d. absurd (let f : stops.ScriptLong ≡ Done = d in cc))
+
+  -- the run ends within further bytes
+  pub Underway-halted : (files' : Files) (d0 d1 d2 : D) (at : Standing) (left left0 left1 bytes : List ℕ) (now : World) (stop : Stop) (status : Status)
+      → status ≡ status_of stop → (IsTrue tells → files' ≡ files) → left0 ≡ bytes ++ left1 → Underway clock might tells files model before d0 d1 left0 at
+      → Stopped tells files' (LeavesOnly clock might d1 d2) at bytes now
+      → Ran tells files model status (LeavesOnly clock might d0 d2) (λ images so_far. ⊥) MayBeLeft before (outside_of left now.said now.faults)
+  Underway-halted files' d0 d1 d2 at left left0 left1 bytes now stop status is same e x y =
+      let pad : List Fetches = padding files before.left in
+      let z : Stopped tells files (LeavesOnly clock might d0 d2) (begun_at model before) (x.taken ++ bytes) now
+      = Stopped-then clock might tells files files' d0 d1 d2 (begun_at model before) at x.taken bytes now same x.advanced y in
+      let split : before.left ≡ (x.taken ++ bytes) ++ left1
+      = x.split ∙ ap (λ (l : List ℕ). x.taken ++ l) e ∙ sym (append_assoc x.taken bytes left1) in
+      let covers : Covers files model before.left z.answers z.steps
+      = covers-first law files model before.left z.answers z.steps
+          (subst (λ (l : List ℕ). ComeFirst z.steps pad (steps_from model 1 (lines l) (z.answers ++ pad))) (sym split) (z.ahead left1 pad)) in
+      let other : IsOther status = status_of-other stop status is in
+      ran-by d0 d2 status (outside_of left now.said now.faults) z.answers z.steps z.taken covers
+      (other-says files model status before left now.said now.faults z.answers z.steps other covers z.front)
+      (λ d. absurd (other.not_done d))
+
+  -- ---- the script ends here
+
+  -- the steps of the last line stand behind those before it
+  last-whole : (d0 d1 : D) (left : List ℕ) (at : Standing) (answers : List Fetches) (steps : List Step) → left ≡ []
+      → ((more : List Fetches) → steps_from at.world.model at.number (lines (at.line ++ [])) (answers ++ more) ≡ steps)
+      → (x : Underway clock might tells files model before d0 d1 left at)
+      → steps_from model 1 (lines before.left) ((x.advanced.answers ++ answers) ++ padding files before.left) ≡ x.advanced.steps ++ steps
+  last-whole d0 d1 left at answers steps none ahead x =
+      let pad : List Fetches = padding files before.left in
+      ap (λ (l : List ℕ). steps_from model 1 (lines l) ((x.advanced.answers ++ answers) ++ pad))
+      (x.split ∙ ap (λ (l : List ℕ). x.taken ++ l) none)
+      ∙ ap (λ (l : List Fetches). steps_from model 1 (lines (x.taken ++ [])) l) (append_assoc x.advanced.answers answers pad)
+      ∙ x.advanced.ahead [] (answers ++ pad)
+      ∙ ap (λ (l : List Step). x.advanced.steps ++ l) (ahead pad)
+
+  pub Underway-done : (files' : Files) (d0 d1 d2 : D) (at : Standing) (left left0 : List ℕ) (now : World)
+      → (IsTrue tells → files' ≡ files) → left0 ≡ [] → Underway clock might tells files model before d0 d1 left0 at
+      → Finished tells files' (LeavesOnly clock might d1 d2) at now
+      → ((images : Images) → MayBeLeft images → read_of images ≡ Ok (reading_of now.model))
+      → Ran tells files model Done (LeavesOnly clock might d0 d2) (λ images so_far. ⊥) MayBeLeft before (outside_of left now.said now.faults)
+  Underway-done files' d0 d1 d2 at left left0 now same none x y reads =
+      let pad : List Fetches = padding files before.left in
+      let answers : List Fetches = x.advanced.answers ++ y.answers in
+      let steps : List Step = x.advanced.steps ++ y.steps in
+      let whole : steps_from model 1 (lines before.left) (answers ++ pad) ≡ steps = last-whole d0 d1 left0 at y.answers y.steps none y.ahead x in
+      let is : steps_of model before.left (answers ++ pad) ≡ steps = steps_of-start model before.left (answers ++ pad) ∙ whole in
+      let after : IsAfter (begun_at model before).world steps now = IsAfter-then (begun_at model before).world at.world now x.advanced.steps y.steps x.advanced.after y.after in
+      let said : now.said ≡ before.said ++ output (steps_of model before.left (answers ++ pad)) = after.said ∙ ap (λ (l : List Step). before.said ++ output l) (sym is) in
+      ran-by d0 d2 Done (outside_of left now.said now.faults) answers steps
+      (Taken-then clock might tells files files' d0 d1 d2 (begun_at model before).world at.world now.faults x.advanced.answers y.answers x.advanced.steps y.steps same x.advanced.after x.advanced.taken y.taken)
+      (covers-all files model before.left answers steps whole)
+      (record {
+        all = λ d. said;
+        front = front-whole before.said (output (steps_of model before.left (answers ++ pad))) now.said said;
+        at_fault = λ d. absurd (let e : Done ≡ stops.ScriptFault = d in cc);
+        at_limit = λ d. absurd (let e : Done ≡ stops.ScriptLong = d in cc);
+      })
+      (λ d images left_so. reads images left_so
+      ∙ ap (λ (m : Model). Ok (reading_of m)) (after.reached ∙ ap (model_after model) (sym is)))
+
+  pub Underway-cut : (files' : Files) (d0 d1 d2 : D) (at : Standing) (left left0 : List ℕ) (now : World) (stop : Stop) (status : Status)
+      → status ≡ status_of stop → (IsTrue tells → files' ≡ files) → left0 ≡ [] → Underway clock might tells files model before d0 d1 left0 at
+      → Unfinished tells files' (LeavesOnly clock might d1 d2) at now
+      → Ran tells files model status (LeavesOnly clock might d0 d2) (λ images so_far. ⊥) MayBeLeft before (outside_of left now.said now.faults)
+  Underway-cut files' d0 d1 d2 at left left0 now stop status is same none x y =
+      let answers : List Fetches = x.advanced.answers ++ y.answers in
+      let steps : List Step = x.advanced.steps ++ y.steps in
+      let covers : Covers files model before.left answers steps
+      = covers-all files model before.left answers steps (last-whole d0 d1 left0 at y.answers y.steps none y.ahead x) in
+      let other : IsOther status = status_of-other stop status is in
+      ran-by d0 d2 status (outside_of left now.said now.faults) answers steps
+      (Taken-then clock might tells files files' d0 d1 d2 (begun_at model before).world at.world now.faults x.advanced.answers y.answers x.advanced.steps y.steps same x.advanced.after x.advanced.taken y.taken)
+      covers
+      (other-says files model status before left now.said now.faults answers steps other covers
+      (front-same before.said (output x.advanced.steps ++ output y.steps) (output steps) now.said (sym (output-append x.advanced.steps y.steps))
+      (front-after before.said (output x.advanced.steps) (output y.steps) at.world.said now.said x.advanced.after.said y.front)))
+      (λ d. absurd (other.not_done d))
 
 -- a script that was read to its end has at most its limit
 pub read-within : (script left : List ℕ) (room : ℕ) → length script + room ≡ SCRIPT_LIMIT + length left → left ≡ [] → length script ≤ SCRIPT_LIMIT
 read-within script left room counted none = omega (arith, counted, ap length none)
 
--- What a source gave
+-- ---- what a source gave
 
 pub pull-part : (m n : ℕ) (buffer left0 left1 : List ℕ) → m ≤ n → left0 ≡ take n buffer ++ left1 → left0 ≡ take m buffer ++ (drop m (take n buffer) ++ left1)
 pull-part m n buffer left0 left1 h e =
@@ -239,28 +335,9 @@ pub length-pull : (n : ℕ) (buffer left0 left1 : List ℕ) → n ≤ length buf
 length-pull n buffer left0 left1 h e =
     ap length e ∙ length-append (take n buffer) left1 ∙ ap (λ (k : ℕ). k + length left1) (length-take-le n buffer h)
 
+decided : (a b : ℕ) → (a ≤ b) ⊎ (b ≤ a)
+decided a b = elim (leb a b) as (λ v. leb a b ≡ v → (a ≤ b) ⊎ (b ≤ a)) [ true ↦ λ e. inl (grind (arith, nat_tests)) | false ↦ λ e. inr (grind (arith, nat_tests)) ] refl
+
 pub given-more : (m n a b c : ℕ) → RoseBy m a b → c ≡ min (b + n) LAST → RoseBy (m + n) a c
 given-more m n a b c (inl x) e = elim (decided (b + n) LAST) as (λ _. RoseBy (m + n) a c) [ inl h ↦ inl (omega arith) | inr h ↦ inr (omega arith) ]
 given-more m n a b c (inr x) e = inr (omega arith)
-
--- nothing was read or said
-pub Replied-nothing : (files : Files) (before : Outside) (left : List ℕ) (status : Status) → status ≢ Done → status ≢ stops.ScriptFault → status ≢ stops.ScriptLong
-    → Replied files status before (outside_of left before.said before.faults)
-Replied-nothing files before left status not_done not_fault not_long =
-    Replied-halted files before left [] before.left (begun before).world status (record { not_done = not_done; not_fault = not_fault; not_long = not_long }) refl
-    (Halted-start files (begun before) [] (begun before).world refl)
-
-pub steady : (before now : ℕ) → IsSteady before now → Rose before now → ⊥
-steady before now h (inl x) = omega (arith, h.same)
-steady before now h (inr x) = omega (arith, h.below)
-
--- where nothing fails the run is done, or there is no memory
-pub complete : (status : Status) (script : List ℕ) (limit s0 s1 d0 d1 : ℕ) → status ≢ stops.Words
-    → (status ≡ stops.ScriptFault → Rose s0 s1) → (status ≡ stops.ScriptLong → limit < length script) → (status ≡ stops.DeskFault → Rose d0 d1)
-    → length script ≤ limit → IsSteady s0 s1 → IsSteady d0 d1 → (status ≡ Done) ⊎ (status ≡ stops.NoMemory)
-complete Done script limit s0 s1 d0 d1 words fault long desk short source said = inl refl
-complete stops.Words script limit s0 s1 d0 d1 words fault long desk short source said = absurd (words refl)
-complete stops.ScriptFault script limit s0 s1 d0 d1 words fault long desk short source said = absurd (steady s0 s1 source (fault refl))
-complete stops.ScriptLong script limit s0 s1 d0 d1 words fault long desk short source said = absurd (let over : limit < length script = long refl in omega arith)
-complete stops.DeskFault script limit s0 s1 d0 d1 words fault long desk short source said = absurd (steady d0 d1 said (desk refl))
-complete stops.NoMemory script limit s0 s1 d0 d1 words fault long desk short source said = inr refl

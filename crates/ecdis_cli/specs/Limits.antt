@@ -1,4 +1,4 @@
--- The limits of a script, of its lines and of the names on them.
+-- The limits of a script and of its lines.
 use Rattle.std.specs.Prelude.{ℕ}
 
 -- the most bytes of a script
@@ -8,7 +8,3 @@ SCRIPT_LIMIT = 16777216
 -- the most bytes of a line that are kept
 abbrev pub KEPT_LIMIT : ℕ
 KEPT_LIMIT = 1026
-
--- the most bytes of the name of a file
-abbrev pub WORD_LIMIT : ℕ
-WORD_LIMIT = 255

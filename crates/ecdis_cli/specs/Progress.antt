@@ -1,85 +1,116 @@
 -- How far the answering of a script has come.
-use Rattle.std.specs.Prelude.{◌≡◌, ℕ, ◌≤◌, ◌⊎◌, Bool, List, ◌++◌, IsTrue, All, ◌==◌, false, count_by, [], ◌∷◌}
-use Rattle.std.specs.Str.Lines.{lines, strip_carriage_return}
-use Rattle.chart_ports.specs.Count.{Rose, RoseBy}
+use Rattle.std.specs.Prelude.{◌≡◌, ℕ, ◌≤◌, ◌<◌, ◌⊎◌, ◌==◌, Bool, false, List, [], ◌∷◌, ◌++◌, length, All, None}
+use Rattle.std.specs.Str.Lines.{lines}
+use Rattle.chart_ports.specs.Count.{RoseBy}
 use Rattle.chart_ports.specs.Said.{SaysFront}
-use Rattle.chart_model.specs.State.{StateValue}
-use Rattle.ecdis_cli.specs.Fetch.{Files}
-use Rattle.chart_store.specs.Loaded.{nothing_held}
-use Rattle.ecdis_cli.specs.World.{World, world_of}
-use Rattle.ecdis_cli.specs.Turn.{reply_to, state_after}
-use Rattle.ecdis_cli.specs.Replies.{replies_from, joined, ended}
+use Rattle.chart_ports.specs.declared.images.Images.{Images}
+use Rattle.chart_store.specs.Outcome.{after}
+use Rattle.session_core.specs.Fetch.{Files, Fetches}
+use Rattle.session_core.specs.Model.{Model}
+use Rattle.ecdis_cli.specs.Crash.{LeavesPrefix}
+use Rattle.ecdis_cli.specs.Ended.{ended}
+use Rattle.ecdis_cli.specs.Script.{IsAnswer, commands_in, failures_in, model_after, output, steps_from}
+use Rattle.ecdis_cli.specs.Step.{Step, said_in, step_to}
+use Rattle.ecdis_cli.specs.World.{Standing, World}
 
--- where the reading of a script stands: what the lines before left, the number of the line that has begun, and its
--- bytes
-pub record Standing : Type 0 where
-  pub world : World
-  pub number : ℕ
-  pub line : List ℕ
+-- what a crash leaves from one desk to a later one
+abbrev pub Leaving : Type 1
+Leaving = (Images → List ℕ → Type 0) → Type 0
 
--- nothing is held, and the first line has begun
-abbrev pub at_start : List ℕ → ℕ → Standing
-at_start said faults = record { world = world_of nothing_held said faults; number = 1; line = [] }
+-- ---- steps
 
--- the line was answered
-pub record Answered (files : Files) (number : ℕ) (line : List ℕ) (before now : World) : Type 0 where
-  pub mark : Bool
-  pub said : now.said ≡ before.said ++ reply_to files before.state number line mark
-  pub after : now.state ≡ state_after files before.state number line mark
-  pub cause : IsTrue mark → Rose before.faults now.faults
-  pub later : before.faults ≤ now.faults
+-- a step without a reply has no command
+abbrev pub IsSpoken : Step → Type 0
+IsSpoken step = (step.command ≡ None) ⊎ (0 < length (said_in step))
 
--- no more than a front of the line's reply was said, and what is held is as before the line, or as the line leaves it
-pub record Interrupted (files : Files) (number : ℕ) (line : List ℕ) (before now : World) : Type 0 where
-  pub mark : Bool
-  pub front : SaysFront before.said (reply_to files before.state number line mark) now.said
-  pub held : (now.state ≡ before.state) ⊎ (now.state ≡ state_after files before.state number line mark)
-  pub cause : IsTrue mark → Rose before.faults now.faults
-  pub later : before.faults ≤ now.faults
+-- Steps were taken, with what was said then and what a crash leaves of them.
+pub record Taken (tells : Bool) (files : Files) (Leaves : Leaving) (before : World) (faults : ℕ)
+    (answers : List Fetches) (steps : List Step) : Type 0 where
+  pub told : All (IsAnswer tells files) answers
+  pub spoken : All IsSpoken steps
+  pub held : (model_after before.model steps).state ≡ after before.model.state (commands_in steps)
+  pub failed : RoseBy (failures_in steps) before.faults faults
+  pub later : before.faults ≤ faults
+  pub crash : Leaves (LeavesPrefix before.model.state steps before.said)
 
--- what is said to bytes whose first line has this number
-unfoldable pub output_from : Files → StateValue → ℕ → List ℕ → List Bool → List ℕ
-output_from files state number bytes marks = joined (replies_from files state number (lines bytes) marks)
+-- the world after steps whose replies were said
+pub record IsAfter (before : World) (steps : List Step) (now : World) : Type 0 where
+  pub said : now.said ≡ before.said ++ output steps
+  pub reached : now.model ≡ model_after before.model steps
 
--- what is said to the rest of a script, from where its reading stands
-abbrev pub output_at : Files → Standing → List ℕ → List Bool → List ℕ
-output_at files at rest marks = output_from files at.world.state at.number (at.line ++ rest) marks
+-- ---- a line
 
--- how many fetches failed
-abbrev pub marked : List Bool → ℕ
-marked marks = count_by (λ mark. mark) marks
+-- The line was answered: its step was taken, and its reply said.
+pub record Answered (tells : Bool) (files : Files) (Leaves : Leaving) (number : ℕ) (line : List ℕ)
+    (before now : World) : Type 0 where
+  pub fetches : Fetches
+  pub taken : Taken tells files Leaves before now.faults (fetches ∷ [])
+      (step_to fetches before.model number line ∷ [])
+  pub after : IsAfter before (step_to fetches before.model number line ∷ []) now
+
+-- no more than a front of the line's reply was said
+pub record Interrupted (tells : Bool) (files : Files) (Leaves : Leaving) (number : ℕ) (line : List ℕ)
+    (before now : World) : Type 0 where
+  pub fetches : Fetches
+  pub taken : Taken tells files Leaves before now.faults (fetches ∷ [])
+      (step_to fetches before.model number line ∷ [])
+  pub front : SaysFront before.said (output (step_to fetches before.model number line ∷ [])) now.said
+
+-- ---- bytes of the script
 
 -- no line feed is among the bytes
 abbrev pub Unbroken : List ℕ → Type 0
 Unbroken bytes = All (λ byte. (byte == 10) ≡ false) bytes
 
--- Further bytes were taken, from one standing to another: what was said is what goes before the replies
--- to the rest, however the script goes on, and the replies to the lines that have ended.
-pub record Advanced (files : Files) (at : Standing) (bytes : List ℕ) (at' : Standing) : Type 0 where
-  pub marks : List Bool
-  pub replies : List ℕ
-  pub said : at'.world.said ≡ at.world.said ++ replies
-  pub ahead : (rest : List ℕ) (more : List Bool)
-      → output_at files at (bytes ++ rest) (marks ++ more) ≡ replies ++ output_at files at' rest more
-  pub ended_lines : Unbroken at.line
-      → replies ≡ output_from files at.world.state at.number (ended (at.line ++ bytes)) marks
-  pub unended : Unbroken bytes → marks ≡ []
+-- the steps of the rest of a script, from where its reading stands
+abbrev pub steps_at : Standing → List ℕ → List Fetches → List Step
+steps_at at rest answers = steps_from at.world.model at.number (lines (at.line ++ rest)) answers
+
+-- Further bytes were taken, from one standing to another: the steps of the lines that ended in them come first,
+-- however the script goes on.
+pub record Advanced (tells : Bool) (files : Files) (Leaves : Leaving) (at : Standing) (bytes : List ℕ)
+    (at' : Standing) : Type 0 where
+  pub answers : List Fetches
+  pub steps : List Step
+  pub taken : Taken tells files Leaves at.world at'.world.faults answers steps
+  pub after : IsAfter at.world steps at'.world
+  pub ahead : (rest : List ℕ) (more : List Fetches)
+      → steps_at at (bytes ++ rest) (answers ++ more) ≡ steps ++ steps_at at' rest more
+  pub ended_lines : Unbroken at.line → (more : List Fetches)
+      → steps_from at.world.model at.number (lines (ended (at.line ++ bytes))) (answers ++ more) ≡ steps
+  pub unended : Unbroken bytes → answers ≡ []
   pub open_line : Unbroken at.line → Unbroken at'.line
-  pub failed : RoseBy (marked marks) at.world.faults at'.world.faults
-  pub later : at.world.faults ≤ at'.world.faults
 
--- the line that has begun ended here, and was not answered
-pub record EndedUnanswered (files : Files) (at : Standing) (bytes : List ℕ) (now : World) : Type 0 where
-  pub rest : List ℕ
-  pub ends : bytes ≡ 10 ∷ rest
-  pub interrupted : Interrupted files at.number (strip_carriage_return at.line) at.world now
+-- the script has ended here, and its last line was answered
+pub record Finished (tells : Bool) (files : Files) (Leaves : Leaving) (at : Standing) (now : World) : Type 0 where
+  pub answers : List Fetches
+  pub steps : List Step
+  pub taken : Taken tells files Leaves at.world now.faults answers steps
+  pub after : IsAfter at.world steps now
+  pub ahead : (more : List Fetches) → steps_at at [] (answers ++ more) ≡ steps
 
--- The run ended within these bytes: those before were taken, and then the line under way was not answered,
--- or there was no memory to read it on.
-pub record Halted (files : Files) (at : Standing) (bytes : List ℕ) (now : World) : Type 0 where
-  pub taken : List ℕ
-  pub left : List ℕ
-  pub split : bytes ≡ taken ++ left
-  pub under_way : Standing
-  pub advanced : Advanced files at taken under_way
-  pub cut : EndedUnanswered files under_way left now ⊎ (now ≡ under_way.world)
+-- the script has ended here, and no more than a front of the reply to its last line was said
+pub record Unfinished (tells : Bool) (files : Files) (Leaves : Leaving) (at : Standing) (now : World) : Type 0 where
+  pub answers : List Fetches
+  pub steps : List Step
+  pub taken : Taken tells files Leaves at.world now.faults answers steps
+  pub front : SaysFront at.world.said (output steps) now.said
+  pub ahead : (more : List Fetches) → steps_at at [] (answers ++ more) ≡ steps
+
+-- steps come first among others, which go on from there by further answers of the shelf
+pub record ComeFirst (steps : List Step) (more : List Fetches) (whole : List Step) : Type 0 where
+  pub model : Model
+  pub number : ℕ
+  pub left : List (List ℕ)
+  pub behind : whole ≡ steps ++ steps_from model number left more
+
+-- The run ended within these bytes: a front of the replies to some steps was said, which come first, however the script
+-- goes on.
+pub record Stopped (tells : Bool) (files : Files) (Leaves : Leaving) (at : Standing) (bytes : List ℕ) (now : World)
+    : Type 0 where
+  pub answers : List Fetches
+  pub steps : List Step
+  pub taken : Taken tells files Leaves at.world now.faults answers steps
+  pub front : SaysFront at.world.said (output steps) now.said
+  pub ahead : (rest : List ℕ) (more : List Fetches)
+      → ComeFirst steps more (steps_at at (bytes ++ rest) (answers ++ more))

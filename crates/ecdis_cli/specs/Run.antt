@@ -1,29 +1,65 @@
--- What a run of the program says.
-use Rattle.std.specs.Prelude.{◌≡◌, ℕ, Bool, List, ◌++◌, take}
+-- What a run of the program says, and what a crash leaves of it.
+use Rattle.std.specs.Prelude.{◌≡◌, ◌⊎◌, ℕ, ◌≤◌, Bool, List, ◌++◌, length, take, All, Ok}
+use Rattle.std.specs.Str.Lines.{lines}
 use Rattle.chart_ports.specs.Count.{RoseBy}
 use Rattle.chart_ports.specs.Said.{SaysFront}
+use Rattle.chart_ports.specs.declared.images.Images.{Images}
+use Rattle.chart_store.specs.Images.{Reading, read_of}
+use Rattle.chart_store.specs.Store.{LeavesBefore}
+use Rattle.session_core.specs.Fetch.{Files, Fetches}
+use Rattle.session_core.specs.Model.{Model}
 use Rattle.ecdis_cli.specs.declared.run.status.Status.{Status}
 use Rattle.ecdis_cli.specs.declared.run.status.Status.TheVariants.{Done, ScriptFault, ScriptLong}
-use Rattle.ecdis_cli.specs.Fetch.{Files}
+use Rattle.ecdis_cli.specs.Crash.{LeavesPrefix}
+use Rattle.ecdis_cli.specs.Ended.{ended}
 use Rattle.ecdis_cli.specs.Limits.{SCRIPT_LIMIT}
-use Rattle.ecdis_cli.specs.World.{Outside}
-use Rattle.ecdis_cli.specs.Replies.{replies_of, joined, ended, fetch_failures}
+use Rattle.ecdis_cli.specs.Progress.{Leaving}
+use Rattle.ecdis_cli.specs.Script.{IsAnswer, failures_in, model_after, output, steps_of}
+use Rattle.ecdis_cli.specs.Step.{Step}
+
+-- what is around a run: what is left of its script, what was said, and how often the shelf has failed
+pub record Outside : Type 0 where
+  pub left : List ℕ
+  pub said : List ℕ
+  pub faults : ℕ
+
+abbrev pub outside_of : List ℕ → List ℕ → ℕ → Outside
+outside_of left said faults = record { left = left; said = said; faults = faults }
+
+-- what is read of files at the opening, as a model
+abbrev pub model_at : Reading → Model
+model_at opening = record { state = opening.state; room = record { used = opening.used; other = None } }
+
+-- what is read of files that keep a model
+abbrev pub reading_of : Model → Reading
+reading_of model = record { state = model.state; used = model.room.used }
 
 -- the replies to the lines that end in what was taken of the script were said
-pub record AnsweredTaken (files : Files) (marks : List Bool) (before now : Outside) : Type 0 where
+pub record AnsweredTaken (steps : List ℕ → List Step) (before now : Outside) : Type 0 where
   pub taken : List ℕ
   pub split : before.left ≡ taken ++ now.left
-  pub said : now.said ≡ before.said ++ joined (replies_of files (ended taken) marks)
+  pub said : now.said ≡ before.said ++ output (steps (ended taken))
 
--- For some marks of the fetches that failed, all replies were said where the run was done, and else a
--- front of them: those to the lines that had ended in what was taken, where the source failed, and those
--- to the lines that end within the limit, where the script is too long. The shelf failed at least as
--- often as a reply says so.
-pub record Replied (files : Files) (status : Status) (before now : Outside) : Type 0 where
-  pub marks : List Bool
-  pub all : status ≡ Done → now.said ≡ before.said ++ joined (replies_of files before.left marks)
-  pub front : SaysFront before.said (joined (replies_of files before.left marks)) now.said
-  pub at_fault : status ≡ ScriptFault → AnsweredTaken files marks before now
+-- What is said, by the steps of a script: all of it where the run is done, and else a front of it. Where the source
+-- failed it is said to the lines that had ended in what was taken, and where the script is too long to those that end
+-- within the limit.
+pub record Says (status : Status) (steps : List ℕ → List Step) (before now : Outside) : Type 0 where
+  pub all : status ≡ Done → now.said ≡ before.said ++ output (steps before.left)
+  pub front : SaysFront before.said (output (steps before.left)) now.said
+  pub at_fault : status ≡ ScriptFault → AnsweredTaken steps before now
   pub at_limit : status ≡ ScriptLong
-      → now.said ≡ before.said ++ joined (replies_of files (ended (take SCRIPT_LIMIT before.left)) marks)
-  pub failures : RoseBy (fetch_failures (replies_of files before.left marks)) before.faults now.faults
+      → now.said ≡ before.said ++ output (steps (ended (take SCRIPT_LIMIT before.left)))
+
+-- The run of a script from a model, by the answers of the shelf, line by line: what it says, how often the shelf
+-- failed, what a crash at any moment leaves, and what one leaves at the end.
+pub record Ran (tells : Bool) (files : Files) (model : Model) (status : Status) (Leaves : Leaving)
+    (LeavesElse : Images → List ℕ → Type 0) (MayBeLeft : Images → Type 0) (before now : Outside) : Type 0 where
+  pub answers : List Fetches
+  pub told : All (IsAnswer tells files) answers
+  pub enough : length (lines before.left) ≤ length answers
+  pub says : Says status (λ script. steps_of model script answers) before now
+  pub failed : RoseBy (failures_in (steps_of model before.left answers)) before.faults now.faults
+  pub crash : Leaves (λ images so_far. LeavesElse images so_far
+      ⊎ LeavesPrefix model.state (steps_of model before.left answers) before.said images so_far)
+  pub end : status ≡ Done → (images : Images) → MayBeLeft images
+      → read_of images ≡ Ok (reading_of (model_after model (steps_of model before.left answers)))

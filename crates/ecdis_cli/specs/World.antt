@@ -1,21 +1,35 @@
 -- What a line meets, and what it leaves.
-use Rattle.std.specs.Prelude.{ℕ, List}
-use Rattle.chart_model.specs.State.{StateValue}
+use Rattle.std.specs.Prelude.{ℕ, ◌<◌, List, [], IsTrue, Bool}
+use Rattle.chart_store.specs.Store.{IsKept, count_of, is_sound}
+use Rattle.session_core.specs.Model.{Model}
+use Rattle.session_core.specs.Session.{model_of, store_of}
+use Rattle.session_core.specs.declared.session.Session.{Session}
 
--- what is held, what was said, and how often the shelf has failed
+-- the model, what was said, and how often the shelf has failed
 pub record World : Type 0 where
-  pub state : StateValue
+  pub model : Model
   pub said : List ℕ
   pub faults : ℕ
 
-abbrev pub world_of : StateValue → List ℕ → ℕ → World
-world_of state said faults = record { state = state; said = said; faults = faults }
+abbrev pub world_of : Session → List ℕ → ℕ → World
+world_of session said faults = record { model = model_of session; said = said; faults = faults }
 
--- the same around a whole run: what is left of its script, what was said, and how often the shelf has failed
-pub record Outside : Type 0 where
-  pub left : List ℕ
-  pub said : List ℕ
-  pub faults : ℕ
+-- where the reading of a script stands: what the lines before left, the number of the line that has begun, and its
+-- bytes
+pub record Standing : Type 0 where
+  pub world : World
+  pub number : ℕ
+  pub line : List ℕ
 
-abbrev pub outside_of : List ℕ → List ℕ → ℕ → Outside
-outside_of left said faults = record { left = left; said = said; faults = faults }
+-- the first line has begun
+abbrev pub at_start : Model → List ℕ → ℕ → Standing
+at_start model said faults =
+    record { world = record { model = model; said = said; faults = faults }; number = 1; line = [] }
+
+-- The desk keeps the session's store, no call of it has failed, and fewer commands were accepted than the number of the
+-- line that has begun.
+pub record IsReady (tells : Bool) (contents : ℕ → List ℕ) (may_leave : ℕ → List ℕ → Type 0) (number : ℕ)
+    (session : Session) : Type 0 where
+  pub sound : IsTrue (is_sound (store_of session))
+  pub kept : IsTrue tells → IsKept contents may_leave (store_of session)
+  pub counted : count_of (store_of session) < number

@@ -1,33 +1,34 @@
 //! All that the program does.
 
+mod answer;
+mod line;
+mod opened;
 mod reader;
 mod rounds;
 pub mod status;
+mod stop;
 
-ghost use Rattle.std.specs.Prelude.{◌≡◌, ◌≢◌, ◌+◌, ◌<◌, ◌≤◌, ◌⊎◌, ◌↔◌, [], Bool, List, ℕ, IsTrue, length};
+ghost use Rattle.std.specs.Prelude.{◌≡◌, ◌≢◌, ◌+◌, ◌<◌, ◌≤◌, ◌⊎◌, ◌↔◌, [], List, ℕ, IsTrue, length, None, Ok, Err, IsSome};
 ghost use Rattle.chart_ports.specs.Count.{IsSteady, Rose, RoseBy};
-ghost use Rattle.chart_store.specs.Live.{AreLive};
-ghost use Rattle.chart_store.specs.Loaded.{nothing_held};
+ghost use Rattle.chart_ports.specs.Moments.{LeavesOnly, MayBeLeft, images_of};
+ghost use Rattle.chart_store.specs.Images.{Reading, read_of};
+ghost use Rattle.chart_store.specs.Store.{LeavesBefore};
+ghost use Rattle.command_words.specs.Reading.{words_of};
 ghost use Rattle.ecdis_cli.specs.Limits.{SCRIPT_LIMIT};
-ghost use Rattle.ecdis_cli.specs.Replies.{state_from};
-ghost use Rattle.ecdis_cli.specs.World.{outside_of};
-ghost use Rattle.ecdis_cli.specs.Blamed.{Blamed};
-ghost use Rattle.ecdis_cli.specs.Run.{Replied};
+ghost use Rattle.ecdis_cli.specs.Run.{Ran, model_at, outside_of};
 
-use crate::run::rounds::run_script;
+use crate::run::opened::run_opened;
 use crate::run::status::Status;
-use crate::session::laws::lines_leave_what_their_files_leave;
 use chart_ports::{Desk, Shelf, Source, Steps};
+use command_words::{WordsFault, read_words};
 use std::alloc::Global;
 use std::sync::ledger::Ledger;
 
-/// How many bytes of the script are asked for at once.
-const BUFFER: usize = 16_384;
-
-/// Answers a script, line by line: each reply is said before the next line is run.
+/// Runs the program: it opens the store on the desk, and answers the script line by line. Each reply is said before the
+/// next line is run.
 ///
-/// The words are the program's name alone. The files are those of the shelf, the replies are said at
-/// the desk, and `steps` counts the data records that are decoded.
+/// `words` are those of the command line, the program's name first. The files that lines name are those of the shelf.
+/// `steps` counts the data records that are decoded.
 pub fn run_ecdis<S: Source, L: Shelf, D: Desk, C: Ledger>(
     alloc: Global,
     words: &[String],
@@ -36,27 +37,31 @@ pub fn run_ecdis<S: Source, L: Shelf, D: Desk, C: Ledger>(
     desk: &mut D,
     steps: &mut Steps<C>,
 ) -> Status
-    // Other words end the run before anything is read or said.
-    ensures words { result ≡ Status.Words ↔ (length words.now ≢ 1) }
-    ensures unread { result ≡ Status.Words → script.new ≡ script.old }
-    ensures unsaid { result ≡ Status.Words → desk.new ≡ desk.old }
+    // Words that don't fit end the run before anything is read, written or said, and no others do.
+    ensures words { result ≡ Status.Words → words_of words.now ≡ None }
+    ensures wordless { words_of words.now ≡ None → (result ≡ Status.Words) ⊎ (result ≡ Status.NoMemory) }
+    ensures untouched { words_of words.now ≡ None →
+        (script.new ≡ script.old) × (shelf.new ≡ shelf.old) × (desk.new ≡ desk.old) }
 
-    // What is said is the replies to the lines, or a front of them.
-    ensures output { IsTrue S.tells → IsTrue L.tells → IsTrue D.tells → Replied (L.files shelf.old) result
+    // From files that read as what is held, the output is the replies to the script's lines, all of them where the run
+    // is done and else a front. At every moment a crash leaves files that stand for what the first accepted commands
+    // leave: as many as have a reply that was begun, or one more; or the files as one might have left them at the start.
+    // At the end of a run that is done it leaves what all of them leave.
+    ensures ran { IsTrue S.tells → IsTrue D.tells → (opening : Reading) →
+        read_of (images_of (D.contents desk.old)) ≡ Ok opening →
+        Ran L.tells (L.files shelf.old) (model_at opening) result
+        (λ P. LeavesOnly D.clock D.might desk.old desk.new P) (LeavesBefore (D.may_leave desk.old) (D.said desk.old))
+        (MayBeLeft (D.may_leave desk.new))
         (outside_of (S.left script.old) (D.said desk.old) (L.faults shelf.old))
         (outside_of (S.left script.new) (D.said desk.new) (L.faults shelf.new)) }
-    ensures blamed { IsTrue D.tells →
-        Blamed (D.said desk.old) (D.said desk.new) (L.faults shelf.old) (L.faults shelf.new) }
     ensures done { result ≡ Status.Done → IsTrue (S.is_at_end script.new) }
     ensures read { IsTrue S.tells → result ≡ Status.Done → S.left script.new ≡ [] }
     ensures short { IsTrue S.tells → result ≡ Status.Done → length (S.left script.old) ≤ SCRIPT_LIMIT }
     ensures same { IsTrue L.tells → L.files shelf.new ≡ L.files shelf.old }
 
-    // After any lines what is held of each cell is what its live files leave.
-    ensures held { (lines : List (List ℕ)) (marks : List Bool) →
-        AreLive (state_from (L.files shelf.old) nothing_held 1 lines marks).cells }
-
-    // Each end has its cause. Want of memory alone needs none.
+    // Each other end has its cause. Want of memory alone needs none.
+    ensures foreign { (bank at : ℕ) → IsTrue D.tells → result ≡ Status.Foreign bank at →
+        read_of (images_of (D.contents desk.old)) ≡ Err (record { bank = bank; at = at }) }
     ensures script_failed { result ≡ Status.ScriptFault → Rose (S.faults script.old) (S.faults script.new) }
     ensures script_long { result ≡ Status.ScriptLong →
         RoseBy (SCRIPT_LIMIT + 1) (S.given script.old) (S.given script.new) }
@@ -65,16 +70,17 @@ pub fn run_ecdis<S: Source, L: Shelf, D: Desk, C: Ledger>(
     ensures script_later { S.faults script.old ≤ S.faults script.new }
     ensures shelf_later { L.faults shelf.old ≤ L.faults shelf.new }
     ensures desk_later { D.faults desk.old ≤ D.faults desk.new }
-    ensures complete { length words.now ≡ 1 → IsTrue S.tells → length (S.left script.old) ≤ SCRIPT_LIMIT
-        → IsSteady (S.faults script.old) (S.faults script.new) → IsSteady (D.faults desk.old) (D.faults desk.new)
-        → (result ≡ Status.Done) ⊎ (result ≡ Status.NoMemory) }
+
+    // Where none of these holds, the run is done, unless memory runs out.
+    ensures complete { IsSome (words_of words.now) → IsTrue S.tells → IsTrue D.tells → (opening : Reading) →
+        read_of (images_of (D.contents desk.old)) ≡ Ok opening → length (S.left script.old) ≤ SCRIPT_LIMIT →
+        IsSteady (S.faults script.old) (S.faults script.new) → IsSteady (D.faults desk.old) (D.faults desk.new) →
+        (result ≡ Status.Done) ⊎ (result ≡ Status.NoMemory) }
 {
-    lines_leave_what_their_files_leave();
-    if words.len() != 1 {
-        return Status::Words;
+    match read_words(alloc, words) {
+        // The catalogue and the table are not asked for yet.
+        Ok(_) => run_opened(alloc, script, shelf, desk, steps),
+        Err(WordsFault::Refused) => Status::Words,
+        Err(WordsFault::NoMemory) => Status::NoMemory,
     }
-    let Ok(mut buffer) = vec![in alloc; 0; BUFFER] else {
-        return Status::NoMemory;
-    };
-    run_script(alloc, &mut buffer, script, shelf, desk, steps)
 }

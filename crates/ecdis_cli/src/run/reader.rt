@@ -3,15 +3,18 @@
 ghost use Rattle.std.specs.Prelude.{◌≡◌, ◌+◌, ◌^◌, ◌<◌, ◌≤◌, ◌∷◌, ◌++◌, [], IsTrue, OnOk, OnErr, IsErrOf, IsOkUnless, length, All, vec_len, ◌==◌, nat_lt, false, if◌then◌else◌, List, ℕ};
 ghost use Rattle.chart_ports.specs.Count.{Rose};
 ghost use Rattle.ecdis_cli.specs.declared.run.reader.TheConstants.{KEPT};
-ghost use Rattle.ecdis_cli.specs.World.{world_of};
-ghost use Rattle.ecdis_cli.specs.Blamed.{Blamed};
-ghost use Rattle.ecdis_cli.specs.Progress.{Advanced, Halted, Interrupted, Answered, at_start};
+ghost use Rattle.chart_ports.specs.Moments.{LeavesOnly};
+ghost use Rattle.session_core.specs.Session.{model_of};
+ghost use Rattle.ecdis_cli.specs.World.{IsReady, at_start, world_of};
+ghost use Rattle.ecdis_cli.specs.Progress.{Advanced, Finished, Stopped, Unfinished};
 
-use crate::script::line::without_carriage_return;
-use crate::session::answer::answer;
-use crate::session::stop::Stop;
+use crate::run::answer::answer;
+use crate::run::line::without_carriage_return;
+use crate::run::stop::Stop;
 use chart_ports::{Desk, Shelf, Steps};
-use chart_store::LiveCells;
+use chart_store::kept_stores_are_read;
+use script_reader::long_lines_are_read_by_their_front;
+use session_core::Session;
 use std::alloc::Global;
 use std::sync::ledger::Ledger;
 
@@ -19,11 +22,11 @@ use std::sync::ledger::Ledger;
 /// without a carriage return at its end, so that its reply is known.
 const KEPT: usize = 1026;
 
-/// Where the reading of a script stands: what is held, the number of the line that has begun, and its
+/// Where the reading of a script stands: the session, the number of the line that has begun, and its
 /// first bytes.
 #[derive(Drop)]
 pub struct Reader {
-    pub cells: LiveCells,
+    pub session: Session,
     pub number: u64,
     pub line: Vec<u8>,
     ghost short: { vec_len line ≤ KEPT },
@@ -34,11 +37,12 @@ impl Reader {
     ghost use Rattle.ecdis_cli.specs.Standing.{standing};
 
     /// At the start of the first line.
-    pub fn new(alloc: Global) -> Reader
-        ensures { (said : List ℕ) (faults : ℕ) → standing result said faults ≡ at_start said faults }
+    pub fn new(alloc: Global, session: Session) -> Reader
+        ensures start { (said : List ℕ) (faults : ℕ) → standing result said faults ≡ at_start (model_of session) said faults }
+        ensures session { result.session ≡ session }
     {
         Reader {
-            cells: LiveCells::new(alloc),
+            session,
             number: 1,
             line: Vec::new(alloc),
         }
@@ -52,16 +56,19 @@ impl Reader {
         desk: &mut D,
         steps: &mut Steps<C>,
     ) -> Result<(), Stop>
-        requires { self.old.number + 1 < 2 ^ 64 }
-        ensures ok { IsTrue L.tells → IsTrue D.tells → OnOk result (Advanced (L.files shelf.old)
+        requires number { self.old.number + 1 < 2 ^ 63 }
+        requires ready { IsReady D.tells (D.contents desk.old) (D.may_leave desk.old) self.old.number self.old.session }
+        ensures ok { IsTrue D.tells → OnOk result (Advanced L.tells (L.files shelf.old)
+            (λ P. LeavesOnly D.clock D.might desk.old desk.new P)
             (standing self.old (D.said desk.old) (L.faults shelf.old)) (10 ∷ [])
             (standing self.new (D.said desk.new) (L.faults shelf.new))) }
-        ensures err { IsTrue L.tells → IsTrue D.tells → OnErr result (Halted (L.files shelf.old)
+        ensures err { IsTrue D.tells → OnErr result (Stopped L.tells (L.files shelf.old)
+            (λ P. LeavesOnly D.clock D.might desk.old desk.new P)
             (standing self.old (D.said desk.old) (L.faults shelf.old)) (10 ∷ [])
-            (world_of self.new.cells (D.said desk.new) (L.faults shelf.new))) }
+            (world_of self.new.session (D.said desk.new) (L.faults shelf.new))) }
         ensures number { self.new.number ≤ self.old.number + 1 }
-        ensures blamed { IsTrue D.tells →
-            Blamed (D.said desk.old) (D.said desk.new) (L.faults shelf.old) (L.faults shelf.new) }
+        ensures ready { OnOk result
+            (IsReady D.tells (D.contents desk.new) (D.may_leave desk.new) self.new.number self.new.session) }
         ensures same { IsTrue L.tells → L.files shelf.new ≡ L.files shelf.old }
         ensures shelf_later { L.faults shelf.old ≤ L.faults shelf.new }
         ensures desk_later { D.faults desk.old ≤ D.faults desk.new }
@@ -72,7 +79,7 @@ impl Reader {
             alloc,
             self.number,
             line,
-            &mut self.cells,
+            &mut self.session,
             shelf,
             desk,
             steps,
@@ -88,7 +95,7 @@ impl Reader {
         ensures ok { OnOk result (self.new.line.items ≡
             (if nat_lt (length self.old.line.items) KEPT then self.old.line.items ++ byte ∷ [] else self.old.line.items)) }
         ensures number { self.new.number ≡ self.old.number }
-        ensures cells { self.new.cells ≡ self.old.cells }
+        ensures session { self.new.session ≡ self.old.session }
         ensures err { IsOkUnless result Stop.NoMemory }
     {
         if self.line.len() < KEPT {
@@ -106,21 +113,26 @@ impl Reader {
         desk: &mut D,
         steps: &mut Steps<C>,
     ) -> Result<(), Stop>
-        requires { self.old.number + 1 < 2 ^ 64 }
-        ensures ok { IsTrue L.tells → IsTrue D.tells → OnOk result (Advanced (L.files shelf.old)
+        requires number { self.old.number + 1 < 2 ^ 63 }
+        requires ready { IsReady D.tells (D.contents desk.old) (D.may_leave desk.old) self.old.number self.old.session }
+        ensures ok { IsTrue D.tells → OnOk result (Advanced L.tells (L.files shelf.old)
+            (λ P. LeavesOnly D.clock D.might desk.old desk.new P)
             (standing self.old (D.said desk.old) (L.faults shelf.old)) (byte ∷ [])
             (standing self.new (D.said desk.new) (L.faults shelf.new))) }
-        ensures err { IsTrue L.tells → IsTrue D.tells → OnErr result (Halted (L.files shelf.old)
+        ensures err { IsTrue D.tells → OnErr result (Stopped L.tells (L.files shelf.old)
+            (λ P. LeavesOnly D.clock D.might desk.old desk.new P)
             (standing self.old (D.said desk.old) (L.faults shelf.old)) (byte ∷ [])
-            (world_of self.new.cells (D.said desk.new) (L.faults shelf.new))) }
+            (world_of self.new.session (D.said desk.new) (L.faults shelf.new))) }
         ensures number { self.new.number ≤ self.old.number + 1 }
-        ensures blamed { IsTrue D.tells →
-            Blamed (D.said desk.old) (D.said desk.new) (L.faults shelf.old) (L.faults shelf.new) }
+        ensures ready { OnOk result
+            (IsReady D.tells (D.contents desk.new) (D.may_leave desk.new) self.new.number self.new.session) }
         ensures same { IsTrue L.tells → L.files shelf.new ≡ L.files shelf.old }
         ensures shelf_later { L.faults shelf.old ≤ L.faults shelf.new }
         ensures desk_later { D.faults desk.old ≤ D.faults desk.new }
         ensures desk_failed { IsErrOf result Stop.DeskFault → Rose (D.faults desk.old) (D.faults desk.new) }
     {
+        kept_stores_are_read();
+        long_lines_are_read_by_their_front();
         if byte == b'\n' {
             self.end_line(alloc, shelf, desk, steps)
         } else {
@@ -137,28 +149,32 @@ impl Reader {
         desk: &mut D,
         steps: &mut Steps<C>,
     ) -> Result<(), Stop>
-        requires { self.old.number + length bytes.now < 2 ^ 64 }
-        ensures ok { IsTrue L.tells → IsTrue D.tells → OnOk result (Advanced (L.files shelf.old)
+        requires number { self.old.number + length bytes.now < 2 ^ 63 }
+        requires ready { IsReady D.tells (D.contents desk.old) (D.may_leave desk.old) self.old.number self.old.session }
+        ensures ok { IsTrue D.tells → OnOk result (Advanced L.tells (L.files shelf.old)
+            (λ P. LeavesOnly D.clock D.might desk.old desk.new P)
             (standing self.old (D.said desk.old) (L.faults shelf.old)) bytes.now
             (standing self.new (D.said desk.new) (L.faults shelf.new))) }
-        ensures err { IsTrue L.tells → IsTrue D.tells → OnErr result (Halted (L.files shelf.old)
+        ensures err { IsTrue D.tells → OnErr result (Stopped L.tells (L.files shelf.old)
+            (λ P. LeavesOnly D.clock D.might desk.old desk.new P)
             (standing self.old (D.said desk.old) (L.faults shelf.old)) bytes.now
-            (world_of self.new.cells (D.said desk.new) (L.faults shelf.new))) }
+            (world_of self.new.session (D.said desk.new) (L.faults shelf.new))) }
         ensures number { self.new.number ≤ self.old.number + length bytes.now }
-        ensures blamed { IsTrue D.tells →
-            Blamed (D.said desk.old) (D.said desk.new) (L.faults shelf.old) (L.faults shelf.new) }
+        ensures ready { OnOk result
+            (IsReady D.tells (D.contents desk.new) (D.may_leave desk.new) self.new.number self.new.session) }
         ensures same { IsTrue L.tells → L.files shelf.new ≡ L.files shelf.old }
         ensures shelf_later { L.faults shelf.old ≤ L.faults shelf.new }
         ensures desk_later { D.faults desk.old ≤ D.faults desk.new }
         ensures desk_failed { IsErrOf result Stop.DeskFault → Rose (D.faults desk.old) (D.faults desk.new) }
     {
+        kept_stores_are_read();
         for byte in bytes {
             self.take(alloc, *byte, shelf, desk, steps)?;
         }
         Ok(())
     }
 
-    /// Answers the line that has begun, at the script's end. A carriage return at its end stays.
+    /// Answers the line that has begun, at the script's end, where there is one. A carriage return at its end stays.
     pub fn finish<L: Shelf, D: Desk, C: Ledger>(
         &mut self,
         alloc: Global,
@@ -166,26 +182,32 @@ impl Reader {
         desk: &mut D,
         steps: &mut Steps<C>,
     ) -> Result<(), Stop>
-        ensures ok { IsTrue L.tells → IsTrue D.tells → OnOk result (Answered (L.files shelf.old)
-            self.old.number self.old.line.items
-            (world_of self.old.cells (D.said desk.old) (L.faults shelf.old))
-            (world_of self.new.cells (D.said desk.new) (L.faults shelf.new))) }
-        ensures err { IsTrue L.tells → IsTrue D.tells → OnErr result (Interrupted (L.files shelf.old)
-            self.old.number self.old.line.items
-            (world_of self.old.cells (D.said desk.old) (L.faults shelf.old))
-            (world_of self.new.cells (D.said desk.new) (L.faults shelf.new))) }
-        ensures blamed { IsTrue D.tells →
-            Blamed (D.said desk.old) (D.said desk.new) (L.faults shelf.old) (L.faults shelf.new) }
+        requires number { self.old.number + 1 < 2 ^ 63 }
+        requires ready { IsReady D.tells (D.contents desk.old) (D.may_leave desk.old) self.old.number self.old.session }
+        ensures ok { IsTrue D.tells → OnOk result (Finished L.tells (L.files shelf.old)
+            (λ P. LeavesOnly D.clock D.might desk.old desk.new P)
+            (standing self.old (D.said desk.old) (L.faults shelf.old))
+            (world_of self.new.session (D.said desk.new) (L.faults shelf.new))) }
+        ensures err { IsTrue D.tells → OnErr result (Unfinished L.tells (L.files shelf.old)
+            (λ P. LeavesOnly D.clock D.might desk.old desk.new P)
+            (standing self.old (D.said desk.old) (L.faults shelf.old))
+            (world_of self.new.session (D.said desk.new) (L.faults shelf.new))) }
+        ensures ready { OnOk result
+            (IsReady D.tells (D.contents desk.new) (D.may_leave desk.new) (self.old.number + 1) self.new.session) }
         ensures same { IsTrue L.tells → L.files shelf.new ≡ L.files shelf.old }
         ensures shelf_later { L.faults shelf.old ≤ L.faults shelf.new }
         ensures desk_later { D.faults desk.old ≤ D.faults desk.new }
         ensures desk_failed { IsErrOf result Stop.DeskFault → Rose (D.faults desk.old) (D.faults desk.new) }
     {
+        kept_stores_are_read();
+        if self.line.is_empty() {
+            return Ok(());
+        }
         answer(
             alloc,
             self.number,
             &self.line,
-            &mut self.cells,
+            &mut self.session,
             shelf,
             desk,
             steps,

@@ -1,14 +1,17 @@
 //! The run of a script.
 
-ghost use Rattle.std.specs.Prelude.{◌≡◌, ◌≢◌, ◌+◌, ◌<◌, ◌≤◌, [], IsTrue, length};
+ghost use Rattle.std.specs.Prelude.{◌≡◌, ◌≢◌, ◌+◌, ◌<◌, ◌≤◌, [], ℕ, IsTrue, length};
 ghost use Rattle.chart_ports.specs.Count.{Rose, RoseBy};
-ghost use Rattle.ecdis_cli.specs.World.{outside_of};
-ghost use Rattle.ecdis_cli.specs.Blamed.{Blamed};
-ghost use Rattle.ecdis_cli.specs.Run.{Replied};
+ghost use Rattle.chart_ports.specs.Moments.{LeavesOnly, MayBeLeft};
+ghost use Rattle.session_core.specs.Session.{model_of};
+ghost use Rattle.ecdis_cli.specs.Run.{Ran, outside_of};
+ghost use Rattle.ecdis_cli.specs.World.{IsReady};
 
 use crate::run::reader::Reader;
 use crate::run::status::Status;
 use chart_ports::{Desk, Failed, Shelf, Source, Steps};
+use chart_store::kept_stores_are_read;
+use session_core::{Session, turns_follow_their_commands};
 use std::alloc::Global;
 use std::sync::ledger::Ledger;
 
@@ -19,18 +22,19 @@ const SCRIPT_LIMIT: usize = 16_777_216;
 pub fn run_script<S: Source, L: Shelf, D: Desk, C: Ledger>(
     alloc: Global,
     buffer: &mut [u8],
+    session: Session,
     script: &mut S,
     shelf: &mut L,
     desk: &mut D,
     steps: &mut Steps<C>,
 ) -> Status
     requires { 0 < length buffer.old }
-    ensures output { IsTrue S.tells → IsTrue L.tells → IsTrue D.tells → Replied (L.files shelf.old) result
+    requires ready { IsReady D.tells (D.contents desk.old) (D.may_leave desk.old) 1 session }
+    ensures ran { IsTrue S.tells → IsTrue D.tells → Ran L.tells (L.files shelf.old) (model_of session) result
+        (λ P. LeavesOnly D.clock D.might desk.old desk.new P) (λ images so_far. ⊥) (MayBeLeft (D.may_leave desk.new))
         (outside_of (S.left script.old) (D.said desk.old) (L.faults shelf.old))
         (outside_of (S.left script.new) (D.said desk.new) (L.faults shelf.new)) }
-    ensures blamed { IsTrue D.tells →
-        Blamed (D.said desk.old) (D.said desk.new) (L.faults shelf.old) (L.faults shelf.new) }
-    ensures words { result ≢ Status.Words }
+    ensures begun { (result ≢ Status.Words) × ((bank at : ℕ) → result ≢ Status.Foreign bank at) }
     ensures done { result ≡ Status.Done → IsTrue (S.is_at_end script.new) }
     ensures read { IsTrue S.tells → result ≡ Status.Done → S.left script.new ≡ [] }
     ensures short { IsTrue S.tells → result ≡ Status.Done → length (S.left script.old) ≤ SCRIPT_LIMIT }
@@ -44,7 +48,9 @@ pub fn run_script<S: Source, L: Shelf, D: Desk, C: Ledger>(
     ensures desk_later { D.faults desk.old ≤ D.faults desk.new }
     ensures same { IsTrue L.tells → L.files shelf.new ≡ L.files shelf.old }
 {
-    let mut reader = Reader::new(alloc);
+    kept_stores_are_read();
+    turns_follow_their_commands();
+    let mut reader = Reader::new(alloc, session);
     let mut room = SCRIPT_LIMIT;
     for _round in 0..SCRIPT_LIMIT + 1 {
         let count = match script.pull(buffer) {

@@ -2,9 +2,10 @@
 
 ghost use Rattle.std.specs.Prelude.{◌≡◌};
 ghost use Rattle.ecdis_cli.specs.Status.{number_of};
-ghost use Rattle.ecdis_cli.specs.Stop.{status_of};
+ghost use Rattle.ecdis_cli.specs.Stop.{status_of, status_of_opening};
 
-use crate::session::stop::Stop;
+use crate::run::stop::Stop;
+use chart_store::OpenFault;
 use std::fmt;
 
 /// How a run ends.
@@ -12,13 +13,15 @@ use std::fmt;
 pub enum Status {
     /// The script was read to its end and every reply was said.
     Done,
-    /// The words are not the program's name alone.
+    /// The words are not those of the program.
     Words,
+    /// The files of the store are none: their first fault is in the file of this number, at this place, counted from 0.
+    Foreign(u8, u64),
     /// The script could not be read on.
     ScriptFault,
     /// The script has more than 16,777,216 bytes.
     ScriptLong,
-    /// A reply could not be said.
+    /// The disk failed, or a reply could not be said.
     DeskFault,
     /// There was no memory.
     NoMemory,
@@ -35,6 +38,17 @@ impl Status {
         }
     }
 
+    /// How the run ends whose store is not opened.
+    pub fn of_opening(fault: OpenFault) -> Status
+        ensures { result ≡ status_of_opening fault }
+    {
+        match fault {
+            OpenFault::DeskFault => Status::DeskFault,
+            OpenFault::Foreign(bank, at) => Status::Foreign(bank, at),
+            OpenFault::NoMemory => Status::NoMemory,
+        }
+    }
+
     /// The number with which the program ends.
     pub fn number(self) -> u8
         ensures { result ≡ number_of self }
@@ -42,6 +56,7 @@ impl Status {
         match self {
             Status::Done => 0,
             Status::Words => 1,
+            Status::Foreign(..) => 3,
             Status::ScriptFault => 4,
             Status::ScriptLong => 5,
             Status::DeskFault => 6,
@@ -61,6 +76,7 @@ impl fmt::Display for Status {
         match self {
             Status::Done => f.write_str(""),
             Status::Words => f.write_str("ecdis: words"),
+            Status::Foreign(bank, at) => write!(f, "ecdis: foreign {bank} {at}"),
             Status::ScriptFault => f.write_str("ecdis: script fault"),
             Status::ScriptLong => f.write_str("ecdis: script long"),
             Status::DeskFault => f.write_str("ecdis: desk fault"),

@@ -1,0 +1,139 @@
+-- Steps that are taken one after another.
+use Rattle.std.proofs.Common.{◌≡◌, ℕ, ◌+◌, ◌≤◌, ◌⊎◌, Bool, true, false, cond, List, [], ◌∷◌, ◌++◌, length, take, drop, leb, refl, sym, ◌∙◌, ap, subst, arith, inl, inr, append_assoc}
+use Rattle.std.specs.Prelude.{Option, Some, None, Result, Ok, Err, IsTrue}
+use Rattle.std.specs.List.{All}
+use Rattle.std.proofs.lemmas.Bool.Decides.{nat_tests}
+use Rattle.std.proofs.lemmas.List.{append-nil, take-append-drop}
+use Rattle.std.proofs.lemmas.List.Elements.{All-nil, All-cons, All-append, All-weaker}
+use Rattle.std.proofs.Math.Seq.{take-append-add, take-append_seam}
+use Rattle.chart_model.specs.State.{StateValue}
+use Rattle.chart_ports.specs.Count.{Rose, RoseBy}
+use Rattle.chart_ports.specs.Moments.{LeavesOnly, MayBeLeft}
+use Rattle.chart_ports.specs.Said.{SaysFront}
+use Rattle.chart_ports.specs.declared.images.Images.{Images}
+use Rattle.chart_ports.proofs.Moments.{started, and_then, weaker}
+use Rattle.chart_store.specs.Images.{StandFor}
+use Rattle.chart_store.specs.Outcome.{after}
+use Rattle.session_core.specs.Fetch.{Files, Fetches, fetches_of}
+use Rattle.session_core.specs.Model.{Model}
+use Rattle.ecdis_cli.specs.Crash.{LeavesPrefix}
+use Rattle.ecdis_cli.specs.Progress.{IsAfter, IsSpoken, Taken}
+use Rattle.ecdis_cli.specs.Script.{IsAnswer, commands_in, failures_in, model_after, output}
+use Rattle.ecdis_cli.specs.Step.{Step}
+use Rattle.ecdis_cli.specs.World.{World}
+use Rattle.ecdis_cli.proofs.Crashes.{prefix-behind, prefix-extended, prefix-none}
+use Rattle.ecdis_cli.proofs.Lists.{after-append, after-none, commands-append, failures-append, model_after-append, output-append}
+
+-- ---- fronts
+
+pub front-whole : (before bytes now : List ℕ) → now ≡ before ++ bytes → SaysFront before bytes now
+front-whole before bytes now e = (length bytes, e ∙ ap (λ (l : List ℕ). before ++ l) (sym (take-append_seam bytes []) ∙ ap (λ (l : List ℕ). take (length bytes) l) (append-nil bytes)))
+
+pub front-none : (before bytes now : List ℕ) → now ≡ before → SaysFront before bytes now
+front-none before bytes now e = (0, e ∙ sym (append-nil before))
+
+pub front-append : (before bytes more now : List ℕ) → SaysFront before bytes now → SaysFront before (bytes ++ more) now
+front-append before bytes more now (n, e) =
+    let split : bytes ++ more ≡ take n bytes ++ (drop n bytes ++ more)
+    = ap (λ (l : List ℕ). l ++ more) (sym (take-append-drop n bytes)) ∙ append_assoc (take n bytes) (drop n bytes) more in (
+      length (take n bytes),
+      e ∙ ap (λ (l : List ℕ). before ++ l)
+          (sym (ap (λ (l : List ℕ). take (length (take n bytes)) l) split ∙ take-append_seam (take n bytes) (drop n bytes ++ more))),
+    )
+
+pub front-after : (before said bytes middle now : List ℕ) → middle ≡ before ++ said → SaysFront middle bytes now → SaysFront before (said ++ bytes) now
+front-after before said bytes middle now e (n, f) = (
+  length said + n,
+  f ∙ ap (λ (l : List ℕ). l ++ take n bytes) e ∙ append_assoc before said (take n bytes)
+      ∙ ap (λ (l : List ℕ). before ++ l) (sym (take-append-add said bytes n)),
+)
+
+pub front-same : (before bytes others now : List ℕ) → bytes ≡ others → SaysFront before bytes now → SaysFront before others now
+front-same before bytes others now e h = subst (λ (l : List ℕ). SaysFront before l now) e h
+
+-- ---- counts
+
+pub rose-none : (before now : ℕ) → before ≤ now → RoseBy 0 before now
+rose-none before now h = inl (omega arith)
+
+pub rose-more : (m n a b c : ℕ) → a ≤ b → b ≤ c → RoseBy m a b → RoseBy n b c → RoseBy (m + n) a c
+rose-more m n a b c low high (inl x) (inl y) = inl (omega arith)
+rose-more m n a b c low high (inl x) (inr y) = inr y
+rose-more m n a b c low high (inr x) y = inr (omega arith)
+
+pub rose-fewer : (m n a b : ℕ) → m ≤ n → RoseBy n a b → RoseBy m a b
+rose-fewer m n a b h (inl x) = inl (omega arith)
+rose-fewer m n a b h (inr x) = inr x
+
+-- ---- answers of the shelf
+
+-- the same shelf, later
+pub answers-same : (tells : Bool) (files files' : Files) (answers : List Fetches) → (IsTrue tells → files' ≡ files)
+    → All (IsAnswer tells files') answers → All (IsAnswer tells files) answers
+answers-same tells files files' answers same told =
+    All-weaker (IsAnswer tells files') (IsAnswer tells files)
+    (λ fetches is. λ t. subst (λ (fs : Files). (failed : Bool) × (fetches ≡ fetches_of fs failed)) (same t) (is t))
+    answers told
+
+-- ---- steps
+
+-- no step
+pub Taken-none : (tells : Bool) (files : Files) (Leaves : (Images → List ℕ → Type 0) → Type 0) (before : World)
+    → Leaves (LeavesPrefix before.model.state [] before.said) → Taken tells files Leaves before before.faults [] []
+Taken-none tells files Leaves before crash = record {
+  told = All-nil (IsAnswer tells files);
+  spoken = All-nil IsSpoken;
+  held = sym (after-none before.model.state);
+  failed = rose-none before.faults before.faults (omega arith);
+  later = omega arith;
+  crash = crash;
+}
+
+module _ {D : Type 0} (clock : D → ℕ) (might : D → ℕ → Images → List ℕ → Type 0) where
+  -- the present moment alone
+  pub quiet : (desk : D) (may_leave : ℕ → List ℕ → Type 0) (said : List ℕ) (state : StateValue)
+      → ((images : Images) (so_far : List ℕ) → might desk (clock desk) images so_far → MayBeLeft may_leave images × (so_far ≡ said))
+      → ((images : Images) → MayBeLeft may_leave images → StandFor images state)
+      → LeavesOnly clock might desk desk (LeavesPrefix state [] said)
+  quiet desk may_leave said state only_now stands =
+      started clock might desk (LeavesPrefix state [] said)
+      (λ images so_far left. let now = only_now images so_far left in prefix-none state said so_far images now.1 (stands images now.0))
+
+  -- steps after steps
+  pub Taken-then : (tells : Bool) (files files' : Files) (d0 d1 d2 : D) (before mid : World) (faults : ℕ)
+      (answers more : List Fetches) (steps others : List Step) → (IsTrue tells → files' ≡ files)
+      → IsAfter before steps mid
+      → Taken tells files (LeavesOnly clock might d0 d1) before mid.faults answers steps
+      → Taken tells files' (LeavesOnly clock might d1 d2) mid faults more others
+      → Taken tells files (LeavesOnly clock might d0 d2) before faults (answers ++ more) (steps ++ others)
+  Taken-then tells files files' d0 d1 d2 before mid faults answers more steps others same is x y =
+      let between : mid.model.state ≡ after before.model.state (commands_in steps)
+      = ap (λ (m : Model). m.state) is.reached ∙ x.held in
+      record {
+        told = All-append (IsAnswer tells files) answers more x.told (answers-same tells files files' more same y.told);
+        spoken = All-append IsSpoken steps others x.spoken y.spoken;
+        held = ap (λ (m : Model). m.state) (model_after-append before.model steps others
+            ∙ ap (λ (m : Model). model_after m others) (sym is.reached)) ∙ y.held
+            ∙ ap (λ (s : StateValue). after s (commands_in others)) between
+            ∙ sym (after-append before.model.state (commands_in steps) (commands_in others))
+            ∙ ap (after before.model.state) (sym (commands-append steps others));
+        failed = subst (λ (k : ℕ). RoseBy k before.faults faults) (sym (failures-append steps others))
+            (rose-more (failures_in steps) (failures_in others) before.faults mid.faults faults x.later y.later x.failed y.failed);
+        later = omega (arith, x.later, y.later);
+        crash = and_then clock might d0 d1 d2 (LeavesPrefix before.model.state (steps ++ others) before.said)
+            (weaker clock might d0 d1 (LeavesPrefix before.model.state steps before.said)
+            (LeavesPrefix before.model.state (steps ++ others) before.said)
+            (λ images so_far. prefix-extended before.model.state steps others before.said so_far images) x.crash)
+            (weaker clock might d1 d2 (LeavesPrefix mid.model.state others mid.said)
+            (LeavesPrefix before.model.state (steps ++ others) before.said)
+            (λ images so_far. prefix-behind before.model.state mid.model.state steps others before.said mid.said so_far images
+            x.spoken is.said between) y.crash);
+      }
+
+pub IsAfter-then : (before mid now : World) (steps others : List Step) → IsAfter before steps mid → IsAfter mid others now
+    → IsAfter before (steps ++ others) now
+IsAfter-then before mid now steps others x y = record {
+  said = y.said ∙ ap (λ (l : List ℕ). l ++ output others) x.said ∙ append_assoc before.said (output steps) (output others)
+      ∙ ap (λ (l : List ℕ). before.said ++ l) (sym (output-append steps others));
+  reached = y.reached ∙ ap (λ (m : Model). model_after m others) x.reached ∙ sym (model_after-append before.model steps others);
+}

@@ -1,0 +1,32 @@
+-- A line's reply, before it is said.
+use Rattle.std.specs.Prelude.{◌≡◌, ℕ, Bool, List, Option, Result, Ok, Err}
+use Rattle.chart_ports.specs.Moments.{MayBeLeft}
+use Rattle.chart_ports.specs.Said.{SaysFront}
+use Rattle.chart_ports.specs.declared.images.Images.{Images}
+use Rattle.chart_store.specs.Store.{StandsForEither}
+use Rattle.script_reader.specs.declared.reply.Reply.{Reply}
+use Rattle.session_core.specs.Fetch.{AreFetched, Files, Fetches}
+use Rattle.session_core.specs.Model.{Model}
+use Rattle.ecdis_cli.specs.declared.run.stop.Stop.{Stop}
+use Rattle.ecdis_cli.specs.Progress.{Leaving}
+use Rattle.ecdis_cli.specs.Step.{Step, step_to}
+
+-- the reply and the model after it are those of the step
+abbrev pub GivesStep : Result (Option Reply) Stop → Model → Step → Type 0
+GivesStep (Ok reply) now step = (step.reply ≡ reply) × (step.model ≡ now)
+GivesStep (Err stop) now step = Unit {0}
+
+-- The step of a line was taken, by some answers of the shelf, and a crash at any moment of it leaves files that stand
+-- for what was held before, or for what the step leaves. Nothing is said.
+pub record Replied (tells : Bool) (files : Files) (Leaves : Leaving) (said : List ℕ) (number : ℕ) (line : List ℕ)
+    (before : Model) (faults_before faults_now : ℕ) (IsGiven : Step → Type 0) : Type 0 where
+  pub fetches : Fetches
+  pub answers : AreFetched tells files faults_before faults_now fetches
+  pub gives : IsGiven (step_to fetches before number line)
+  pub leaves : Leaves (StandsForEither said before.state (step_to fetches before number line).model.state)
+
+-- while a reply is said a front of it is, and the files are as a crash might have left them before
+pub record LeavesSaying (may_leave : ℕ → List ℕ → Type 0) (said reply : List ℕ) (images : Images)
+    (so_far : List ℕ) : Type 0 where
+  pub left : MayBeLeft may_leave images
+  pub front : SaysFront said reply so_far

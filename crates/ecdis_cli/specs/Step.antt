@@ -1,0 +1,50 @@
+-- What one line of the script does.
+use Rattle.std.specs.Prelude.{ℕ, Bool, false, ◌==◌, List, [], Option, Some, None, Result, Ok, Err}
+use Rattle.chart_model.specs.declared.command.Command.{Command}
+use Rattle.script_reader.specs.Reading.{event_in}
+use Rattle.script_reader.specs.Reply.{printed}
+use Rattle.script_reader.specs.declared.event.Event.{Event}
+use Rattle.script_reader.specs.declared.fault.LineFault.{LineFault}
+use Rattle.script_reader.specs.declared.reply.Reply.{Reply}
+use Rattle.script_reader.specs.declared.reply.Reply.TheVariants as replies
+use Rattle.session_core.specs.Fetch.{Fetches}
+use Rattle.session_core.specs.Model.{Model}
+use Rattle.session_core.specs.Turn.{Turn, refused, turn_of}
+use Rattle.session_core.specs.declared.refusal.Refusal.TheVariants.{BadLine}
+
+-- what is replied, the command that is accepted, and the model after it, where there are such
+pub record Step : Type 0 where
+  pub reply : Option Reply
+  pub command : Option Command
+  pub model : Model
+
+-- nothing is replied, and nothing done
+abbrev pub silent : Model → Step
+silent model = record { reply = None; command = None; model = model }
+
+-- a turn is taken
+abbrev pub spoken : Turn → Step
+spoken turn = record { reply = Some turn.reply; command = turn.command; model = turn.model }
+
+-- an empty line and a remark are silent, an event takes its turn, and a bad line is refused by its number
+abbrev pub step_by : Fetches → Model → ℕ → Result (Option Event) LineFault → Step
+step_by fetches model number (Ok None) = silent model
+step_by fetches model number (Ok (Some event)) = spoken (turn_of fetches model event)
+step_by fetches model number (Err fault) = spoken (refused model (BadLine number))
+
+-- the step of the line of this number, by what the shelf answers
+unfoldable pub step_to : Fetches → Model → ℕ → List ℕ → Step
+step_to fetches model number line = step_by fetches model number (event_in number line)
+
+abbrev pub said_of : Option Reply → List ℕ
+said_of None = []
+said_of (Some reply) = printed reply
+
+-- the bytes that are said
+abbrev pub said_in : Step → List ℕ
+said_in step = said_of step.reply
+
+-- it is said that the shelf failed
+abbrev pub tells_failure : Option Reply → Bool
+tells_failure (Some (replies.Refused code values)) = code == 72
+tells_failure other = false
