@@ -12,4 +12,5 @@ mod Taking
 mod Preparing
 mod Submitting
 mod Reading
+mod Staying
 mod Leaving

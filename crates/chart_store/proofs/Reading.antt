@@ -145,7 +145,7 @@ goes_on_by state gate body bodies last None carried e = absurd cc
 goes_on_by state gate body bodies last (Some next) carried e = record { next = next; carried = carried; rest = e }
 
 -- commands that are spelled and accepted are carried out
-replayed-accepted : SpelledLaw → (state : StateValue) (gate : ℕ) (bodies : List (List ℕ)) (commands : List Command)
+pub replayed-accepted : SpelledLaw → (state : StateValue) (gate : ℕ) (bodies : List (List ℕ)) (commands : List Command)
     (last : StateValue) → AreSpelled bodies commands → AreAccepted state commands last
     → replayed state gate bodies ≡ Ok last
 replayed-accepted law state gate [] [] last spelled accepted = ap Ok accepted

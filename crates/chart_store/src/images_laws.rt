@@ -2,9 +2,14 @@
 
 ghost use Rattle.std.specs.Prelude.{◌≡◌, ℕ, Ok};
 ghost use Rattle.chart_model.specs.State.{StateValue};
+ghost use Rattle.chart_ports.specs.Disk.{LeavesNoMore, SameFiles};
+ghost use Rattle.chart_ports.specs.Moments.{MayBeLeft};
 ghost use Rattle.chart_ports.specs.declared.images.Images.{Images};
+ghost use Rattle.chart_store.specs.declared.store.Store.{Store};
 ghost use Rattle.chart_store.specs.Images.{StandFor, read_of};
+ghost use Rattle.chart_store.specs.Store.{IsKept, state_of, used_of};
 
+use chart_ports::Desk;
 use command_codec::commands_are_spelled;
 
 /// Files that stand for what is held read as that, and files that read stand for what they read as.
@@ -13,6 +18,21 @@ pub fn files_that_stand_are_read()
         (used : ℕ) × (read_of images ≡ Ok (record { state = state; used = used })) }
     ensures reads { (images : Images) (state : StateValue) (used : ℕ) →
         read_of images ≡ Ok (record { state = state; used = used }) → StandFor images state }
+{
+    commands_are_spelled();
+}
+
+/// What a crash leaves of a store that a desk keeps reads as what is held, with the bytes that are used, and so
+/// stands for it. A desk that reads the same, and of which a crash leaves no more, keeps the store too.
+pub fn kept_stores_are_read<D: Desk>()
+    ensures read { (desk : D) (store : Store) (images : Images) → IsKept (D.contents desk) (D.may_leave desk) store →
+        MayBeLeft (D.may_leave desk) images →
+        read_of images ≡ Ok (record { state = state_of store; used = used_of store }) }
+    ensures stands { (desk : D) (store : Store) (images : Images) → IsKept (D.contents desk) (D.may_leave desk) store →
+        MayBeLeft (D.may_leave desk) images → StandFor images (state_of store) }
+    ensures stays { (desk next : D) (store : Store) → IsKept (D.contents desk) (D.may_leave desk) store →
+        SameFiles (D.contents desk) (D.contents next) → LeavesNoMore (D.may_leave desk) (D.may_leave next) →
+        IsKept (D.contents next) (D.may_leave next) store }
 {
     commands_are_spelled();
 }

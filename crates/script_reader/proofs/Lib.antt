@@ -2,3 +2,4 @@ pub mod WordTests
 pub mod Parting
 pub mod Events
 pub mod Answered
+pub mod Replies

@@ -6,6 +6,8 @@ ghost use Rattle.script_reader.specs.declared.fault.LineFault.{LineFault};
 ghost use Rattle.script_reader.specs.declared.fault.LineFault.TheVariants.{BadLine};
 ghost use Rattle.script_reader.specs.Line.{Spells, IsSilent, IsBad};
 ghost use Rattle.script_reader.specs.Reading.{event_in};
+ghost use Rattle.script_reader.specs.Reply.{printed};
+ghost use Rattle.script_reader.specs.declared.reply.Reply.{Reply};
 
 use chart_model::keys_are_tested;
 
@@ -31,3 +33,8 @@ pub fn long_lines_are_read_by_their_front()
 {
     keys_are_tested();
 }
+
+/// A reply has a byte at least.
+pub fn replies_are_spoken()
+    ensures { (reply : Reply) → 0 < length (printed reply) }
+{}

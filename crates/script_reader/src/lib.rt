@@ -18,6 +18,7 @@ mod event;
 mod fault;
 mod laws;
 mod line;
+mod line_text;
 mod reply;
 #[cfg(test)]
 mod tests;
@@ -26,7 +27,8 @@ mod words;
 
 pub use event::Event;
 pub use fault::LineFault;
-pub use laws::{lines_are_read, long_lines_are_read_by_their_front};
+pub use laws::{lines_are_read, long_lines_are_read_by_their_front, replies_are_spoken};
 pub use line::read_line;
+pub use line_text::{end_line, push_number, push_word};
 pub use reply::{Reply, print_reply};
 pub use word::Word;

@@ -1,12 +1,12 @@
 //! What is replied to a line, as bytes.
 
-ghost use Rattle.std.specs.Prelude.{◌≡◌, ◌++◌, ◌∷◌, [], codes, IfOk, OnOk};
+ghost use Rattle.std.specs.Prelude.{◌≡◌, ◌++◌, ◌∷◌, [], codes, IfOk};
 ghost use Rattle.std.specs.List.{join_with_byte};
 ghost use Rattle.script_reader.specs.Reply.{number, line_of, words_if, printed};
 
+use crate::line_text::{end_line, push_number, push_word};
 use chart_model::{Key, Octets};
 use std::alloc::{AllocError, Global};
-use text_scan::write_number;
 
 /// What is replied to a line.
 #[derive(Debug, Drop)]
@@ -25,29 +25,6 @@ pub enum Reply {
     Cells(u64, Octets),
     /// The line is refused: the refusal's code, and what it names, parted by single spaces.
     Refused(u8, Octets),
-}
-
-/// Adds a word behind a space.
-fn push_word(line: &mut Octets, word: &[u8]) -> Result<(), AllocError>
-    ensures { OnOk result (line.new ≡ line.old ++ 32 ∷ word.now) }
-{
-    line.extend_from_slice(b" ")?;
-    line.extend_from_slice(word)
-}
-
-/// Adds a number behind a space.
-fn push_number(alloc: Global, line: &mut Octets, n: u64) -> Result<(), AllocError>
-    ensures { OnOk result (line.new ≡ line.old ++ 32 ∷ number n) }
-{
-    line.extend_from_slice(b" ")?;
-    write_number(alloc, line, n as i128)
-}
-
-/// Ends a line.
-fn end_line(line: &mut Octets) -> Result<(), AllocError>
-    ensures { OnOk result (line.new ≡ line.old ++ 10 ∷ []) }
-{
-    line.extend_from_slice(b"\n")
 }
 
 /// `ok` and a verb.

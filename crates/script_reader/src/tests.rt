@@ -93,6 +93,7 @@ fn lines(rt: HostRuntime) -> Result<(), Fail> {
     }
     lines_are_read();
     long_lines_are_read_by_their_front();
+    replies_are_spoken();
     Ok(())
 }
 

@@ -1,0 +1,25 @@
+-- The bytes of replies.
+use Rattle.std.proofs.Common.{ℕ, ◌+◌, ◌<◌, List, [], ◌∷◌, ◌++◌, codes, length, length-append, arith}
+use Rattle.script_reader.specs.Reply.{line_of, number, printed, words_if}
+use Rattle.script_reader.specs.declared.reply.Reply.{Reply}
+use Rattle.script_reader.specs.declared.reply.Reply.TheVariants.{Info, Load, Cancel, Rollback, Drop, Cells, Refused}
+
+-- a line has its line feed at least, whatever follows it
+line-spoken : (words : List (List ℕ)) → 0 < length (line_of words)
+line-spoken words = simp length-append (omega arith)
+
+lines-spoken : (words : List (List ℕ)) (more : List ℕ) → 0 < length (line_of words ++ more)
+lines-spoken words more = simp length-append (omega arith)
+
+pub reply-spoken : (reply : Reply) → 0 < length (printed reply)
+unfolding printed
+reply-spoken (Info key edition update records) =
+    line-spoken (codes "ok" ∷ codes "info" ∷ key ∷ number edition ∷ number update ∷ number records ∷ [])
+reply-spoken (Load key edition update) =
+    line-spoken (codes "ok" ∷ codes "load" ∷ key ∷ number edition ∷ number update ∷ [])
+reply-spoken (Cancel key) = line-spoken (codes "ok" ∷ codes "cancel" ∷ key ∷ [])
+reply-spoken (Rollback key edition update) =
+    line-spoken (codes "ok" ∷ codes "rollback" ∷ key ∷ number edition ∷ number update ∷ [])
+reply-spoken (Drop key) = line-spoken (codes "ok" ∷ codes "drop" ∷ key ∷ [])
+reply-spoken (Cells count lines) = lines-spoken (codes "ok" ∷ codes "cells" ∷ number count ∷ []) lines
+reply-spoken (Refused code values) = line-spoken (codes "no" ∷ number code ∷ words_if values)
