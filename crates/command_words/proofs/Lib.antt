@@ -1,0 +1,4 @@
+pub mod Digits
+pub mod Building
+pub mod Answered
+pub mod Walks

@@ -1,0 +1,15 @@
+//! The words of the command line: the files that the program is given, and what the mariner sets.
+//!
+//! They are read as one simple command of `clap`; each value is then read as a number in its range.
+#![tactic(auto)]
+
+mod command;
+mod fault;
+mod laws;
+mod numbers;
+mod reading;
+mod values;
+
+pub use fault::WordsFault;
+pub use laws::{defaults_stand_alone, numbers_are_spelled, options_set_their_own, settings_are_in_their_ranges};
+pub use reading::{Words, read_words};
