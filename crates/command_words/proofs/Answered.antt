@@ -1,5 +1,5 @@
 -- What a parse says of the words.
-use Rattle.std.specs.Prelude.{Result, Ok, Err, MatchResult, IsErrAnd}
+use Rattle.std.specs.Prelude.{Result, Ok, Err, MatchResult, IfOk, IsErrAnd}
 use Rattle.std.proofs.Common.{◌≡◌, Some, subst, ◌≢◌, ℕ, List, [], ◌∷◌, Option, None, refl, sym, ap, ◌∙◌, inl, inr, true}
 use Rattle.clap.specs.Words.{App, FailsBy, HasKind, Row, app_of, Kinds, fault_of, kind_of, matches_of}
 use Rattle.clap.specs.declared.error.Error.{Error}
@@ -26,6 +26,14 @@ refused words error other has = none_where (fault_of ecdis words) error (said_in
 -- an answer to the words: what they say, and a refusal exactly where they say nothing
 abbrev pub Answers : Option WordsValue → Result Words WordsFault → Type 0
 Answers said result = MatchResult result (λ read. said ≡ Some (value_of read)) (λ fault. fault ≡ Refused → said ≡ None)
+
+pub answered_said : (said : Option WordsValue) (result : Result Words WordsFault) → Answers said result → IfOk result (λ read. said ≡ Some (value_of read))
+answered_said said (Ok read) is = is
+answered_said said (Err fault) is = tt
+
+pub answered_refused : (said : Option WordsValue) (result : Result Words WordsFault) → Answers said result → result ≡ Err Refused → said ≡ None
+answered_refused said (Ok read) is e = absurd cc
+answered_refused said (Err fault) is e = is cc
 
 pub failed : (words : List (List ℕ)) (error : Error) (result : Result Words WordsFault) → HasKind (fault_of ecdis words) error
     → IsErrAnd result (λ fault. IsAnsweredBy fault error) → Answers (words_of words) result

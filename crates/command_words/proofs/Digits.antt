@@ -27,7 +27,6 @@ numerals = numerals_by_value (λ ds. all_ascii_digits ds ≡ true) tells_all_asc
 Decides-digits : (text : List ℕ) → Decides (all_ascii_digits text) (AllDigits 10 text)
 Decides-digits text = (numerals.to text, numerals.from text)
 
-
 Decides-shortest : (text : List ℕ) → 0 < length text
     → Decides (not (eqb (slice_index text 0) 48 && ltb 1 (length text))) (slice_index text 0 ≡ 48 → length text ≡ 1)
 Decides-shortest text some = go (slice_index text 0) (length text) some

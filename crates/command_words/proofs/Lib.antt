@@ -2,3 +2,4 @@ pub mod Digits
 pub mod Building
 pub mod Answered
 pub mod Walks
+pub mod Ranges

@@ -1,14 +1,14 @@
--- Words that name the two files, with one further word or none.
-use Rattle.std.specs.Prelude.{◌≢◌, ℕ, List, [], ◌∷◌, ◌++◌, codes, Option, option_map, slice_index}
+-- Words that name the two files, and further ones.
+use Rattle.std.specs.Prelude.{ℕ, List, [], ◌∷◌, ◌++◌, codes}
 use Rattle.chart_model.specs.declared.settings.Settings.{Settings}
 use Rattle.command_words.specs.Reading.{WordsValue}
-use Rattle.command_words.specs.Settings.{defaults}
 
--- the program's name, and the names of the two files behind `=`
-abbrev pub naming : List ℕ → List ℕ → List ℕ → List (List ℕ)
-naming program catalogue table = program ∷ (codes "--catalogue=" ++ catalogue) ∷ (codes "--table=" ++ table) ∷ []
+-- the program's name, the names of the two files behind `=`, and further words
+abbrev pub naming : List ℕ → List ℕ → List ℕ → List (List ℕ) → List (List ℕ)
+naming program catalogue table more =
+    program ∷ (codes "--catalogue=" ++ catalogue) ∷ (codes "--table=" ++ table) ∷ more
 
--- the same as words of their own
+-- the program's name, and the names of the two files as words of their own
 abbrev pub naming_apart : List ℕ → List ℕ → List ℕ → List (List ℕ)
 naming_apart program catalogue table =
     program ∷ codes "--catalogue" ∷ catalogue ∷ codes "--table" ∷ table ∷ []

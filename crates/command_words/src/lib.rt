@@ -8,8 +8,13 @@ mod fault;
 mod laws;
 mod numbers;
 mod reading;
+#[cfg(test)]
+mod tests;
 mod values;
 
 pub use fault::WordsFault;
-pub use laws::{defaults_stand_alone, numbers_are_spelled, options_set_their_own, settings_are_in_their_ranges};
+pub use laws::{
+    defaults_stand_alone, depths_are_set, looks_are_set, numbers_are_spelled,
+    other_words_are_refused, settings_are_in_their_ranges,
+};
 pub use reading::{Words, read_words};

@@ -1,8 +1,9 @@
 //! The words, read.
 
-ghost use Rattle.std.specs.Prelude.{◌≡◌, map, string_bytes, MatchResult, Some, None};
+ghost use Rattle.std.specs.Prelude.{◌≡◌, map, string_bytes, IfOk, MatchResult, Err, Some, None};
 ghost use Rattle.clap.specs.Words.{found_of, rows_of};
 ghost use Rattle.command_words.specs.declared.fault.WordsFault.TheVariants.{Refused};
+ghost use Rattle.command_words.specs.Settings.{AreInRange};
 ghost use Rattle.command_words.specs.Reading.{said_in, value_of, words_of};
 
 use crate::command::ecdis;
@@ -46,8 +47,9 @@ fn words_in(alloc: Global, matches: &ArgMatches) -> Result<Words, WordsFault>
 /// `Refused` where the command doesn't take the words, as `clap` reads a simple command, or where a value
 /// is out of its range. `NoMemory` may come at any words.
 pub fn read_words(alloc: Global, words: &[String]) -> Result<Words, WordsFault>
-    ensures { MatchResult result (λ read. words_of (map string_bytes words.now) ≡ Some (value_of read))
-        (λ fault. fault ≡ Refused → words_of (map string_bytes words.now) ≡ None) }
+    ensures said { IfOk result (λ read. words_of (map string_bytes words.now) ≡ Some (value_of read)) }
+    ensures refused { result ≡ Err Refused → words_of (map string_bytes words.now) ≡ None }
+    ensures ranges { IfOk result (λ read. AreInRange read.settings) }
 {
     let matches = ecdis(alloc)?.try_get_matches_from(words)?;
     words_in(alloc, &matches)

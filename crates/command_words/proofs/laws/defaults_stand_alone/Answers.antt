@@ -1,5 +1,5 @@
 use Rattle.command_words.proofs.Walks.{named}
 use Rattle.command_words.proofs.laws.defaults_stand_alone.Goals as goal
 
-pub returns-clause-joined : goal.returns-clause-joined
-returns-clause-joined c = named
+pub returns : goal.returns
+returns c = named
