@@ -1,7 +1,7 @@
 -- What a parse says of the words.
 use Rattle.std.specs.Prelude.{Result, Ok, Err, MatchResult, IfOk, IsErrAnd}
-use Rattle.std.proofs.Common.{◌≡◌, Some, subst, ◌≢◌, ℕ, List, [], ◌∷◌, Option, None, refl, sym, ap, ◌∙◌, inl, inr, true}
-use Rattle.clap.specs.Words.{App, FailsBy, HasKind, Row, app_of, Kinds, fault_of, kind_of, matches_of}
+use Rattle.std.proofs.Common.{◌≡◌, Some, ◌≢◌, ℕ, List, [], ◌∷◌, Option, None, refl, sym, ap, ◌∙◌, inl, inr}
+use Rattle.clap.specs.Words.{HasKind, Row, Kinds, fault_of, kind_of, matches_of}
 use Rattle.clap.specs.declared.error.Error.{Error}
 use Rattle.clap.specs.declared.error.kind.ErrorKind.TheVariants.{OutOfMemory}
 use Rattle.command_words.specs.declared.fault.WordsFault.{WordsFault}

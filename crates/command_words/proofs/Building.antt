@@ -1,5 +1,5 @@
 -- The command that is built is the one that definitions cite.
-use Rattle.std.proofs.Common.{◌≡◌, Bool, true, false, refl, ap₂, ◌∙◌}
+use Rattle.std.proofs.Common.{◌≡◌, true, false, refl, ap₂, ◌∙◌}
 use Rattle.clap.specs.Words.{AddsArg, App, Rule, app_of, is_simple_and_free, rule_of, with_rule}
 use Rattle.clap.specs.declared.builder.arg.Arg.{Arg}
 use Rattle.clap.specs.declared.builder.command.Command.{Command}

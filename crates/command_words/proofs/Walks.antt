@@ -1,13 +1,11 @@
 -- What is said by words that are written out but for the names and values in them.
-use Rattle.std.proofs.Common.{◌≡◌, ◌≢◌, ℕ, List, [], ◌∷◌, ◌++◌, Bool, true, false, eqb, Option, Some, None, refl, ap, ◌∙◌}
-use Rattle.std.specs.Prelude.{ℤ, codes, slice_index, option_map}
-use Rattle.std.proofs.lemmas.Bool.{eqb-true, false_from_ne_true}
+use Rattle.std.proofs.Common.{◌≡◌, ℕ, List, [], ◌∷◌, ◌++◌, true, Option, Some, None, refl}
+use Rattle.std.specs.Prelude.{codes, option_map}
 use Rattle.clap.proofs.OnLiterals.{clap_on_literals}
 use Rattle.chart_model.specs.declared.settings.Settings.{Settings}
-use Rattle.chart_model.specs.declared.settings.Shades.{Shades}
 use Rattle.command_words.specs.Settings.{defaults, centimetres_of, scale_of, shades_of}
 use Rattle.command_words.specs.Reading.{WordsValue, given, words_of, said_in, settings_in}
-use Rattle.command_words.specs.Given.{naming, naming_apart, with_settings}
+use Rattle.command_words.specs.Given.{naming, with_settings}
 
 -- one value that may be missing decides on the settings, and these on the whole
 abbrev whole : {A : Type 0} → List ℕ → List ℕ → Option A → (A → Settings) → Option WordsValue

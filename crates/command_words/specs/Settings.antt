@@ -1,5 +1,5 @@
 -- What the mariner may set, and what stands where nothing is set. Depths are in centimetres.
-use Rattle.std.specs.Prelude.{◌≡◌, ℕ, ◌≤◌, ℤ, pos, ◌≤ℤ◌, Bool, true, false, if◌then◌else◌, codes}
+use Rattle.std.specs.Prelude.{ℕ, ◌≤◌, ℤ, pos, ◌≤ℤ◌, Bool, false, if◌then◌else◌, codes}
 use Rattle.std.specs.Prelude.{List, Option, Some, None, option_map}
 use Rattle.std.specs.Str.{bytes_eq}
 use Rattle.chart_model.specs.declared.settings.Settings.{Settings}

@@ -1,6 +1,5 @@
 use Rattle.std.proofs.Common.{refl}
 use Rattle.std.proofs.lemmas.Result.{IfOk-weaker}
-use Rattle.clap.specs.Words.{app_of}
 use Rattle.command_words.proofs.Building.{added}
 use Rattle.command_words.proofs.command.with_depths.Goals as goal
 

@@ -1,4 +1,4 @@
-use Rattle.std.proofs.Common.{sym, arith, ◌∙◌}
+use Rattle.std.proofs.Common.{sym, arith}
 use Rattle.command_words.proofs.Digits.{from_to_again, from_to_missing}
 use Rattle.command_words.proofs.numbers.number_within.Goals as goal
 

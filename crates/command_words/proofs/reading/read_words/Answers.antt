@@ -1,4 +1,4 @@
-use Rattle.std.proofs.Common.{List, ℕ, subst, map, ap, ◌≡◌, ◌∙◌, []}
+use Rattle.std.proofs.Common.{subst, map, ap, ◌≡◌, ◌∙◌, []}
 use Rattle.std.specs.Prelude.{string_bytes}
 use Rattle.clap.specs.Words.{App, HasKind, fault_of, found_of, is_simple, is_simple_and_free, matches_of, rows_of}
 use Rattle.command_words.specs.Reading.{words_of}
