@@ -1,0 +1,5 @@
+pub mod Digits
+pub mod Building
+pub mod Answered
+pub mod Walks
+pub mod Ranges

@@ -1,0 +1,18 @@
+-- Words that name the two files, and further ones.
+use Rattle.std.specs.Prelude.{ℕ, List, [], ◌∷◌, ◌++◌, codes}
+use Rattle.chart_model.specs.declared.settings.Settings.{Settings}
+use Rattle.command_words.specs.Reading.{WordsValue}
+
+-- the program's name, the names of the two files behind `=`, and further words
+abbrev pub naming : List ℕ → List ℕ → List ℕ → List (List ℕ) → List (List ℕ)
+naming program catalogue table more =
+    program ∷ (codes "--catalogue=" ++ catalogue) ∷ (codes "--table=" ++ table) ∷ more
+
+-- the program's name, and the names of the two files as words of their own
+abbrev pub naming_apart : List ℕ → List ℕ → List ℕ → List (List ℕ)
+naming_apart program catalogue table =
+    program ∷ codes "--catalogue" ∷ catalogue ∷ codes "--table" ∷ table ∷ []
+
+-- the two names and these settings
+abbrev pub with_settings : List ℕ → List ℕ → Settings → WordsValue
+with_settings catalogue table settings = record { catalogue = catalogue; table = table; settings = settings }

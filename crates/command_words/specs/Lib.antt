@@ -1,0 +1,5 @@
+pub mod Numbers
+pub mod Settings
+pub mod Command
+pub mod Reading
+pub mod Given
