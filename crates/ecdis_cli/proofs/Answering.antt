@@ -5,7 +5,7 @@ use Rattle.std.proofs.lemmas.List.{append-nil}
 use Rattle.std.proofs.lemmas.List.Elements.{All-nil, All-cons}
 use Rattle.chart_model.specs.State.{StateValue}
 use Rattle.chart_model.specs.declared.command.Command.{Command}
-use Rattle.chart_ports.specs.Moments.{LeavesOnly, MayBeLeft}
+use Rattle.chart_ports.specs.Moments.{Elapses, LeavesOnly, MayBeLeft}
 use Rattle.chart_ports.specs.Said.{SaysFront}
 use Rattle.chart_ports.specs.declared.images.Images.{Images}
 use Rattle.chart_ports.proofs.Moments.{started, goes_on, and_then, weaker}
@@ -196,3 +196,41 @@ module _ {D : Type 0} (clock : D → ℕ) (might : D → ℕ → Images → List
         front = subst (λ (l : List ℕ). SaysFront before.said l now.said) (ap said_of (sym given.0) ∙ sym (output-one step))
             (subst (λ (l : List ℕ). SaysFront l (printed reply) now.said) silent front);
       }
+
+-- ---- the reply is said
+
+module _ {D : Type 0} (clock : D → ℕ) (might : D → ℕ → Images → List ℕ → Type 0) where
+  -- nothing of it yet
+  pub saying-none : (desk : D) (may_leave : ℕ → List ℕ → Type 0) (said reply : List ℕ)
+      → ((images : Images) (so_far : List ℕ) → might desk (clock desk) images so_far → MayBeLeft may_leave images × (so_far ≡ said))
+      → LeavesOnly clock might desk desk (LeavesSaying may_leave said reply)
+  saying-none desk may_leave said reply only_now =
+      started clock might desk (LeavesSaying may_leave said reply)
+      (λ images so_far left. let now = only_now images so_far left in record { left = now.0; front = front-none said reply so_far now.1 })
+
+  -- in one call
+  pub saying-done : (desk new : D) (may_leave : ℕ → List ℕ → Type 0) (said reply : List ℕ)
+      → ((images : Images) (so_far : List ℕ) → might desk (clock desk) images so_far → MayBeLeft may_leave images × (so_far ≡ said))
+      → Elapses (clock desk) (clock new) (might desk) (might new) may_leave (SaysFront said reply)
+      → LeavesOnly clock might desk new (LeavesSaying may_leave said reply)
+  saying-done desk new may_leave said reply only_now time =
+      goes_on clock might desk desk new (LeavesSaying may_leave said reply) may_leave (SaysFront said reply)
+      (saying-none desk may_leave said reply only_now) time
+      (λ images so_far left front. record { left = left; front = front })
+
+  -- the same moments under a premise that holds
+  pub Replied-told : (T : Type 0) → T → (tells : Bool) (files : Files) (said : List ℕ) (number : ℕ) (line : List ℕ) (before : Model) (a b : ℕ)
+      (IsGiven : Step → Type 0) (d0 d1 : D)
+      → Replied tells files (λ P. T → LeavesOnly clock might d0 d1 P) said number line before a b IsGiven
+      → Replied tells files (LeavesOnly clock might d0 d1) said number line before a b IsGiven
+  Replied-told T t tells files said number line before a b IsGiven d0 d1 x =
+      record { fetches = x.fetches; answers = x.answers; gives = x.gives; leaves = x.leaves t }
+
+  -- the files stand for what is held before and after, and nothing is called
+  pub leaves-none : (desk : D) (may_leave : ℕ → List ℕ → Type 0) (said : List ℕ) (state left : StateValue)
+      → ((images : Images) (so_far : List ℕ) → might desk (clock desk) images so_far → MayBeLeft may_leave images × (so_far ≡ said))
+      → ((images : Images) → MayBeLeft may_leave images → StandFor images state)
+      → LeavesOnly clock might desk desk (StandsForEither said state left)
+  leaves-none desk may_leave said state left only_now stands =
+      started clock might desk (StandsForEither said state left)
+      (λ images so_far here. let now = only_now images so_far here in record { silent = now.1; stands = inl (stands images now.0) })

@@ -107,7 +107,7 @@ prefix-unsaid state left step said so_far images silent held stands = record {
 }
 
 -- a turn: what was held before, or what the step leaves
-pub pub prefix-turn : (state left : StateValue) (step : Step) (said so_far : List ℕ) (images : Images)
+pub prefix-turn : (state left : StateValue) (step : Step) (said so_far : List ℕ) (images : Images)
     → left ≡ after state (commands_in (step ∷ [])) → StandsForEither said state left images so_far
     → LeavesPrefix state (step ∷ []) said images so_far
 prefix-turn state left step said so_far images held x =

@@ -1,5 +1,5 @@
 -- When it is said that the shelf failed.
-use Rattle.std.proofs.Common.{◌≡◌, ◌≢◌, ℕ, ◌+◌, ◌≤◌, Bool, true, false, cond, List, [], ◌∷◌, ◌++◌, eqb, refl, sym, ◌∙◌, ap, subst, arith}
+use Rattle.std.proofs.Common.{◌≡◌, ◌≢◌, ℕ, ◌+◌, ◌≤◌, Bool, true, false, cond, List, [], ◌∷◌, ◌++◌, eqb, refl, sym, ◌∙◌, ap, subst, arith, zero-add}
 use Rattle.std.specs.Prelude.{Option, Some, None, Result, Ok, Err}
 use Rattle.std.specs.List.{All}
 use Rattle.std.proofs.lemmas.Bool.Decides.{nat_tests}
@@ -93,4 +93,5 @@ served-none law model number (line ∷ more) answers all =
     failures-cons step (steps_from step.model (number + 1) more (other_answers answers))
     ∙ ap (λ (v : Bool). cond v 1 0 + failures_in (steps_from step.model (number + 1) more (other_answers answers)))
     (step-served law (first_answer answers) model number line (first-serves answers all))
+    ∙ zero-add (failures_in (steps_from step.model (number + 1) more (other_answers answers)))
     ∙ served-none law step.model (number + 1) more (other_answers answers) (others-serve answers all)

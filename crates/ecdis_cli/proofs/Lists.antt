@@ -1,5 +1,5 @@
 -- Lists of steps: what is said in them, their commands, and those whose reply was begun.
-use Rattle.std.proofs.Common.{◌≡◌, ℕ, zero, suc, ◌+◌, ◌-◌, ◌<◌, ◌≤◌, ◌⊎◌, Bool, true, false, cond, List, [], ◌∷◌, ◌++◌, length, take, eqb, refl, sym, ◌∙◌, ap, subst, arith, inl, inr, append_assoc, length-append, add-zero}
+use Rattle.std.proofs.Common.{◌≡◌, ℕ, zero, suc, ◌+◌, ◌-◌, ◌<◌, ◌≤◌, ◌⊎◌, Bool, true, false, cond, List, [], ◌∷◌, ◌++◌, length, take, eqb, refl, sym, ◌∙◌, ap, subst, arith, inl, inr, append_assoc, length-append, zero-add}
 use Rattle.std.specs.Prelude.{Option, Some, None, fold}
 use Rattle.std.specs.List.{flat_map, All}
 use Rattle.std.proofs.lemmas.Bool.Decides.{nat_tests}
@@ -89,7 +89,8 @@ acknowledged-one bytes x xs spoken =
 -- steps whose replies were said whole, and some of what is said behind them
 pub acknowledged-behind : (bytes : ℕ) (xs ys : List Step) → All IsSpoken xs
     → acknowledged (length (output xs) + bytes) (xs ++ ys) ≡ length (commands_in xs) + acknowledged bytes ys
-acknowledged-behind bytes [] ys spoken = refl
+acknowledged-behind bytes [] ys spoken =
+    ap (λ (n : ℕ). acknowledged n ys) (zero-add bytes) ∙ sym (zero-add (acknowledged bytes ys))
 acknowledged-behind bytes (x ∷ xs) ys spoken =
     let counted : length (output (x ∷ xs)) + bytes ≡ length (said_in x) + (length (output xs) + bytes)
     = omega (arith, length-append (said_in x) (output xs)) in

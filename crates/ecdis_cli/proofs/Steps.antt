@@ -42,13 +42,13 @@ unstepped : (tells : Bool) (files : Files) (Leaves : Moments) (at : Standing) (b
     → ((rest : List ℕ) (more : List Fetches) → steps_at at (bytes ++ rest) more ≡ steps_at (with_line at line) rest more)
     → (Unbroken at.line → Unbroken (at.line ++ bytes)) → (Unbroken at.line → Unbroken line)
     → Advanced tells files Leaves at bytes (with_line at line)
-unstepped tells files Leaves at bytes line crash ahead open kept = record {
+unstepped tells files Leaves at bytes line crash ahead goes kept = record {
   answers = [];
   steps = [];
   taken = Taken-none tells files Leaves at.world crash;
   after = IsAfter-none at.world;
   ahead = ahead;
-  ended_lines = λ h more. steps-ended_none at.world.model at.number (at.line ++ bytes) more (open h);
+  ended_lines = λ h more. steps-ended_none at.world.model at.number (at.line ++ bytes) more (goes h);
   unended = λ h. refl;
   open_line = kept;
 }
@@ -303,3 +303,7 @@ OnErr-from (Err e) P h = h
 pub OnOk-map : {T E : Type 0} (r : Result T E) (P Q : Type 0) → (P → Q) → OnOk r P → OnOk r Q
 OnOk-map (Ok x) P Q f h = f h
 OnOk-map (Err e) P Q f h = tt
+
+pub OnErr-map : {T E : Type 0} (r : Result T E) (P Q : Type 0) → (P → Q) → OnErr r P → OnErr r Q
+OnErr-map (Ok x) P Q f h = tt
+OnErr-map (Err e) P Q f h = f h

@@ -72,7 +72,7 @@ fn reply_to<L: Shelf, D: Desk, C: Ledger>(
     ensures desk_failed { IsErrOf result Stop.DeskFault → Rose (D.faults desk.old) (D.faults desk.new) }
 {
     long_lines_are_read_by_their_front();
-    kept_stores_are_read();
+    kept_stores_are_read::<D>();
     match read_line(alloc, front_of(line), number) {
         Ok(None) => Ok(None),
         Ok(Some(event)) => Ok(Some(session.turn(alloc, event, shelf, desk, steps)?)),
@@ -107,7 +107,7 @@ pub fn answer<L: Shelf, D: Desk, C: Ledger>(
     ensures desk_later { D.faults desk.old ≤ D.faults desk.new }
     ensures desk_failed { IsErrOf result Stop.DeskFault → Rose (D.faults desk.old) (D.faults desk.new) }
 {
-    kept_stores_are_read();
+    kept_stores_are_read::<D>();
     turns_follow_their_commands();
     replies_are_spoken();
     let Some(reply) = reply_to(alloc, number, line, session, shelf, desk, steps)? else {

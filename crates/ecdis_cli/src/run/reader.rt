@@ -131,7 +131,7 @@ impl Reader {
         ensures desk_later { D.faults desk.old ≤ D.faults desk.new }
         ensures desk_failed { IsErrOf result Stop.DeskFault → Rose (D.faults desk.old) (D.faults desk.new) }
     {
-        kept_stores_are_read();
+        kept_stores_are_read::<D>();
         long_lines_are_read_by_their_front();
         if byte == b'\n' {
             self.end_line(alloc, shelf, desk, steps)
@@ -167,7 +167,7 @@ impl Reader {
         ensures desk_later { D.faults desk.old ≤ D.faults desk.new }
         ensures desk_failed { IsErrOf result Stop.DeskFault → Rose (D.faults desk.old) (D.faults desk.new) }
     {
-        kept_stores_are_read();
+        kept_stores_are_read::<D>();
         for byte in bytes {
             self.take(alloc, *byte, shelf, desk, steps)?;
         }
@@ -199,7 +199,7 @@ impl Reader {
         ensures desk_later { D.faults desk.old ≤ D.faults desk.new }
         ensures desk_failed { IsErrOf result Stop.DeskFault → Rose (D.faults desk.old) (D.faults desk.new) }
     {
-        kept_stores_are_read();
+        kept_stores_are_read::<D>();
         if self.line.is_empty() {
             return Ok(());
         }

@@ -28,7 +28,7 @@ pub fn run_script<S: Source, L: Shelf, D: Desk, C: Ledger>(
     desk: &mut D,
     steps: &mut Steps<C>,
 ) -> Status
-    requires { 0 < length buffer.old }
+    requires room { 0 < length buffer.old }
     requires ready { IsReady D.tells (D.contents desk.old) (D.may_leave desk.old) 1 session }
     ensures ran { IsTrue S.tells → IsTrue D.tells → Ran L.tells (L.files shelf.old) (model_of session) result
         (λ P. LeavesOnly D.clock D.might desk.old desk.new P) (λ images so_far. ⊥) (MayBeLeft (D.may_leave desk.new))
@@ -48,7 +48,7 @@ pub fn run_script<S: Source, L: Shelf, D: Desk, C: Ledger>(
     ensures desk_later { D.faults desk.old ≤ D.faults desk.new }
     ensures same { IsTrue L.tells → L.files shelf.new ≡ L.files shelf.old }
 {
-    kept_stores_are_read();
+    kept_stores_are_read::<D>();
     turns_follow_their_commands();
     let mut reader = Reader::new(alloc, session);
     let mut room = SCRIPT_LIMIT;

@@ -1,0 +1,35 @@
+-- The last line was answered, or there is none.
+use Rattle.std.proofs.Common.{◌<◌, length, arith}
+use Rattle.std.proofs.lemmas.List.{nil_from_length}
+use Rattle.chart_ports.specs.Moments.{LeavesOnly}
+use Rattle.ecdis_cli.specs.World.{world_of}
+use Rattle.ecdis_cli.specs.Standing.{standing}
+use Rattle.ecdis_cli.proofs.Steps.{Finished-none, Finished-last, Unfinished-last, OnOk-map, OnErr-map}
+use Rattle.ecdis_cli.proofs.Taking.{quiet}
+use Rattle.ecdis_cli.proofs.run.reader.Reader.finish.Goals as goal
+
+pub returns-then-is_empty-clause-ok : goal.returns-then-is_empty-clause-ok
+returns-then-is_empty-clause-ok g c = λ d.
+    let desk = c.args.desk.now in
+    let at = standing c.args.self.now (g.D.Desk.said desk) (g.L.Shelf.faults c.args.shelf.now) in
+    Finished-none _ _ (LeavesOnly g.D.Desk.clock g.D.Desk.might desk desk) at
+    (quiet g.D.Desk.clock g.D.Desk.might desk (g.D.Desk.may_leave desk) (g.D.Desk.said desk) at.world.model.state
+    (λ images so_far left. g.met.D.Desk.only_now desk images so_far d left)
+    (λ images left. c.kept_stores_are_read.ensures.stands desk _ images (c.requires.ready.kept d) left))
+    (nil_from_length _ (omega arith))
+
+pub returns-clause-ok : goal.returns-clause-ok
+returns-clause-ok g c = λ d.
+    let at = standing c.args.self.now (g.D.Desk.said c.args.desk.now) (g.L.Shelf.faults c.args.shelf.now) in
+    let now = world_of c.answer.new.session (g.D.Desk.said c.answer.new.desk) (g.L.Shelf.faults c.answer.new.shelf) in
+    OnOk-map c.answer.result _ _
+    (Finished-last _ _ (LeavesOnly g.D.Desk.clock g.D.Desk.might c.args.desk.now c.answer.new.desk) at now c.args.self.now.unbroken (omega arith))
+    (c.answer.ensures.said d)
+
+pub returns-clause-err : goal.returns-clause-err
+returns-clause-err g c = λ d.
+    let at = standing c.args.self.now (g.D.Desk.said c.args.desk.now) (g.L.Shelf.faults c.args.shelf.now) in
+    let now = world_of c.answer.new.session (g.D.Desk.said c.answer.new.desk) (g.L.Shelf.faults c.answer.new.shelf) in
+    OnErr-map c.answer.result _ _
+    (Unfinished-last _ _ (LeavesOnly g.D.Desk.clock g.D.Desk.might c.args.desk.now c.answer.new.desk) at now c.args.self.now.unbroken (omega arith))
+    (c.answer.ensures.front d)
