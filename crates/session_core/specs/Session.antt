@@ -1,5 +1,5 @@
 -- What contracts see of a session, and what a turn of it does.
-use Rattle.std.specs.Prelude.{◌≡◌, ℕ, Bool, List, Result, Ok, Err}
+use Rattle.std.specs.Prelude.{◌≡◌, ℕ, List, Result, Ok, Err}
 use Rattle.chart_ports.specs.declared.images.Images.{Images}
 use Rattle.chart_model.specs.State.{StateValue}
 use Rattle.chart_store.specs.declared.accepted.Accepted.{Accepted}
