@@ -1,5 +1,5 @@
 -- What a reply depends on, apart from its line and from the files that are fetched for it.
-use Rattle.std.specs.Prelude.{◌+◌, ℕ}
+use Rattle.std.specs.Prelude.{◌+◌}
 use Rattle.std.specs.Option.{option_map}
 use Rattle.chart_model.specs.State.{StateValue}
 use Rattle.chart_model.specs.declared.command.Command.{Command}

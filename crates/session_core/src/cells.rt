@@ -1,6 +1,6 @@
 //! The line `cells`.
 
-ghost use Rattle.std.specs.Prelude.{◌≡◌, ◌++◌, ◌∷◌, IfOk, OnOk};
+ghost use Rattle.std.specs.Prelude.{◌≡◌, ◌++◌, ◌∷◌, pos, IfOk, OnOk};
 ghost use Rattle.script_reader.specs.Reply.{number};
 ghost use Rattle.session_core.specs.Listing.{records_of, chart_word, cell_line, listing};
 
@@ -10,10 +10,10 @@ use std::alloc::{AllocError, Global};
 use text_scan::write_number;
 
 /// The number of the chart's vector and feature records.
-fn records_of(chart: &Cell) -> u128
-    ensures { result ≡ records_of chart.now }
+fn records_of(chart: &Cell) -> i128
+    ensures { result ≡ pos (records_of chart.now) }
 {
-    chart.vectors.len() as u128 + chart.features.len() as u128
+    chart.vectors.len() as i128 + chart.features.len() as i128
 }
 
 /// Adds behind a space the number of the chart's records, or that there is no chart.
@@ -23,7 +23,7 @@ fn push_chart(alloc: Global, line: &mut Octets, chart: &Option<Cell>) -> Result<
     match chart {
         Some(chart) => {
             line.extend_from_slice(b" ")?;
-            write_number(alloc, line, records_of(chart) as i128)
+            write_number(alloc, line, records_of(chart))
         }
         None => push_word(line, b"cancelled"),
     }

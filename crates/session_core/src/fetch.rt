@@ -1,6 +1,7 @@
 //! Files by their names.
 
-ghost use Rattle.std.specs.Prelude.{◌≡◌, ◌≤◌, IsTrue};
+ghost use Rattle.std.specs.Prelude.{◌≡◌, ◌≢◌, ◌≤◌, Some, Err, IsTrue};
+ghost use Rattle.session_core.specs.declared.fault.EventFault.TheVariants.{DeskFault};
 ghost use Rattle.session_core.specs.Answers.{Gives};
 ghost use Rattle.session_core.specs.Fetch.{AreFetched, Fetches, file_in};
 
@@ -14,7 +15,8 @@ use std::alloc::Global;
 
 /// The bytes of the file that a shelf answered with.
 fn file_in(name: Word, fetched: Fetched) -> Result<Octets, EventFault>
-    ensures { Gives result (file_in name (Some fetched)) }
+    ensures given { Gives result (file_in name (Some fetched)) }
+    ensures desk { result ≢ Err DeskFault }
 {
     match fetched {
         Fetched::Bytes(bytes) => Ok(Octets::from_vec(bytes.into_vec())),
@@ -31,6 +33,7 @@ pub fn fetch<L: Shelf>(alloc: Global, name: Word, shelf: &mut L) -> Result<Octet
     ensures found { (fetches : Fetches)
         × AreFetched L.tells (L.files shelf.old) (L.faults shelf.old) (L.faults shelf.new) fetches
         × Gives result (file_in name (fetches name)) }
+    ensures desk { result ≢ Err DeskFault }
     ensures same { IsTrue L.tells → L.files shelf.new ≡ L.files shelf.old }
     ensures later { L.faults shelf.old ≤ L.faults shelf.new }
 {

@@ -1,6 +1,7 @@
 //! The line `info`.
 
-ghost use Rattle.std.specs.Prelude.{◌≡◌, ◌≤◌, IsTrue};
+ghost use Rattle.std.specs.Prelude.{◌≡◌, ◌≢◌, ◌≤◌, Err, IsTrue};
+ghost use Rattle.session_core.specs.declared.fault.EventFault.TheVariants.{DeskFault};
 ghost use Rattle.session_core.specs.Answers.{Gives};
 ghost use Rattle.session_core.specs.Fetch.{AreFetched, Fetches};
 ghost use Rattle.session_core.specs.Info.{info_of};
@@ -23,6 +24,7 @@ pub fn inform<L: Shelf, C: Ledger>(
     ensures found { (fetches : Fetches)
         × AreFetched L.tells (L.files shelf.old) (L.faults shelf.old) (L.faults shelf.new) fetches
         × Gives result (info_of name (fetches name)) }
+    ensures desk { result ≢ Err DeskFault }
     ensures same { IsTrue L.tells → L.files shelf.new ≡ L.files shelf.old }
     ensures later { L.faults shelf.old ≤ L.faults shelf.new }
 {

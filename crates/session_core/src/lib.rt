@@ -13,8 +13,6 @@ mod info;
 mod laws;
 mod refusal;
 mod session;
-#[cfg(test)]
-mod tests;
 mod values;
 
 pub use fault::TurnFault;

@@ -1,11 +1,11 @@
 //! Why a line is refused.
 
-ghost use Rattle.std.specs.Prelude.{◌≡◌, IfOk};
+ghost use Rattle.std.specs.Prelude.{◌≡◌, ◌∷◌, [], IfOk};
 ghost use Rattle.std.specs.List.{join_with_byte};
-ghost use Rattle.session_core.specs.Refusal.{store_code, code_of, store_values, values_of, reply_of};
+ghost use Rattle.session_core.specs.Refusal.{numbers, store_code, code_of, store_values, values_of, reply_of};
 
 use crate::values::{Value, join};
-use chart_model::Octets;
+use chart_model::{Name, Octets};
 use chart_store::Refusal as StoreRefusal;
 use script_reader::{Reply, Word};
 use std::alloc::{AllocError, Global};
@@ -64,11 +64,96 @@ fn store_code(refusal: &StoreRefusal) -> u8
     }
 }
 
-/// What the refusal of a store names.
+/// The name of a record and two numbers, parted by single spaces.
+fn join_named(alloc: Global, name: Name, first: u64, second: u64) -> Result<Octets, AllocError>
+    ensures { IfOk result (λ values. values
+        ≡ join_with_byte 32 (numbers (name.rcnm ∷ name.rcid ∷ first ∷ second ∷ []))) }
+{
+    join(alloc, &[Value::Name(name), Value::Number(first), Value::Number(second)])
+}
+
+/// What the refusal of a store names, parted by single spaces.
 fn store_values(alloc: Global, refusal: &StoreRefusal) -> Result<Octets, AllocError>
     ensures { IfOk result (λ values. values ≡ join_with_byte 32 (store_values refusal.now)) }
 {
-    TODO
+    match refusal {
+        StoreRefusal::Leader(at)
+        | StoreRefusal::Directory(at)
+        | StoreRefusal::Span(at)
+        | StoreRefusal::Terminator(at) => join(alloc, &[Value::Number(*at as u64)]),
+        StoreRefusal::Descriptor(text) | StoreRefusal::Profile(text) => {
+            join(alloc, &[Value::Text(text)])
+        }
+        StoreRefusal::Subfield { record, tag: text }
+        | StoreRefusal::MissingField { record, tag: text }
+        | StoreRefusal::Value {
+            record,
+            label: text,
+        } => join(alloc, &[Value::Number(*record as u64), Value::Text(text)]),
+        StoreRefusal::NoGeneral => join(alloc, &[]),
+        StoreRefusal::NoBase(key) | StoreRefusal::Cancelled(key) | StoreRefusal::NoCell(key) => {
+            join(alloc, &[Value::Text(key.as_slice())])
+        }
+        StoreRefusal::NoUpdate { key, update } => {
+            join(alloc, &[Value::Text(key.as_slice()), Value::Number(*update as u64)])
+        }
+        StoreRefusal::StaleBase {
+            held_edition,
+            held_update,
+            edition,
+            update,
+        } => join(
+            alloc,
+            &[
+                Value::Number(*held_edition as u64),
+                Value::Number(*held_update as u64),
+                Value::Number(*edition as u64),
+                Value::Number(*update as u64),
+            ],
+        ),
+        StoreRefusal::Edition { held, given } => {
+            join(alloc, &[Value::Number(*held as u64), Value::Number(*given as u64)])
+        }
+        StoreRefusal::Gap { wanted, given } => {
+            join(alloc, &[Value::Number(*wanted), Value::Number(*given as u64)])
+        }
+        StoreRefusal::Present { name }
+        | StoreRefusal::Absent { name }
+        | StoreRefusal::NoControl { name }
+        | StoreRefusal::Mixed { name }
+        | StoreRefusal::EdgeNodes(name)
+        | StoreRefusal::RingOpen(name)
+        | StoreRefusal::WrongPointer(name) => join(alloc, &[Value::Name(*name)]),
+        StoreRefusal::Version { name, kept, given } => join_named(
+            alloc,
+            *name,
+            *kept as u64,
+            *given as u64,
+        ),
+        StoreRefusal::Foid { name, kept, given } => {
+            join(alloc, &[Value::Name(*name), Value::Foid(*kept), Value::Foid(*given)])
+        }
+        StoreRefusal::Index {
+            name,
+            length,
+            index,
+        } => join_named(alloc, *name, *length as u64, *index as u64),
+        StoreRefusal::Count {
+            name,
+            stated,
+            found,
+        } => join_named(alloc, *name, *stated as u64, *found as u64),
+        StoreRefusal::Dangling { name, target } => {
+            join(alloc, &[Value::Name(*name), Value::Name(*target)])
+        }
+        StoreRefusal::FileLong(number) | StoreRefusal::StoreFull(number) => {
+            join(alloc, &[Value::Number(*number)])
+        }
+        StoreRefusal::CellsFull(cells) => join(alloc, &[Value::Number(*cells as u64)]),
+        StoreRefusal::BankFull { length, need } => {
+            join(alloc, &[Value::Number(*length), Value::Number(*need)])
+        }
+    }
 }
 
 impl Refusal {

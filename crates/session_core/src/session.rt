@@ -1,10 +1,15 @@
 //! A session: a store, and the turns of events over it.
 
+ghost use Rattle.std.specs.Prelude.{◌≡◌};
+ghost use Rattle.chart_model.specs.State.{StateValue};
+ghost use Rattle.chart_store.specs.Submitted.{accepted_with};
+ghost use Rattle.session_core.specs.Turn.{load_reply};
+
 use crate::cells::list;
 use crate::fault::{EventFault, TurnFault};
 use crate::fetch::fetch;
 use crate::info::inform;
-use chart_model::{Command, Held, Key};
+use chart_model::Command;
 use chart_ports::{Desk, Shelf, Steps};
 use chart_store::{Accepted, Store, kept_stores_are_read};
 use script_reader::{Event, Reply};
@@ -13,7 +18,7 @@ use std::sync::ledger::Ledger;
 
 /// What is replied where a file was taken over, or has cancelled its cell.
 fn load_reply(done: &Accepted) -> Reply
-    ensures { result ≡ load_reply (accepted_with state done.now) }
+    ensures { (state : StateValue) → result ≡ load_reply (accepted_with state done.now) }
 {
     if done.held.cancelled {
         Reply::Cancel(done.key)
@@ -29,13 +34,18 @@ pub struct Session {
 }
 
 impl Session {
-    ghost use Rattle.std.specs.Prelude.{◌≡◌, ◌+◌, ◌<◌, ◌≤◌, ◌^◌, IfOk, IsTrue, OnOk, OnErr};
+    ghost use Rattle.std.specs.Prelude.{◌≡◌, ◌≢◌, ◌+◌, ◌<◌, ◌≤◌, ◌^◌, Err, IfOk, IsTrue, OnOk, OnErr};
     ghost use Rattle.bank_journal.specs.Fault.{HasDeskCause};
     ghost use Rattle.chart_ports.specs.Disk.{LeavesNoMoreOfOthers, SameOthers};
     ghost use Rattle.chart_ports.specs.Moments.{LeavesOnly};
-    ghost use Rattle.chart_store.specs.Store.{IsKept, count_of, is_sound};
+    ghost use Rattle.chart_store.specs.Loaded.{Outcome};
+    ghost use Rattle.chart_store.specs.Store.{IsKept, StandsForEither, count_of, is_sound};
+    ghost use Rattle.script_reader.specs.declared.reply.Reply.{Reply as ReplyValue};
+    ghost use Rattle.session_core.specs.declared.fault.EventFault.TheVariants.{DeskFault as EventFailed};
+    ghost use Rattle.session_core.specs.declared.fault.TurnFault.TheVariants.{DeskFault};
     ghost use Rattle.session_core.specs.Fetch.{AreFetched};
-    ghost use Rattle.session_core.specs.Session.{GivesEvent, GivesTurn, Turned, model_of, store_of};
+    ghost use Rattle.session_core.specs.Session.{GivesEvent, GivesTurn, Turned, model_of, reply_by, store_of};
+    ghost use Rattle.session_core.specs.Turn.{commanded};
 
     /// A session over a store that was just opened.
     pub fn new(_alloc: Global, store: Store) -> Result<Session, AllocError>
@@ -46,8 +56,34 @@ impl Session {
         Ok(Session { store })
     }
 
-    /// Carries out a command, and tells what is replied where it is accepted.
-    fn submit<D: Desk, C: Ledger>(..)
+    /// Carries out a command. With any reply to what was accepted this is the turn of the command.
+    fn submit<D: Desk, C: Ledger>(
+        &mut self,
+        alloc: Global,
+        command: Command,
+        desk: &mut D,
+        steps: &mut Steps<C>,
+    ) -> Result<Accepted, EventFault>
+        requires sound { IsTrue (is_sound (store_of self.old)) }
+        requires count { count_of (store_of self.old) < 2 ^ 63 }
+        requires kept { IsTrue D.tells → IsKept (D.contents desk.old) (D.may_leave desk.old) (store_of self.old) }
+        ensures given { (reply : Outcome → ReplyValue) → GivesEvent (reply_by (model_of self.new).state reply result)
+            (model_of self.old) (model_of self.new) (commanded (model_of self.old) command reply) }
+        ensures moments { IsTrue D.tells → (reply : Outcome → ReplyValue) → LeavesOnly D.clock D.might desk.old desk.new
+            (StandsForEither (D.said desk.old) (model_of self.old).state
+            (commanded (model_of self.old) command reply).model.state) }
+        ensures count { count_of (store_of self.new) ≤ count_of (store_of self.old) + 1 }
+        ensures count_err { OnErr result (count_of (store_of self.new) ≡ count_of (store_of self.old)) }
+        ensures sound { result ≢ Err EventFailed → IsTrue (is_sound (store_of self.new)) }
+        ensures kept { IsTrue D.tells → result ≢ Err EventFailed →
+            IsKept (D.contents desk.new) (D.may_leave desk.new) (store_of self.new) }
+        ensures said { IsTrue D.tells → D.said desk.new ≡ D.said desk.old }
+        ensures others { IsTrue D.tells → SameOthers 1 (D.contents desk.old) (D.contents desk.new) }
+        ensures crash_others { IsTrue D.tells → LeavesNoMoreOfOthers 1 (D.may_leave desk.old) (D.may_leave desk.new) }
+        ensures cause { HasDeskCause EventFailed (D.faults desk.old) (D.faults desk.new) result }
+    {
+        Ok(self.store.submit(alloc, command, desk, steps)?)
+    }
 
     /// Carries out an event, and tells its reply where it isn't refused.
     fn carry_out<L: Shelf, D: Desk, C: Ledger>(
@@ -58,8 +94,25 @@ impl Session {
         desk: &mut D,
         steps: &mut Steps<C>,
     ) -> Result<Reply, EventFault>
-        // as `turn`, with GivesEvent
+        requires sound { IsTrue (is_sound (store_of self.old)) }
+        requires count { count_of (store_of self.old) < 2 ^ 63 }
+        requires kept { IsTrue D.tells → IsKept (D.contents desk.old) (D.may_leave desk.old) (store_of self.old) }
+        ensures turned { Turned (AreFetched L.tells (L.files shelf.old) (L.faults shelf.old) (L.faults shelf.new))
+            (λ P. IsTrue D.tells → LeavesOnly D.clock D.might desk.old desk.new P) (D.said desk.old)
+            event (model_of self.old) (GivesEvent result (model_of self.old) (model_of self.new)) }
+        ensures count { count_of (store_of self.new) ≤ count_of (store_of self.old) + 1 }
+        ensures count_err { OnErr result (count_of (store_of self.new) ≡ count_of (store_of self.old)) }
+        ensures sound { result ≢ Err EventFailed → IsTrue (is_sound (store_of self.new)) }
+        ensures kept { IsTrue D.tells → result ≢ Err EventFailed →
+            IsKept (D.contents desk.new) (D.may_leave desk.new) (store_of self.new) }
+        ensures said { IsTrue D.tells → D.said desk.new ≡ D.said desk.old }
+        ensures others { IsTrue D.tells → SameOthers 1 (D.contents desk.old) (D.contents desk.new) }
+        ensures crash_others { IsTrue D.tells → LeavesNoMoreOfOthers 1 (D.may_leave desk.old) (D.may_leave desk.new) }
+        ensures files { IsTrue L.tells → L.files shelf.new ≡ L.files shelf.old }
+        ensures cause { HasDeskCause EventFailed (D.faults desk.old) (D.faults desk.new) result }
+        ensures shelf_later { L.faults shelf.old ≤ L.faults shelf.new }
     {
+        kept_stores_are_read::<D>();
         match event {
             Event::Info(name) => {
                 let general = inform(alloc, name, shelf, steps)?;
@@ -67,20 +120,20 @@ impl Session {
             }
             Event::Load(name) => {
                 let file = fetch(alloc, name, shelf)?;
-                let done = self.store.submit(alloc, Command::Load(file), desk, steps)?;
+                let done = self.submit(alloc, Command::Load(file), desk, steps)?;
                 Ok(load_reply(&done))
             }
             Event::Rollback(key, update) => {
-                let done = self.store.submit(alloc, Command::Rollback(key, update), desk, steps)?;
+                let done = self.submit(alloc, Command::Rollback(key, update), desk, steps)?;
                 Ok(Reply::Rollback(done.key, done.held.edition, done.held.update))
             }
             Event::Drop(key) => {
-                let done = self.store.submit(alloc, Command::Drop(key), desk, steps)?;
+                let done = self.submit(alloc, Command::Drop(key), desk, steps)?;
                 Ok(Reply::Drop(done.key))
             }
             Event::Cells => {
-                let held = &self.store.state().cells;
-                Ok(Reply::Cells(held.len() as u64, list(alloc, held)?))
+                let cells = &self.store.state().cells;
+                Ok(Reply::Cells(cells.len() as u64, list(alloc, cells)?))
             }
         }
     }
@@ -124,7 +177,7 @@ impl Session {
         ensures crash_others { IsTrue D.tells → LeavesNoMoreOfOthers 1 (D.may_leave desk.old) (D.may_leave desk.new) }
         ensures files { IsTrue L.tells → L.files shelf.new ≡ L.files shelf.old }
 
-        ensures cause { HasDeskCause TurnFault.DeskFault (D.faults desk.old) (D.faults desk.new) result }
+        ensures cause { HasDeskCause DeskFault (D.faults desk.old) (D.faults desk.new) result }
         ensures shelf_later { L.faults shelf.old ≤ L.faults shelf.new }
     {
         match self.carry_out(alloc, event, shelf, desk, steps) {

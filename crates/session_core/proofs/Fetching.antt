@@ -1,0 +1,131 @@
+-- Files that are fetched, and what is answered to them.
+use Rattle.std.proofs.Common.{◌≡◌, ℕ, Bool, true, false, List, Option, Some, None, Result, Ok, Err, refl, sym, ◌∙◌, ap, subst}
+use Rattle.std.specs.Prelude.{IsErrOf, IsErrAnd, IsTrue, unwrap_or}
+use Rattle.std.proofs.lemmas.Result.{err_from_is_err_and}
+use Rattle.chart_model.specs.Answers.{◌>>=◌, or_fault_as}
+use Rattle.chart_ports.specs.Count.{Rose}
+use Rattle.chart_ports.specs.Fetched.{fetched_of}
+use Rattle.chart_ports.specs.declared.shelf.Fetched.{Fetched}
+use Rattle.chart_ports.specs.declared.shelf.ShelfError.{ShelfError}
+use Rattle.chart_ports.specs.declared.shelf.ShelfError.TheVariants as of_shelf
+use Rattle.update_sequence.specs.Answers.{GivesRead}
+use Rattle.update_sequence.specs.declared.fault.ReadFault.{ReadFault}
+use Rattle.update_sequence.specs.declared.fault.ReadFault.TheVariants as of_read
+use Rattle.chart_store.specs.Fault.{or_refused}
+use Rattle.chart_store.specs.Loaded.{FILE_LIMIT}
+use Rattle.chart_store.specs.Refusal.{refusal_of_read}
+use Rattle.chart_store.specs.declared.refusal.Refusal as of_store
+use Rattle.chart_store.specs.declared.refusal.Refusal.TheVariants.{NoGeneral}
+use Rattle.session_core.specs.declared.fault.EventFault.{EventFault}
+use Rattle.session_core.specs.declared.fault.EventFault.TheVariants.{Refused, DeskFault, NoMemory}
+use Rattle.session_core.specs.declared.general.General.{General}
+use Rattle.session_core.specs.declared.refusal.Refusal.{Refusal}
+use Rattle.session_core.specs.declared.refusal.Refusal.TheVariants.{ShelfFault, Store}
+use Rattle.session_core.specs.Answers.{Gives, fault_of_read, fault_of_shelf, refused_or_none}
+use Rattle.session_core.specs.Fetch.{AreFetched, Fetches, Files, fetches_of, file_in}
+use Rattle.session_core.specs.General.{general_in}
+use Rattle.session_core.specs.Info.{info_of}
+
+-- ---- faults that are passed up
+
+pub passed-is : {A : Type 0} (r : Result A EventFault) (fault : EventFault) → IsErrAnd r (λ passed. passed ≡ fault) → r ≡ Err fault
+passed-is r fault passed = let p = err_from_is_err_and r passed in p.1 ∙ ap Err p.2
+
+pub passed-gives : {A : Type 0} (r : Result A EventFault) (fault : EventFault) (wanted : Result A Refusal) → IsErrAnd r (λ passed. passed ≡ fault)
+    → Gives (Err fault) wanted → Gives r wanted
+passed-gives {A = A} r fault wanted passed h = subst (λ (s : Result A EventFault). Gives s wanted) (sym (passed-is r fault passed)) h
+
+-- ---- fetches
+
+-- no fetch failed
+pub are-served : (tells : Bool) (files : Files) (before now : ℕ) → AreFetched tells files before now (fetches_of files false)
+are-served tells files before now = record {
+  told = λ t. (false, refl);
+  cause = λ name none. absurd (let f : ◌≡◌ {A = Option Fetched} (Some (fetched_of FILE_LIMIT (files name))) None = none in cc);
+}
+
+are-failed : (tells : Bool) (files : Files) (before now : ℕ) → Rose before now → AreFetched tells files before now (λ name. None)
+are-failed tells files before now rose = record { told = λ t. (true, refl); cause = λ name none. rose }
+
+-- of a shelf that doesn't tell
+are-given : (files : Files) (before now : ℕ) (fetched : Fetched) → AreFetched false files before now (λ name. Some fetched)
+are-given files before now fetched = record {
+  told = λ t. absurd (let f : false ≡ true = t in cc);
+  cause = λ name none. absurd (let f : ◌≡◌ {A = Option Fetched} (Some fetched) None = none in cc);
+}
+
+-- a fetch that gives nothing
+pub failed-found : (tells : Bool) (files : Files) (before now : ℕ) (name : List ℕ) (r : Result (List ℕ) EventFault) (fault : ShelfError)
+    → IsErrAnd r (λ passed. passed ≡ fault_of_shelf fault) → (IsErrOf {T = Fetched} (Err fault) of_shelf.Failed → Rose before now)
+    → (fetches : Fetches) × AreFetched tells files before now fetches × Gives r (file_in name (fetches name))
+failed-found tells files before now name r of_shelf.Failed passed cause =
+    (λ n. None, are-failed tells files before now (cause refl), passed-gives r (Refused ShelfFault) (Err ShelfFault) passed refl)
+failed-found tells files before now name r of_shelf.NoMemory passed cause =
+    (fetches_of files false, are-served tells files before now, passed-gives r NoMemory _ passed tt)
+
+-- a fetch that answers
+pub served-found : (tells : Bool) (files : Files) (before now : ℕ) (name shown : List ℕ) (fetched : Fetched) (answer : Result (List ℕ) EventFault)
+    → shown ≡ name → (IsTrue tells → fetched ≡ fetched_of FILE_LIMIT (files shown)) → Gives answer (file_in name (Some fetched))
+    → (fetches : Fetches) × AreFetched tells files before now fetches × Gives answer (file_in name (fetches name))
+served-found true files before now name shown fetched answer same is h = (
+  fetches_of files false,
+  are-served true files before now,
+  subst (λ (f : Fetched). Gives answer (file_in name (Some f))) (is refl ∙ ap (λ (n : List ℕ). fetched_of FILE_LIMIT (files n)) same) h,
+)
+served-found false files before now name shown fetched answer same is h = (λ n. Some fetched, are-given files before now fetched, h)
+
+-- ---- what a file says of itself
+
+abbrev by_file : Result (List ℕ) Refusal → Result General Refusal
+by_file file = file >>= λ bytes. or_fault_as Store (or_refused refusal_of_read (general_in bytes))
+
+info-by_file : (name : List ℕ) (o : Option Fetched) → info_of name o ≡ by_file (file_in name o)
+unfolding info_of
+info-by_file name o = refl
+
+stopped : (fault : EventFault) (file : Result (List ℕ) Refusal) → Gives (Err fault) file → Gives (Err fault) (by_file file)
+stopped (Refused refusal) file h = ap by_file h
+stopped DeskFault file h = tt
+stopped NoMemory file h = tt
+
+pub info-stopped : (name : List ℕ) (o : Option Fetched) (r : Result General EventFault) (fault : EventFault) → IsErrAnd r (λ passed. passed ≡ fault)
+    → Gives (Err fault) (file_in name o) → Gives r (info_of name o)
+info-stopped name o r fault passed h =
+    subst (Gives r) (sym (info-by_file name o)) (passed-gives r fault (by_file (file_in name o)) passed (stopped fault (file_in name o) h))
+
+info-read_as : (name : List ℕ) (o : Option Fetched) (bytes shown : List ℕ) → file_in name o ≡ Ok bytes → shown ≡ bytes
+    → info_of name o ≡ or_fault_as Store (or_refused refusal_of_read (general_in shown))
+info-read_as name o bytes shown found same =
+    info-by_file name o ∙ ap by_file found
+    ∙ ap (λ (l : List ℕ). or_fault_as Store (or_refused refusal_of_read (general_in l))) (sym same)
+
+-- a fault below is refused as its row of the table
+refused-row : (row : Option of_store.Refusal) (fault : ReadFault) → refusal_of_read fault ≡ row
+    → Gives {A = General} (Err (refused_or_none row)) (Err (Store (unwrap_or (refusal_of_read fault) NoGeneral)))
+refused-row (Some refusal) fault e = ap (λ (o : Option of_store.Refusal). Err (Store (unwrap_or o NoGeneral))) e
+refused-row None fault e = tt
+
+read-row : (fault : ReadFault) (wanted : Result General ReadFault) → wanted ≡ Err fault
+    → Gives {A = General} (Err (fault_of_read fault)) (or_fault_as Store (or_refused refusal_of_read wanted))
+read-row fault wanted h =
+    subst (λ (w : Result General ReadFault). Gives {A = General} (Err (fault_of_read fault)) (or_fault_as Store (or_refused refusal_of_read w)))
+    (sym h) (refused-row (refusal_of_read fault) fault refl)
+
+read-fails : (fault : ReadFault) (wanted : Result General ReadFault) → GivesRead (Err fault) wanted
+    → Gives {A = General} (Err (fault_of_read fault)) (or_fault_as Store (or_refused refusal_of_read wanted))
+read-fails (of_read.File fault) wanted h = read-row (of_read.File fault) wanted h
+read-fails (of_read.Dataset fault) wanted h = read-row (of_read.Dataset fault) wanted h
+read-fails of_read.NoMemory wanted h = tt
+
+pub info-refused : (name : List ℕ) (o : Option Fetched) (bytes shown : List ℕ) (r : Result General EventFault) (fault : ReadFault)
+    → IsErrAnd r (λ passed. passed ≡ fault_of_read fault) → file_in name o ≡ Ok bytes → shown ≡ bytes → GivesRead (Err fault) (general_in shown)
+    → Gives r (info_of name o)
+info-refused name o bytes shown r fault passed found same h =
+    subst (Gives r) (sym (info-read_as name o bytes shown found same))
+    (passed-gives r (fault_of_read fault) (or_fault_as Store (or_refused refusal_of_read (general_in shown))) passed (read-fails fault (general_in shown) h))
+
+pub info-done : (name : List ℕ) (o : Option Fetched) (bytes shown : List ℕ) (general : General) → file_in name o ≡ Ok bytes → shown ≡ bytes
+    → general_in shown ≡ Ok general → info_of name o ≡ Ok general
+info-done name o bytes shown general found same h =
+    info-read_as name o bytes shown found same
+    ∙ ap (λ (r : Result General ReadFault). or_fault_as Store (or_refused refusal_of_read r)) h
