@@ -14,28 +14,34 @@ pub taken : (words : List (List ℕ)) → fault_of ecdis words ≡ [] → words_
 unfolding words_of
 taken words none = ap (λ (kinds : Kinds). where_none kinds (said_in (matches_of ecdis words))) none
 
-none_where : (kinds : Kinds) (error : Error) (found : Option WordsValue) → kind_of error ≢ OutOfMemory → HasKind kinds error → where_none kinds found ≡ None
+none_where : (kinds : Kinds) (error : Error) (found : Option WordsValue) → kind_of error ≢ OutOfMemory
+    → HasKind kinds error → where_none kinds found ≡ None
 none_where kinds error found other (inl memory) = absurd (other memory)
 none_where [] error found other (inr among) = absurd among
 none_where (kind ∷ more) error found other (inr among) = refl
 
-pub refused : (words : List (List ℕ)) (error : Error) → kind_of error ≢ OutOfMemory → HasKind (fault_of ecdis words) error → words_of words ≡ None
+pub refused : (words : List (List ℕ)) (error : Error) → kind_of error ≢ OutOfMemory
+    → HasKind (fault_of ecdis words) error → words_of words ≡ None
 unfolding words_of
 refused words error other has = none_where (fault_of ecdis words) error (said_in (matches_of ecdis words)) other has
 
 -- an answer to the words: what they say, and a refusal exactly where they say nothing
 abbrev pub Answers : Option WordsValue → Result Words WordsFault → Type 0
-Answers said result = MatchResult result (λ read. said ≡ Some (value_of read)) (λ fault. fault ≡ Refused → said ≡ None)
+Answers said result = MatchResult result (λ read. said ≡ Some (value_of read))
+    (λ fault. fault ≡ Refused → said ≡ None)
 
-pub answered_said : (said : Option WordsValue) (result : Result Words WordsFault) → Answers said result → IfOk result (λ read. said ≡ Some (value_of read))
+pub answered_said : (said : Option WordsValue) (result : Result Words WordsFault) → Answers said result
+    → IfOk result (λ read. said ≡ Some (value_of read))
 answered_said said (Ok read) is = is
 answered_said said (Err fault) is = tt
 
-pub answered_refused : (said : Option WordsValue) (result : Result Words WordsFault) → Answers said result → result ≡ Err Refused → said ≡ None
+pub answered_refused : (said : Option WordsValue) (result : Result Words WordsFault) → Answers said result
+    → result ≡ Err Refused → said ≡ None
 answered_refused said (Ok read) is e = absurd cc
 answered_refused said (Err fault) is e = is cc
 
-pub failed : (words : List (List ℕ)) (error : Error) (result : Result Words WordsFault) → HasKind (fault_of ecdis words) error
+pub failed : (words : List (List ℕ)) (error : Error) (result : Result Words WordsFault)
+    → HasKind (fault_of ecdis words) error
     → IsErrAnd result (λ fault. IsAnsweredBy fault error) → Answers (words_of words) result
 failed words error (Ok read) has answered = absurd answered
 failed words error (Err Refused) has answered = λ _. refused words error answered has

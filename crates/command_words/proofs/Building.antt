@@ -7,7 +7,8 @@ use Rattle.clap.specs.Simple.{is_simple}
 use Rattle.clap.proofs.OnLiterals.{clap_on_literals}
 use Rattle.command_words.specs.Command.{ecdis}
 
-pub added : (old : Command) (arg : Arg) (new : Command) (app : App) (rule : Rule) → app_of old ≡ app → rule_of arg ≡ rule → arg.global ≡ false
+pub added : (old : Command) (arg : Arg) (new : Command) (app : App) (rule : Rule) → app_of old ≡ app
+    → rule_of arg ≡ rule → arg.global ≡ false
     → AddsArg old arg new → app_of new ≡ with_rule app rule
 added old arg new app rule before is local adds = adds.shape local ∙ ap₂ with_rule before is
 

@@ -1,5 +1,6 @@
 -- A number is read as it is spelled.
-use Rattle.std.proofs.Common.{◌≡◌, ℕ, ◌<◌, ◌≤◌, ◌⊎◌, Bool, true, false, cond, not, ltb, leb, eqb, ◌&&◌, List, length, Option, Some, None, refl, sym, ap, inl, inr, arith}
+use Rattle.std.proofs.Common.{◌≡◌, ℕ, ◌<◌, ◌≤◌, ◌⊎◌, Bool, true, false, cond, not, ltb, leb, eqb, ◌&&◌, List, length}
+use Rattle.std.proofs.Common.{Option, Some, None, refl, sym, ap, inl, inr, arith}
 use Rattle.std.specs.Prelude.{slice_index}
 use Rattle.std.specs.Bool.{Decides}
 use Rattle.std.specs.Str.{all_ascii_digits}
@@ -45,7 +46,8 @@ Decides-number text = (
 
 -- ---- a number from one bound to another
 
-pub from_to_found : (low high : ℕ) (text : List ℕ) (n : ℕ) → number_from_to low high text ≡ Some n → SpellsNumber text n × (low ≤ n) × (n ≤ high)
+pub from_to_found : (low high : ℕ) (text : List ℕ) (n : ℕ) → number_from_to low high text ≡ Some n
+    → SpellsNumber text n × (low ≤ n) × (n ≤ high)
 unfolding number_from_to
 from_to_found low high text n e = elim (chosen _ (Some (digits_value 10 text)) None (Some n) e) [
   | inl h ↦
@@ -58,7 +60,8 @@ from_to_found low high text n e = elim (chosen _ (Some (digits_value 10 text)) N
   | inr h ↦ absurd (let none = h.1 in cc)
 ]
 
-pub from_to_again : (low high : ℕ) (text : List ℕ) (n : ℕ) → SpellsNumber text n → low ≤ n → n ≤ high → number_from_to low high text ≡ Some n
+pub from_to_again : (low high : ℕ) (text : List ℕ) (n : ℕ) → SpellsNumber text n → low ≤ n → n ≤ high
+    → number_from_to low high text ≡ Some n
 unfolding number_from_to
 from_to_again low high text n is lower upper =
     let number = (Decides-number text).1 is.0 in
@@ -67,8 +70,10 @@ from_to_again low high text n is lower upper =
     let few : leb (digits_value 10 text) high ≡ true = le-leb _ _ (omega arith) in
     rw (number, some, few) (ap (λ (k : ℕ). Some k) (sym is.1))
 
-pub from_to_missing : (low high : ℕ) (text : List ℕ) → ((n : ℕ) → SpellsNumber text n → low ≤ n → n ≤ high → ⊥) → number_from_to low high text ≡ None
-from_to_missing low high text other = missing (number_from_to low high text) (λ n e. let f = from_to_found low high text n e in other n f.0 f.1 f.2)
+pub from_to_missing : (low high : ℕ) (text : List ℕ) → ((n : ℕ) → SpellsNumber text n → low ≤ n → n ≤ high → ⊥)
+    → number_from_to low high text ≡ None
+from_to_missing low high text other = missing (number_from_to low high text)
+    (λ n e. let f = from_to_found low high text n e in other n f.0 f.1 f.2)
   where
     missing : (o : Option ℕ) → ((n : ℕ) → o ≡ Some n → ⊥) → o ≡ None
     missing None h = refl

@@ -5,55 +5,70 @@ use Rattle.clap.proofs.OnLiterals.{clap_on_literals}
 use Rattle.chart_model.specs.declared.settings.Settings.{Settings}
 use Rattle.command_words.specs.Settings.{defaults, centimetres_of, scale_of, shades_of}
 use Rattle.command_words.specs.Reading.{WordsValue, given, words_of, said_in, settings_in}
-use Rattle.command_words.specs.Given.{naming, with_settings}
+use Rattle.command_words.specs.Given.{naming, with_setting, with_settings}
 
 -- one value that may be missing decides on the settings, and these on the whole
 abbrev whole : {A : Type 0} → List ℕ → List ℕ → Option A → (A → Settings) → Option WordsValue
-whole catalogue table value set = given (given value (λ v. Some (set v))) (λ settings. Some (with_settings catalogue table settings))
+whole catalogue table value set = given (given value (λ v. Some (set v)))
+    (λ settings. Some (with_settings catalogue table settings))
 
 one_value : {A : Type 0} (catalogue table : List ℕ) (value : Option A) (set : A → Settings)
     → whole catalogue table value set ≡ option_map (λ v. with_settings catalogue table (set v)) value
 one_value catalogue table None set = refl
 one_value catalogue table (Some v) set = refl
 
-pub named : (program catalogue table : List ℕ) → words_of (naming program catalogue table []) ≡ Some (with_settings catalogue table defaults)
+pub named : (program catalogue table : List ℕ)
+    → words_of (naming program catalogue table []) ≡ Some (with_settings catalogue table defaults)
 unfolding clap_on_literals words_of said_in settings_in
 named program catalogue table = refl
 
-pub safety_contour_set : (program catalogue table text : List ℕ) → words_of (naming program catalogue table ((codes "--safety-contour=" ++ text) ∷ []))
-    ≡ option_map (λ depth. with_settings catalogue table (record defaults { safety_contour = depth })) (centimetres_of text)
+pub safety_contour_set : (program catalogue table text : List ℕ)
+    → words_of (naming program catalogue table ((codes "--safety-contour=" ++ text) ∷ []))
+    ≡ with_setting catalogue table (λ depth. record defaults { safety_contour = depth }) (centimetres_of text)
 unfolding clap_on_literals words_of said_in settings_in
-safety_contour_set program catalogue table text = one_value catalogue table (centimetres_of text) (λ depth. record defaults { safety_contour = depth })
+safety_contour_set program catalogue table text = one_value catalogue table (centimetres_of text)
+    (λ depth. record defaults { safety_contour = depth })
 
-pub safety_depth_set : (program catalogue table text : List ℕ) → words_of (naming program catalogue table ((codes "--safety-depth=" ++ text) ∷ []))
-    ≡ option_map (λ depth. with_settings catalogue table (record defaults { safety_depth = depth })) (centimetres_of text)
+pub safety_depth_set : (program catalogue table text : List ℕ)
+    → words_of (naming program catalogue table ((codes "--safety-depth=" ++ text) ∷ []))
+    ≡ with_setting catalogue table (λ depth. record defaults { safety_depth = depth }) (centimetres_of text)
 unfolding clap_on_literals words_of said_in settings_in
-safety_depth_set program catalogue table text = one_value catalogue table (centimetres_of text) (λ depth. record defaults { safety_depth = depth })
+safety_depth_set program catalogue table text = one_value catalogue table (centimetres_of text)
+    (λ depth. record defaults { safety_depth = depth })
 
-pub shallow_set : (program catalogue table text : List ℕ) → words_of (naming program catalogue table ((codes "--shallow=" ++ text) ∷ []))
-    ≡ option_map (λ depth. with_settings catalogue table (record defaults { shallow = depth })) (centimetres_of text)
+pub shallow_set : (program catalogue table text : List ℕ)
+    → words_of (naming program catalogue table ((codes "--shallow=" ++ text) ∷ []))
+    ≡ with_setting catalogue table (λ depth. record defaults { shallow = depth }) (centimetres_of text)
 unfolding clap_on_literals words_of said_in settings_in
-shallow_set program catalogue table text = one_value catalogue table (centimetres_of text) (λ depth. record defaults { shallow = depth })
+shallow_set program catalogue table text = one_value catalogue table (centimetres_of text)
+    (λ depth. record defaults { shallow = depth })
 
-pub deep_set : (program catalogue table text : List ℕ) → words_of (naming program catalogue table ((codes "--deep=" ++ text) ∷ []))
-    ≡ option_map (λ depth. with_settings catalogue table (record defaults { deep = depth })) (centimetres_of text)
+pub deep_set : (program catalogue table text : List ℕ)
+    → words_of (naming program catalogue table ((codes "--deep=" ++ text) ∷ []))
+    ≡ with_setting catalogue table (λ depth. record defaults { deep = depth }) (centimetres_of text)
 unfolding clap_on_literals words_of said_in settings_in
-deep_set program catalogue table text = one_value catalogue table (centimetres_of text) (λ depth. record defaults { deep = depth })
+deep_set program catalogue table text = one_value catalogue table (centimetres_of text)
+    (λ depth. record defaults { deep = depth })
 
-pub shades_set : (program catalogue table text : List ℕ) → words_of (naming program catalogue table ((codes "--shades=" ++ text) ∷ []))
-    ≡ option_map (λ shades. with_settings catalogue table (record defaults { shades = shades })) (shades_of text)
+pub shades_set : (program catalogue table text : List ℕ)
+    → words_of (naming program catalogue table ((codes "--shades=" ++ text) ∷ []))
+    ≡ with_setting catalogue table (λ shades. record defaults { shades = shades }) (shades_of text)
 unfolding clap_on_literals words_of said_in settings_in
-shades_set program catalogue table text = one_value catalogue table (shades_of text) (λ shades. record defaults { shades = shades })
+shades_set program catalogue table text = one_value catalogue table (shades_of text)
+    (λ shades. record defaults { shades = shades })
 
-pub pattern_set : (program catalogue table : List ℕ) → words_of (naming program catalogue table (codes "--pattern" ∷ []))
+pub pattern_set : (program catalogue table : List ℕ)
+    → words_of (naming program catalogue table (codes "--pattern" ∷ []))
     ≡ Some (with_settings catalogue table (record defaults { pattern = true }))
 unfolding clap_on_literals words_of said_in settings_in
 pattern_set program catalogue table = refl
 
-pub scale_set : (program catalogue table text : List ℕ) → words_of (naming program catalogue table ((codes "--scale=" ++ text) ∷ []))
-    ≡ option_map (λ scale. with_settings catalogue table (record defaults { scale = scale })) (scale_of text)
+pub scale_set : (program catalogue table text : List ℕ)
+    → words_of (naming program catalogue table ((codes "--scale=" ++ text) ∷ []))
+    ≡ with_setting catalogue table (λ scale. record defaults { scale = scale }) (scale_of text)
 unfolding clap_on_literals words_of said_in settings_in
-scale_set program catalogue table text = one_value catalogue table (scale_of text) (λ scale. record defaults { scale = scale })
+scale_set program catalogue table text = one_value catalogue table (scale_of text)
+    (λ scale. record defaults { scale = scale })
 
 -- ---- words that say nothing
 
@@ -61,22 +76,27 @@ pub nothing : words_of [] ≡ None
 unfolding clap_on_literals words_of
 nothing = refl
 
-pub no_catalogue : (program table : List ℕ) → words_of (program ∷ (codes "--table=" ++ table) ∷ []) ≡ None
+pub no_catalogue : (program table : List ℕ)
+    → words_of (program ∷ (codes "--table=" ++ table) ∷ []) ≡ None
 unfolding clap_on_literals words_of
 no_catalogue program table = refl
 
-pub no_table : (program catalogue : List ℕ) → words_of (program ∷ (codes "--catalogue=" ++ catalogue) ∷ []) ≡ None
+pub no_table : (program catalogue : List ℕ)
+    → words_of (program ∷ (codes "--catalogue=" ++ catalogue) ∷ []) ≡ None
 unfolding clap_on_literals words_of
 no_table program catalogue = refl
 
-pub twice : (program catalogue table other : List ℕ) → words_of (naming program catalogue table ((codes "--table=" ++ other) ∷ [])) ≡ None
+pub twice : (program catalogue table other : List ℕ)
+    → words_of (naming program catalogue table ((codes "--table=" ++ other) ∷ [])) ≡ None
 unfolding clap_on_literals words_of
 twice program catalogue table other = refl
 
-pub help : (program catalogue table : List ℕ) → words_of (naming program catalogue table (codes "--help" ∷ [])) ≡ None
+pub help : (program catalogue table : List ℕ)
+    → words_of (naming program catalogue table (codes "--help" ∷ [])) ≡ None
 unfolding clap_on_literals words_of
 help program catalogue table = refl
 
-pub version : (program catalogue table : List ℕ) → words_of (naming program catalogue table (codes "--version" ∷ [])) ≡ None
+pub version : (program catalogue table : List ℕ)
+    → words_of (naming program catalogue table (codes "--version" ∷ [])) ≡ None
 unfolding clap_on_literals words_of
 version program catalogue table = refl

@@ -1,5 +1,5 @@
 -- Words that name the two files, and further ones.
-use Rattle.std.specs.Prelude.{ℕ, List, [], ◌∷◌, ◌++◌, codes}
+use Rattle.std.specs.Prelude.{ℕ, List, [], ◌∷◌, ◌++◌, codes, Option, option_map}
 use Rattle.chart_model.specs.declared.settings.Settings.{Settings}
 use Rattle.command_words.specs.Reading.{WordsValue}
 
@@ -16,3 +16,7 @@ naming_apart program catalogue table =
 -- the two names and these settings
 abbrev pub with_settings : List ℕ → List ℕ → Settings → WordsValue
 with_settings catalogue table settings = record { catalogue = catalogue; table = table; settings = settings }
+
+-- the two names and the settings that a value makes, where there is a value
+abbrev pub with_setting : {A : Type 0} → List ℕ → List ℕ → (A → Settings) → Option A → Option WordsValue
+with_setting catalogue table set value = option_map (λ v. with_settings catalogue table (set v)) value

@@ -1,10 +1,11 @@
 //! What holds of words and of what they say.
 
-ghost use Rattle.std.specs.Prelude.{◌≡◌, ◌≢◌, ◌↔◌, ◌≤◌, ◌++◌, ◌∷◌, [], List, ℕ, Some, None, codes, option_map, slice_index, true};
+ghost use Rattle.std.specs.Prelude.{◌≡◌, ◌≢◌, ◌↔◌, ◌≤◌, ◌++◌, ◌∷◌, [], List, ℕ, Some, None, codes};
+ghost use Rattle.std.specs.Prelude.{slice_index, true};
 ghost use Rattle.command_words.specs.Numbers.{SpellsNumber, number_from_to};
 ghost use Rattle.command_words.specs.Settings.{AreInRange, centimetres_of, defaults, scale_of, shades_of};
 ghost use Rattle.command_words.specs.Reading.{WordsValue, words_of};
-ghost use Rattle.command_words.specs.Given.{naming, naming_apart, with_settings};
+ghost use Rattle.command_words.specs.Given.{naming, naming_apart, with_setting, with_settings};
 
 /// The function that definitions cite gives the number that a text spells, where it is in the range.
 pub fn numbers_are_spelled()
@@ -20,37 +21,39 @@ pub fn settings_are_in_their_ranges()
 /// Words that name the two files and nothing else give these names and the defaults. A name that begins
 /// with `-` (45) has to stand behind `=`.
 pub fn defaults_stand_alone()
-    ensures { (program catalogue table : List ℕ) →
+    ensures joined { (program catalogue table : List ℕ) →
         words_of (naming program catalogue table []) ≡ Some (with_settings catalogue table defaults) }
+    ensures apart { (program catalogue table : List ℕ) → slice_index catalogue 0 ≢ 45 → slice_index table 0 ≢ 45 →
+        words_of (naming_apart program catalogue table) ≡ Some (with_settings catalogue table defaults) }
 {}
 
 /// Each depth's option changes its own depth, and nothing else.
 pub fn depths_are_set()
     ensures safety_contour { (program catalogue table text : List ℕ) →
         words_of (naming program catalogue table ((codes "--safety-contour=" ++ text) ∷ []))
-        ≡ option_map (λ depth. with_settings catalogue table (record defaults { safety_contour = depth })) (centimetres_of text) }
+        ≡ with_setting catalogue table (λ depth. record defaults { safety_contour = depth }) (centimetres_of text) }
     ensures safety_depth { (program catalogue table text : List ℕ) →
         words_of (naming program catalogue table ((codes "--safety-depth=" ++ text) ∷ []))
-        ≡ option_map (λ depth. with_settings catalogue table (record defaults { safety_depth = depth })) (centimetres_of text) }
+        ≡ with_setting catalogue table (λ depth. record defaults { safety_depth = depth }) (centimetres_of text) }
     ensures shallow { (program catalogue table text : List ℕ) →
         words_of (naming program catalogue table ((codes "--shallow=" ++ text) ∷ []))
-        ≡ option_map (λ depth. with_settings catalogue table (record defaults { shallow = depth })) (centimetres_of text) }
+        ≡ with_setting catalogue table (λ depth. record defaults { shallow = depth }) (centimetres_of text) }
     ensures deep { (program catalogue table text : List ℕ) →
         words_of (naming program catalogue table ((codes "--deep=" ++ text) ∷ []))
-        ≡ option_map (λ depth. with_settings catalogue table (record defaults { deep = depth })) (centimetres_of text) }
+        ≡ with_setting catalogue table (λ depth. record defaults { deep = depth }) (centimetres_of text) }
 {}
 
 /// Each other option changes its own setting, and nothing else.
 pub fn looks_are_set()
     ensures shades { (program catalogue table text : List ℕ) →
         words_of (naming program catalogue table ((codes "--shades=" ++ text) ∷ []))
-        ≡ option_map (λ shades. with_settings catalogue table (record defaults { shades = shades })) (shades_of text) }
+        ≡ with_setting catalogue table (λ shades. record defaults { shades = shades }) (shades_of text) }
     ensures pattern { (program catalogue table : List ℕ) →
         words_of (naming program catalogue table (codes "--pattern" ∷ []))
         ≡ Some (with_settings catalogue table (record defaults { pattern = true })) }
     ensures scale { (program catalogue table text : List ℕ) →
         words_of (naming program catalogue table ((codes "--scale=" ++ text) ∷ []))
-        ≡ option_map (λ scale. with_settings catalogue table (record defaults { scale = scale })) (scale_of text) }
+        ≡ with_setting catalogue table (λ scale. record defaults { scale = scale }) (scale_of text) }
 {}
 
 /// Words that don't name both files, and words that ask for more than there is, say nothing.
@@ -64,4 +67,6 @@ pub fn other_words_are_refused()
         words_of (naming program catalogue table (codes "--help" ∷ [])) ≡ None }
     ensures version { (program catalogue table : List ℕ) →
         words_of (naming program catalogue table (codes "--version" ∷ [])) ≡ None }
+    ensures stray { (program catalogue table word : List ℕ) → slice_index word 0 ≢ 45 →
+        words_of (naming program catalogue table (word ∷ [])) ≡ None }
 {}

@@ -40,7 +40,7 @@ fn answer(alloc: Global, line: &str) -> Result<String, AllocError> {
 
 #[test]
 fn options(rt: HostRuntime) -> Result<(), Fail> {
-    let cases: [(&str, &str); 46] = [
+    let cases: [(&str, &str); 49] = [
         ("--safety-contour 0", "c t 0 3000 200 3000 four plain 1"),
         (
             "--safety-contour 1000000",
@@ -100,6 +100,10 @@ fn options(rt: HostRuntime) -> Result<(), Fail> {
         ("--help", "refused"),
         ("-h", "refused"),
         ("--version", "refused"),
+        // behind `--` stand no options
+        ("--", "c t 3000 3000 200 3000 four plain 1"),
+        ("-- script", "refused"),
+        ("-- --pattern", "refused"),
     ];
     for (more, said) in &cases {
         let line = format!(in rt.alloc(); "ecdis --catalogue c --table t {more}")?;

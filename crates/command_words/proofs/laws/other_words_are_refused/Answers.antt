@@ -1,3 +1,4 @@
+use Rattle.command_words.proofs.Apart.{stray}
 use Rattle.command_words.proofs.Walks.{nothing, no_catalogue, no_table, twice, help, version}
 use Rattle.command_words.proofs.laws.other_words_are_refused.Goals as goal
 
@@ -18,3 +19,6 @@ returns-clause-help c = help
 
 pub returns-clause-version : goal.returns-clause-version
 returns-clause-version c = version
+
+pub returns-clause-stray : goal.returns-clause-stray
+returns-clause-stray c = stray

@@ -24,7 +24,8 @@ returns c =
     let none = c.in_ok-matches.ensures.kinds (ap is_simple_and_free is ∙ ecdis_is_simple_and_free) in
     let same = (c.in_ok-matches.ensures.matches (ap is_simple is ∙ ecdis_is_simple)).0 in
     let answer = passed words (rows_of (found_of c.in_ok-matches.matches)) c.words_in.result
-    (subst (λ (app : App). fault_of app words ≡ []) is none) (same ∙ ap (λ (app : App). matches_of app words) is) c.words_in.ensures in
+    (subst (λ (app : App). fault_of app words ≡ []) is none) (same ∙ ap (λ (app : App). matches_of app words) is)
+    c.words_in.ensures in
     let said = answered_said (words_of words) c.words_in.result answer in
     record {
       said = said;

@@ -1,0 +1,125 @@
+"""Charts, scripts and runs for the programs of this folder that stop `ecdis` where it stands.
+
+The charts are made from the small cell of the case cells_and_updates: its key, edition, update number and record
+version are bytes that stand once in its files.
+"""
+import argparse, os, subprocess
+
+HERE = os.path.dirname(os.path.abspath(__file__))
+FILES = os.path.join(HERE, "cases", "cells_and_updates", "files")
+WORDS = ["--catalogue", "catalogue", "--table", "table"]
+CATALOGUE = b"O 42 DEPARE\nO 129 SOUNDG\nO 159 WRECKS\nA 87 DRVAL1\nA 88 DRVAL2\nA 179 VALSOU\n"
+TABLE = b"DEPARE A 1 - CS(DEPARE01)\nWRECKS P 4 - CS(WRECKS02)\nSOUNDG P 6 - CS(SOUNDG02)\n"
+CELLS = 6
+
+
+def program(description):
+    """The program that the words name, or else the built one."""
+    words = argparse.ArgumentParser(description=description)
+    words.add_argument("--program", default=os.path.join(HERE, "..", "crates", "ecdis_cli", "out", "ecdis_cli"))
+    path = os.path.abspath(words.parse_args().program)
+    if not os.access(path, os.X_OK):
+        raise SystemExit("no program at " + path)
+    return path
+
+
+def write(folder, name, data):
+    with open(os.path.join(folder, name), "wb") as file:
+        file.write(data)
+
+
+def changed(data, old, new):
+    assert data.count(old) == 1, old
+    return data.replace(old, new)
+
+
+def make_room(folder, script=b""):
+    """A folder with the tables, six cells with two editions and three updates each, and the script."""
+    os.makedirs(folder)
+    sample = {}
+    for name in ("AA5TEST1.000", "AA5TEST1.001", "cancel"):
+        with open(os.path.join(FILES, name), "rb") as file:
+            sample[name] = file.read()
+    for cell in range(1, CELLS + 1):
+        key = b"AA5TEST%d." % cell
+        base = changed(sample["AA5TEST1.000"], b"AA5TEST1.", key)
+        write(folder, "base%d" % cell, base)
+        write(folder, "again%d" % cell, changed(base, b"\x1f1\x1f0\x1f2024", b"\x1f2\x1f0\x1f2024"))
+        for number in range(1, 4):
+            update = changed(sample["AA5TEST1.001"], b"AA5TEST1.", key)
+            update = changed(update, b"\x1f1\x1f1\x1f2024", b"\x1f1\x1f%d\x1f2024" % number)
+            update = changed(update, b"*\x00\x02\x00\x03\x1e", b"*\x00%c\x00\x03\x1e" % (number + 1))
+            write(folder, "update%d.%d" % (cell, number), update)
+        write(folder, "cancel%d" % cell, changed(sample["cancel"], b"AA5TEST1.", key))
+    write(folder, "catalogue", CATALOGUE)
+    write(folder, "table", TABLE)
+    write(folder, "script", script)
+
+
+def lines(rounds):
+    """The lines of a script: loads, cancels, rollbacks and drops, with remarks, bad lines and refusals between."""
+    for turn in range(rounds):
+        cell = turn % CELLS + 1
+        yield "# turn %d" % turn
+        yield "load base%d" % cell
+        yield "load update%d.1" % cell
+        yield "load update%d.3" % cell
+        yield "load update%d.2" % cell
+        yield "load update%d.3" % cell
+        yield "cells"
+        yield "rollback AA5TEST%d %d" % (cell, turn % 3)
+        yield "load it"
+        yield "load cancel%d" % cell
+        yield "load update%d.1" % cell
+        yield "rollback AA5TEST%d 0" % cell
+        yield "load again%d" % cell if turn % 4 == 1 else "hello"
+        yield "cells"
+        yield "drop AA5TEST%d" % (cell % CELLS + 1 if turn % 4 else CELLS + 1)
+
+
+def run(path, folder, script, **more):
+    """Runs the program over the lines to its end."""
+    text = "".join(line + "\n" for line in script).encode()
+    return subprocess.run([path] + WORDS, cwd=folder, input=text, stdout=subprocess.PIPE, stderr=subprocess.PIPE, **more)
+
+
+def replies(output):
+    """The replies, each with the lines of its list."""
+    found, rest = [], output.splitlines(keepends=True)
+    while rest:
+        words = rest[0].split()
+        count = 1 + (int(words[2]) if words[:2] == [b"ok", b"cells"] else 0)
+        found.append(b"".join(rest[:count]))
+        rest = rest[count:]
+    return found
+
+
+def is_accepted(reply):
+    return reply.startswith((b"ok load ", b"ok cancel ", b"ok rollback ", b"ok drop "))
+
+
+class Whole:
+    """What a script says when it runs to its end, and what is held after each of its accepted commands."""
+
+    def __init__(self, path, folder, script):
+        make_room(folder)
+        self.output = run(path, folder, script).stdout
+        said = replies(self.output)
+        accepted = [place for place, reply in enumerate(said) if is_accepted(reply)]
+        self.starts = [sum(map(len, said[:place])) for place in accepted]
+        # The lists, from a run that asks for one behind each line that has a reply.
+        make_room(folder + "-watched")
+        watched = [line for each in script for line in ((each,) if each.startswith("#") else (each, "cells"))]
+        held = replies(run(path, folder + "-watched", watched).stdout)[1::2]
+        self.lists = [b"ok cells 0\n"] + [held[place] for place in accepted]
+
+    def fault(self, said, listed):
+        """What is wrong with a list after a run that said these bytes: None where nothing is."""
+        if not self.output.startswith(said):
+            return "what was said is no front of the whole run's output"
+        begun = sum(start < len(said) for start in self.starts)
+        if listed in self.lists[begun:begun + 2]:
+            return None
+        if listed in self.lists:
+            return "a command whose reply was begun is missing, or more were kept than were run: %d begun" % begun
+        return "what is held is that of no front of the commands: %d begun, %r" % (begun, listed)
