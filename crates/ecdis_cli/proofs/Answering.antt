@@ -1,6 +1,6 @@
 -- A line's reply, and how it is said.
-use Rattle.std.proofs.Common.{◌≡◌, ℕ, ◌+◌, ◌<◌, ◌≤◌, ◌⊎◌, Bool, List, [], ◌∷◌, ◌++◌, length, refl, sym, ◌∙◌, ap, subst, arith, inl, inr}
-use Rattle.std.specs.Prelude.{Option, Some, None, Result, Ok, Err, IsTrue}
+use Rattle.std.proofs.Common.{◌≡◌, ℕ, ◌+◌, ◌<◌, ◌≤◌, ◌⊎◌, Bool, true, false, List, [], ◌∷◌, ◌++◌, length, refl, sym, ◌∙◌, ap, subst, arith, inl, inr}
+use Rattle.std.specs.Prelude.{Option, Some, None, Result, Ok, Err, IsErr, IsTrue}
 use Rattle.std.proofs.lemmas.List.{append-nil}
 use Rattle.std.proofs.lemmas.List.Elements.{All-nil, All-cons}
 use Rattle.chart_model.specs.State.{StateValue}
@@ -17,14 +17,16 @@ use Rattle.script_reader.specs.Reply.{printed}
 use Rattle.script_reader.specs.declared.event.Event.{Event}
 use Rattle.script_reader.specs.declared.fault.LineFault.{LineFault}
 use Rattle.script_reader.specs.declared.reply.Reply.{Reply}
-use Rattle.session_core.specs.Fetch.{AreFetched, Files, Fetches}
+use Rattle.session_core.specs.Fetch.{AreFetched, Files, Fetches, fetches_of}
+use Rattle.session_core.specs.Session.{GivesTurn, Turned}
 use Rattle.session_core.specs.Model.{Model, model_with}
 use Rattle.session_core.specs.Turn.{Turn, turn_of}
 use Rattle.ecdis_cli.specs.Crash.{LeavesPrefix}
 use Rattle.ecdis_cli.specs.Progress.{Answered, Interrupted, IsAfter, IsSpoken, Taken}
-use Rattle.ecdis_cli.specs.Replied.{LeavesSaying, Replied}
+use Rattle.ecdis_cli.specs.declared.run.stop.Stop.{Stop}
+use Rattle.ecdis_cli.specs.Replied.{GivesStep, LeavesSaying, Replied}
 use Rattle.ecdis_cli.specs.Script.{IsAnswer, commands_in, listed, output}
-use Rattle.ecdis_cli.specs.Step.{Step, said_in, said_of, step_by, step_to}
+use Rattle.ecdis_cli.specs.Step.{Step, said_in, said_of, spoken, step_by, step_to}
 use Rattle.ecdis_cli.specs.World.{World}
 use Rattle.ecdis_cli.proofs.Crashes.{prefix-saying, prefix-turn}
 use Rattle.ecdis_cli.proofs.Failures.{TellsFailure, failed-one}
@@ -234,3 +236,41 @@ module _ {D : Type 0} (clock : D → ℕ) (might : D → ℕ → Images → List
   leaves-none desk may_leave said state left only_now stands =
       started clock might desk (StandsForEither said state left)
       (λ images so_far here. let now = only_now images so_far here in record { silent = now.1; stands = inl (stands images now.0) })
+
+-- ---- a line's step
+
+-- no step is given where there is no reply
+pub gives-stopped : (r : Result (Option Reply) Stop) (now : Model) (step : Step) → IsErr r → GivesStep r now step
+gives-stopped (Ok reply) now step e = absurd (let f : false ≡ true = e in cc)
+gives-stopped (Err stop) now step e = tt
+
+-- the desk isn't called
+pub Replied-quiet : {D : Type 0} (clock : D → ℕ) (might : D → ℕ → Images → List ℕ → Type 0) (T : Type 0) (tells : Bool) (files : Files) (desk : D)
+    (may_leave : ℕ → List ℕ → Type 0) (said : List ℕ) (number : ℕ) (line : List ℕ) (before : Model) (a : ℕ) (IsGiven : Step → Type 0)
+    → (T → (images : Images) (so_far : List ℕ) → might desk (clock desk) images so_far → MayBeLeft may_leave images × (so_far ≡ said))
+    → (T → (images : Images) → MayBeLeft may_leave images → StandFor images before.state)
+    → IsGiven (step_to (fetches_of files false) before number line)
+    → Replied tells files (λ P. T → LeavesOnly clock might desk desk P) said number line before a a IsGiven
+Replied-quiet clock might T tells files desk may_leave said number line before a IsGiven only_now stands gives = record {
+  fetches = fetches_of files false;
+  answers = record { told = λ t. (false, refl); cause = λ name e. cc };
+  gives = gives;
+  leaves = λ t. leaves-none clock might desk may_leave said before.state (step_to (fetches_of files false) before number line).model.state (only_now t) (stands t);
+}
+
+-- a turn is taken
+pub Replied-turn : (tells : Bool) (files : Files) (Leaves : (Images → List ℕ → Type 0) → Type 0) (said : List ℕ) (number : ℕ) (line : List ℕ)
+    (before : Model) (a b : ℕ) (event : Event) (IsTurn : Turn → Type 0) (IsGiven : Step → Type 0)
+    → ((fetches : Fetches) → step_to fetches before number line ≡ spoken (turn_of fetches before event))
+    → ((turn : Turn) → IsTurn turn → IsGiven (spoken turn))
+    → Turned (AreFetched tells files a b) Leaves said event before IsTurn
+    → Replied tells files Leaves said number line before a b IsGiven
+Replied-turn tells files Leaves said number line before a b event IsTurn IsGiven is gives x = record {
+  fetches = x.fetches;
+  answers = x.answers;
+  gives = subst IsGiven (sym (is x.fetches)) (gives (turn_of x.fetches before event) x.gives);
+  leaves = subst (λ (s : Step). Leaves (StandsForEither said before.state s.model.state)) (sym (is x.fetches)) x.leaves;
+}
+
+pub gives-spoken : (reply : Reply) (before now : Model) (turn : Turn) → GivesTurn (Ok reply) before now turn → GivesStep (Ok (Some reply)) now (spoken turn)
+gives-spoken reply before now turn h = (ap Some h.0, h.1)

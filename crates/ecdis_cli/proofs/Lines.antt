@@ -1,10 +1,10 @@
 -- Lines of a script, and their steps.
-use Rattle.std.proofs.Common.{◌≡◌, ℕ, zero, suc, ◌+◌, ◌-◌, ◌<◌, ◌≤◌, ◌⊎◌, Bool, true, false, cond, List, [], ◌∷◌, ◌++◌, length, take, drop, get_or, eqb, refl, sym, ◌∙◌, ap, subst, arith, inl, inr, append_assoc, length-append, length-take-le}
+use Rattle.std.proofs.Common.{◌≡◌, ℕ, zero, suc, ◌+◌, ◌-◌, ◌<◌, ◌≤◌, ◌⊎◌, Bool, true, false, cond, List, [], ◌∷◌, ◌++◌, length, take, drop, get_or, eqb, leb, refl, sym, ◌∙◌, ap, subst, arith, inl, inr, append_assoc, length-append, length-take-le}
 use Rattle.std.specs.Prelude.{Option, Result}
 use Rattle.std.specs.List.{slice_split}
 use Rattle.std.specs.Str.Lines.{lines, lines_of_parts, strip_carriage_return}
 use Rattle.std.proofs.lemmas.Bool.Decides.{nat_tests}
-use Rattle.std.proofs.lemmas.List.{append-nil, take-append-drop, take-append-le, take-take}
+use Rattle.std.proofs.lemmas.List.{append-nil, take-append-drop, take-append-le, take-take, take_all}
 use Rattle.std.proofs.lemmas.List.Elements.{All-nil, All-cons, All-head, All-tail, All-append}
 use Rattle.std.proofs.lemmas.List.Splits.{slice_split_at, slice_split_none, length-slice_split}
 use Rattle.script_reader.specs.Reading.{event_in}
@@ -107,6 +107,10 @@ pub step-front : ReadByFront → (fetches : Fetches) (model : Model) (number : �
 unfolding step_to
 step-front law fetches model number line h =
     ap (step_by fetches model number) (sym (event-front law number line h))
+
+-- bytes that are looked at whole
+pub take_short : (n : ℕ) (bytes : List ℕ) → length bytes ≤ n → bytes ≡ take n bytes
+take_short n bytes h = sym (take_all n bytes h)
 
 pub length-strip : (line : List ℕ) → length line ≤ length (strip_carriage_return line) + 1
 length-strip line =
@@ -221,3 +225,20 @@ pub steps-ended_none : (model : Model) (number : ℕ) (bytes : List ℕ) (answer
     → steps_from model number (lines (ended bytes)) answers ≡ []
 steps-ended_none model number bytes answers h =
     ap (λ (l : List ℕ). steps_from model number (lines l) answers) (ended-unbroken bytes h)
+
+-- ---- what a line asks for
+
+-- any line is read by its front
+pub event-looked_at : ReadByFront → (number : ℕ) (line front : List ℕ) → front ≡ take 1025 line → event_in number front ≡ event_in number line
+event-looked_at law number line front e =
+    ap (event_in number) e ∙ elim (leb (length line) 1025) as (λ v. leb (length line) 1025 ≡ v → event_in number (take 1025 line) ≡ event_in number line) [
+      | true ↦ λ t. let short : length line ≤ 1025 = grind (arith, nat_tests) in ap (event_in number) (take_all 1025 line short)
+      | false ↦ λ t. let long : 1024 < length line = grind (arith, nat_tests) in event-front law number line long
+    ] refl
+
+-- so its step is that of what it asks for
+pub step-asked : ReadByFront → (fetches : Fetches) (model : Model) (number : ℕ) (line front : List ℕ) (asked : Result (Option Event) LineFault)
+    → front ≡ take 1025 line → asked ≡ event_in number front → step_to fetches model number line ≡ step_by fetches model number asked
+unfolding step_to
+step-asked law fetches model number line front asked e is =
+    ap (step_by fetches model number) (sym (is ∙ event-looked_at law number line front e))

@@ -29,7 +29,11 @@ const LOOKED_AT: usize = 1025;
 fn front_of(line: &[u8]) -> &[u8]
     ensures { result.now ≡ take 1025 line.now }
 {
-    &line[..line.len().min(LOOKED_AT)]
+    if line.len() > LOOKED_AT {
+        &line[..LOOKED_AT]
+    } else {
+        line
+    }
 }
 
 /// Says the reply.
@@ -76,7 +80,7 @@ fn reply_to<L: Shelf, D: Desk, C: Ledger>(
     match read_line(alloc, front_of(line), number) {
         Ok(None) => Ok(None),
         Ok(Some(event)) => Ok(Some(session.turn(alloc, event, shelf, desk, steps)?)),
-        Err(LineFault::BadLine(number)) => Ok(Some(Refusal::BadLine(number).reply(alloc)?)),
+        Err(LineFault::BadLine(_)) => Ok(Some(Refusal::BadLine(number).reply(alloc)?)),
         Err(LineFault::NoMemory) => Err(Stop::NoMemory),
     }
 }
