@@ -13,6 +13,8 @@ mod info;
 mod laws;
 mod refusal;
 mod session;
+#[cfg(test)]
+mod tests;
 mod values;
 
 pub use fault::TurnFault;

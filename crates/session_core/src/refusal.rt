@@ -69,7 +69,14 @@ fn join_named(alloc: Global, name: Name, first: u64, second: u64) -> Result<Octe
     ensures { IfOk result (λ values. values
         ≡ join_with_byte 32 (numbers (name.rcnm ∷ name.rcid ∷ first ∷ second ∷ []))) }
 {
-    join(alloc, &[Value::Name(name), Value::Number(first), Value::Number(second)])
+    join(
+        alloc,
+        &[
+            Value::Name(name),
+            Value::Number(first),
+            Value::Number(second),
+        ],
+    )
 }
 
 /// What the refusal of a store names, parted by single spaces.
@@ -95,7 +102,10 @@ fn store_values(alloc: Global, refusal: &StoreRefusal) -> Result<Octets, AllocEr
             join(alloc, &[Value::Text(key.as_slice())])
         }
         StoreRefusal::NoUpdate { key, update } => {
-            join(alloc, &[Value::Text(key.as_slice()), Value::Number(*update as u64)])
+            join(
+                alloc,
+                &[Value::Text(key.as_slice()), Value::Number(*update as u64)],
+            )
         }
         StoreRefusal::StaleBase {
             held_edition,
@@ -112,10 +122,16 @@ fn store_values(alloc: Global, refusal: &StoreRefusal) -> Result<Octets, AllocEr
             ],
         ),
         StoreRefusal::Edition { held, given } => {
-            join(alloc, &[Value::Number(*held as u64), Value::Number(*given as u64)])
+            join(
+                alloc,
+                &[Value::Number(*held as u64), Value::Number(*given as u64)],
+            )
         }
         StoreRefusal::Gap { wanted, given } => {
-            join(alloc, &[Value::Number(*wanted), Value::Number(*given as u64)])
+            join(
+                alloc,
+                &[Value::Number(*wanted), Value::Number(*given as u64)],
+            )
         }
         StoreRefusal::Present { name }
         | StoreRefusal::Absent { name }
@@ -131,7 +147,10 @@ fn store_values(alloc: Global, refusal: &StoreRefusal) -> Result<Octets, AllocEr
             *given as u64,
         ),
         StoreRefusal::Foid { name, kept, given } => {
-            join(alloc, &[Value::Name(*name), Value::Foid(*kept), Value::Foid(*given)])
+            join(
+                alloc,
+                &[Value::Name(*name), Value::Foid(*kept), Value::Foid(*given)],
+            )
         }
         StoreRefusal::Index {
             name,

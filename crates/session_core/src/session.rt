@@ -116,7 +116,12 @@ impl Session {
         match event {
             Event::Info(name) => {
                 let general = inform(alloc, name, shelf, steps)?;
-                Ok(Reply::Info(general.key, general.edition, general.update, general.records as u64))
+                Ok(Reply::Info(
+                    general.key,
+                    general.edition,
+                    general.update,
+                    general.records as u64,
+                ))
             }
             Event::Load(name) => {
                 let file = fetch(alloc, name, shelf)?;
