@@ -2,13 +2,15 @@
 use Rattle.std.proofs.Common.{◌≡◌, ℕ, ◌+◌, ◌*◌, ◌^◌, ◌<◌, ◌≤◌, Bool, true, false, cond, ltb, leb, eqb, ◌&&◌, ◌⊎◌, List, [], ◌∷◌, ◌++◌, length, Option, Some, None, refl, sym, ap, subst, ◌∙◌, inl, inr, arith, append_assoc, append-nil, lit<, length-append}
 use Rattle.std.specs.Prelude.{option_map, option_and_then, ℤ, IfSome}
 use Rattle.std.specs.Str.{all_ascii_digits}
+use Rattle.std.specs.List.{prefix_len, take_while}
 use Rattle.std.specs.Char.{is_ascii_digit}
+use Rattle.std.proofs.lemmas.List.{take-append-drop}
 use Rattle.std.proofs.lemmas.Bool.{ltb-true, lt-ltb, leb-true, le-leb, eqb-true, and_parts, and_from, cases_Bool, true≢false, false_from_ne_true}
 use native.Mathlib.Nat.{one-le-pow}
 use Rattle.text_scan.specs.Number.{value_of}
-use Rattle.text_scan.specs.Depth.{SpellsSign, with_sign, IsFloor, SpellsDepth, digits_and_rest, decimals_of, digits_of, hundredths, depth_of}
+use Rattle.text_scan.specs.Depth.{SpellsSign, with_sign, IsFloor, SpellsDepth, behind_digits, decimals_of, digits_of, hundredths, depth_of}
 use Rattle.text_scan.proofs.Floors.{floor_unique, floor_down, floor_up}
-use Rattle.text_scan.proofs.Scans.{chosen, AllDigits-from_test, test_from_AllDigits, digits_and_rest_parts, digits_and_rest-whole, digits_and_rest-before}
+use Rattle.text_scan.proofs.Scans.{chosen, AllDigits-from_test, test_from_AllDigits, front_is_digits, cut_before}
 use Rattle.text_scan.proofs.Numbers.{some_is, map_some}
 
 -- the digits of a text before and behind its point
@@ -49,10 +51,10 @@ in_range whole decimals = leb (length whole) 6 && (leb (length decimals) 20 && l
 pub digits_of_found : (text : List ℕ) (digits : List ℕ × List ℕ) → digits_of text ≡ Some digits → HasDigits text digits.0 digits.1
 unfolding digits_of
 digits_of_found text digits e =
-    let whole = (digits_and_rest text).0 in
-    let a = and_then_some _ (decimals_of (digits_and_rest text).1) digits e in
-    let front = digits_and_rest_parts text in
-    let d = decimals_of_found (digits_and_rest text).1 a.0 a.1 in
+    let whole = take_while is_ascii_digit text in
+    let a = and_then_some _ (decimals_of (behind_digits text)) digits e in
+    let front = sym (take-append-drop (prefix_len is_ascii_digit text) text) in
+    let d = decimals_of_found (behind_digits text) a.0 a.1 in
     elim (chosen (in_range whole a.0) (Some (whole, a.0)) None (Some digits) a.2) [
       | inl h ↦
           let p = and_parts (leb (length whole) 6) (leb (length a.0) 20 && ltb 0 (length whole + length a.0)) h.0 in
@@ -60,12 +62,12 @@ digits_of_found text digits e =
           let some : 0 < length whole + length a.0 = ltb-true _ _ q.1 in
           let P : List ℕ × List ℕ → Type 0 = λ r. HasDigits text r.0 r.1 in
           subst P (some_is (whole, a.0) digits h.1) (record {
-            all_whole = front.1;
+            all_whole = front_is_digits text;
             short_whole = leb-true _ _ p.0;
             all_decimals = d.0;
             short_decimals = leb-true _ _ q.0;
             some_digit = omega arith;
-            parts = parts_of text whole (digits_and_rest text).1 a.0 front.0 d.1;
+            parts = parts_of text whole (behind_digits text) a.0 front d.1;
           })
       | inr h ↦ absurd (let none = h.1 in cc)
     ]
@@ -74,18 +76,28 @@ in_range_again : (text whole decimals : List ℕ) → HasDigits text whole decim
 in_range_again text whole decimals h =
     and_from _ _ (le-leb _ _ h.short_whole) (and_from _ _ (le-leb _ _ h.short_decimals) (lt-ltb _ _ (omega (arith, h.some_digit))))
 
-digits_of-cut : (text whole rest decimals : List ℕ) → digits_and_rest text ≡ (whole, rest) → decimals_of rest ≡ Some decimals → in_range whole decimals ≡ true → digits_of text ≡ Some (whole, decimals)
+digits_of-parts : (text whole rest decimals : List ℕ) → take_while is_ascii_digit text ≡ whole → behind_digits text ≡ rest
+    → decimals_of rest ≡ Some decimals → in_range whole decimals ≡ true → digits_of text ≡ Some (whole, decimals)
 unfolding digits_of
-digits_of-cut text whole rest decimals cut read fits = rw (cut, read, fits) refl
+digits_of-parts text whole rest decimals front behind read fits = rw (front, behind, read, fits) refl
+
+digits_of-cut : (text whole rest decimals : List ℕ) → text ≡ whole ++ rest → all_ascii_digits whole ≡ true
+    → prefix_len is_ascii_digit rest ≡ 0 → decimals_of rest ≡ Some decimals → in_range whole decimals ≡ true
+    → digits_of text ≡ Some (whole, decimals)
+digits_of-cut text whole rest decimals is all none read fits =
+    let cut = cut_before whole rest all none in
+    ap digits_of is ∙ digits_of-parts (whole ++ rest) whole rest decimals cut.0 cut.1 read fits
 
 pub digits_of_again : (text whole decimals : List ℕ) → HasDigits text whole decimals → digits_of text ≡ Some (whole, decimals)
 unfolding decimals_of
 digits_of_again text whole decimals h =
     elim h.parts [
       | inl p ↦
-          digits_of-cut text whole [] decimals (ap digits_and_rest p.0 ∙ digits_and_rest-whole whole h.all_whole) (ap (λ (t : List ℕ). Some t) (sym p.1)) (in_range_again text whole decimals h)
+          digits_of-cut text whole [] decimals (p.0 ∙ sym (append-nil whole)) h.all_whole refl
+          (ap (λ (t : List ℕ). Some t) (sym p.1)) (in_range_again text whole decimals h)
       | inr p ↦
-          digits_of-cut text whole (46 ∷ decimals) decimals (ap digits_and_rest p ∙ digits_and_rest-before whole 46 decimals h.all_whole refl) (rw h.all_decimals refl) (in_range_again text whole decimals h)
+          digits_of-cut text whole (46 ∷ decimals) decimals p h.all_whole refl (rw h.all_decimals refl)
+          (in_range_again text whole decimals h)
     ]
 
 -- ---- the whole text

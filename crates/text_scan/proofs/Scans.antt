@@ -1,15 +1,15 @@
 -- Texts scanned digit by digit.
 use Rattle.std.proofs.Common.{◌≡◌, ℕ, zero, suc, ◌+◌, ◌-◌, ◌*◌, ◌^◌, ◌<◌, ◌≤◌, Bool, true, false, cond, not, ltb, ◌⊎◌, lit<, List, [], ◌∷◌, ◌++◌, length, get_or, take, drop, position, Some, None, refl, sym, ap, ◌∙◌, inl, inr, arith, add-one}
-use Rattle.std.specs.List.{position_or_len}
+use Rattle.std.specs.List.{prefix_len, take_while}
 use Rattle.std.specs.Char.{is_ascii_digit, digit_value}
 use Rattle.std.specs.Str.{all_ascii_digits}
 use Rattle.std.specs.Str.Parse.{AllDigits, digits_value, digits_value_after}
 use Rattle.std.proofs.lemmas.Bool.{ltb-false, leb-true, le-leb, le-ltb, lt-ltb, and_parts, and_from, cases_Bool, not-true, not-false, false_from_ne_true, true≢false}
-use Rattle.std.proofs.lemmas.List.Quantifiers.{position-Some}
-use Rattle.std.proofs.lemmas.List.Sums.{fails_before_first}
+use Rattle.std.proofs.lemmas.List.{take_all, drop_all, take-append-le, drop-append-le}
+use Rattle.std.proofs.lemmas.List.Sums.{take_while-cons}
 use Rattle.std.proofs.lemmas.Str.Parse.{IsNumeralModel, numerals_by_value, tells_all_ascii_digits, digits_value_short, digit_from_value}
 use native.Mathlib.Nat.{pow-suc, pow-le-pow_right}
-use Rattle.text_scan.specs.Depth.{digits_and_rest}
+use Rattle.text_scan.specs.Depth.{behind_digits}
 
 -- the branch that a choice took
 pub chosen : {A : Type 0} (b : Bool) (x y z : A) → cond b x y ≡ z → ((b ≡ true) × (x ≡ z)) ⊎ ((b ≡ false) × (y ≡ z))
@@ -88,58 +88,34 @@ value_after-append n (x ∷ xs) ys = value_after-append (n * 10 + digit_value x)
 
 -- ---- the digits in front
 
-digits_and_rest-index : (text : List ℕ) (at : ℕ) → at ≤ length text → ((k : ℕ) → k < at → is_ascii_digit (get_or text k 0) ≡ true) → (at < length text → is_ascii_digit (get_or text at 0) ≡ false) → digits_and_rest text ≡ (take at text, drop at text)
-unfolding digits_and_rest
-digits_and_rest-index [] zero le before here = refl
-digits_and_rest-index [] (suc at) le before here = absurd (omega arith)
-digits_and_rest-index (x ∷ xs) zero le before here = let first : is_ascii_digit x ≡ false = here (omega arith) in rw first refl
-digits_and_rest-index (x ∷ xs) (suc at) le before here =
-    let first : is_ascii_digit x ≡ true = before 0 (omega arith) in
-    rw (first, digits_and_rest-index xs at (omega arith) (λ k h. before (suc k) (omega arith)) (λ h. here (omega arith))) refl
+pub front_is_digits : (text : List ℕ) → all_ascii_digits (take_while is_ascii_digit text) ≡ true
+front_is_digits [] = refl
+front_is_digits (x ∷ xs) = ap all_ascii_digits (take_while-cons is_ascii_digit x xs) ∙ by (is_ascii_digit x) refl
+  where
+    by : (b : Bool) → is_ascii_digit x ≡ b → all_ascii_digits (cond b (x ∷ take_while is_ascii_digit xs) []) ≡ true
+    by true digit = and_from _ _ digit (front_is_digits xs)
+    by false other = refl
 
--- no element passes where the search found none
-fails_everywhere : (p : ℕ → Bool) (xs : List ℕ) → position p xs ≡ None → (k : ℕ) → k < length xs → p (get_or xs k 0) ≡ false
-fails_everywhere p xs e k lt =
-    elim (chosen (ltb (position_or_len p xs) (length xs)) (Some (position_or_len p xs)) None None e) [
-      | inl h ↦ absurd (let found = h.1 in cc)
-      | inr h ↦ let past : length xs ≤ position_or_len p xs = ltb-false _ _ h.0 in fails_before_first p xs k 0 (omega arith)
-    ]
-
-pub digits_and_rest-found : (text : List ℕ) (at : ℕ) → position (λ b. not (is_ascii_digit b)) text ≡ Some at → digits_and_rest text ≡ (take at text, drop at text)
-digits_and_rest-found text at e =
-    let found = position-Some (λ b. not (is_ascii_digit b)) text at 0 e in
-    digits_and_rest-index text at (omega (arith, found.0)) (λ k h. not-false _ (found.2 k h)) (λ _. not-true _ found.1)
-
-pub digits_and_rest-missed : (text : List ℕ) → position (λ b. not (is_ascii_digit b)) text ≡ None → digits_and_rest text ≡ (take (length text) text, drop (length text) text)
-digits_and_rest-missed text e =
-    digits_and_rest-index text (length text) (omega arith) (λ k h. not-false _ (fails_everywhere (λ b. not (is_ascii_digit b)) text e k h)) (λ h. absurd (omega arith))
-
-pub digits_and_rest_parts : (text : List ℕ) → (text ≡ (digits_and_rest text).0 ++ (digits_and_rest text).1) × (all_ascii_digits (digits_and_rest text).0 ≡ true)
-unfolding digits_and_rest
-digits_and_rest_parts [] = (refl, refl)
-digits_and_rest_parts (x ∷ xs) =
-    let rest = digits_and_rest_parts xs in
-    elim (cases_Bool (is_ascii_digit x)) [
-      | inl h ↦ rw h (ap (λ (t : List ℕ). x ∷ t) rest.0, and_from _ _ h rest.1)
-      | inr h ↦ rw h (refl, refl)
-    ]
-
-pub digits_in_front : (text : List ℕ) (at : ℕ) → digits_and_rest text ≡ (take at text, drop at text) → all_ascii_digits (take at text) ≡ true
-digits_in_front text at e = ap (λ (p : List ℕ × List ℕ). all_ascii_digits p.0) (sym e) ∙ (digits_and_rest_parts text).1
-
-pub digits_and_rest-whole : (digits : List ℕ) → all_ascii_digits digits ≡ true → digits_and_rest digits ≡ (digits, [])
-unfolding digits_and_rest
-digits_and_rest-whole [] all = refl
-digits_and_rest-whole (d ∷ ds) all =
+-- digits and what begins with no digit
+count_before : (digits rest : List ℕ) → all_ascii_digits digits ≡ true → prefix_len is_ascii_digit rest ≡ 0
+    → prefix_len is_ascii_digit (digits ++ rest) ≡ length digits
+count_before [] rest all none = none
+count_before (d ∷ ds) rest all none =
     let p = and_parts (is_ascii_digit d) (all_ascii_digits ds) all in
-    rw (p.0, digits_and_rest-whole ds p.1) refl
+    let more = count_before ds rest p.1 none in
+    ap (λ b. cond b (1 + prefix_len is_ascii_digit (ds ++ rest)) 0) p.0 ∙ omega (arith, more)
 
-pub digits_and_rest-before : (digits : List ℕ) (x : ℕ) (xs : List ℕ) → all_ascii_digits digits ≡ true → is_ascii_digit x ≡ false → digits_and_rest (digits ++ x ∷ xs) ≡ (digits, x ∷ xs)
-unfolding digits_and_rest
-digits_and_rest-before [] x xs all other = rw other refl
-digits_and_rest-before (d ∷ ds) x xs all other =
-    let p = and_parts (is_ascii_digit d) (all_ascii_digits ds) all in
-    rw (p.0, digits_and_rest-before ds x xs p.1 other) refl
+pub cut_before : (digits rest : List ℕ) → all_ascii_digits digits ≡ true → prefix_len is_ascii_digit rest ≡ 0
+    → (take_while is_ascii_digit (digits ++ rest) ≡ digits) × (behind_digits (digits ++ rest) ≡ rest)
+cut_before digits rest all none =
+    let count = count_before digits rest all none in (
+      ap (λ n. take n (digits ++ rest)) count
+      ∙ take-append-le (length digits) digits rest (omega arith)
+      ∙ take_all (length digits) digits (omega arith),
+      ap (λ n. drop n (digits ++ rest)) count
+      ∙ drop-append-le (length digits) digits rest (omega arith)
+      ∙ ap (λ (front : List ℕ). front ++ rest) (drop_all (length digits) digits (omega arith)),
+    )
 
 -- the byte of a digit's value
 pub digit_of : (x : ℕ) → digit_value x < 10 → (digit_value x ≡ x - 48) × (48 ≤ x) × (x ≤ 57)
