@@ -88,13 +88,16 @@ value_after-append n (x ∷ xs) ys = value_after-append (n * 10 + digit_value x)
 
 -- ---- the digits in front
 
+digits_if : (b : Bool) (x : ℕ) (xs : List ℕ) → is_ascii_digit x ≡ b → all_ascii_digits xs ≡ true
+    → all_ascii_digits (cond b (x ∷ xs) []) ≡ true
+digits_if true x xs digit rest = and_from _ _ digit rest
+digits_if false x xs other rest = refl
+
 pub front_is_digits : (text : List ℕ) → all_ascii_digits (take_while is_ascii_digit text) ≡ true
 front_is_digits [] = refl
-front_is_digits (x ∷ xs) = ap all_ascii_digits (take_while-cons is_ascii_digit x xs) ∙ by (is_ascii_digit x) refl
-  where
-    by : (b : Bool) → is_ascii_digit x ≡ b → all_ascii_digits (cond b (x ∷ take_while is_ascii_digit xs) []) ≡ true
-    by true digit = and_from _ _ digit (front_is_digits xs)
-    by false other = refl
+front_is_digits (x ∷ xs) =
+    ap all_ascii_digits (take_while-cons is_ascii_digit x xs)
+    ∙ digits_if (is_ascii_digit x) x (take_while is_ascii_digit xs) refl (front_is_digits xs)
 
 -- digits and what begins with no digit
 count_before : (digits rest : List ℕ) → all_ascii_digits digits ≡ true → prefix_len is_ascii_digit rest ≡ 0
