@@ -1,7 +1,6 @@
-use Rattle.std.proofs.Common.{◌≡◌, take, ap, ◌∙◌, rules, tests}
+use Rattle.std.proofs.Common.{take, ap, ◌∙◌, rules, tests}
 use Rattle.std.specs.Char.{is_ascii_digit}
 use Rattle.std.specs.Str.{all_ascii_digits}
-use Rattle.std.specs.List.{prefix_len}
 use Rattle.std.proofs.lemmas.Iterator.{YieldsList-from_slice}
 use Rattle.std.proofs.lemmas.Iterator.Consumers.{count_from_yields_List}
 use Rattle.std.proofs.lemmas.Iterator.Search.{YieldsList-from_take_while}
