@@ -1,5 +1,6 @@
 -- Records that changes name, where no record is deleted: each has got another.
-use Rattle.std.proofs.Common.{◌≡◌, ◌⊎◌, inl, inr, ℕ, zero, suc, ◌+◌, ◌<◌, ◌≤◌, Bool, true, false, not, if◌then◌else◌, List, [], ◌∷◌}
+use Rattle.std.proofs.Common.{◌≡◌, inl, inr, ℕ, zero, suc, ◌+◌, ◌<◌, ◌≤◌, Bool, true, false, not, if◌then◌else◌, List}
+use Rattle.std.proofs.Common.{[], ◌∷◌}
 use Rattle.std.proofs.Common.{Option, Some, None, Ok, refl, sym, ap, ◌∙◌, subst, arith}
 use Rattle.std.specs.Prelude.{map}
 use Rattle.std.specs.Option.{option_map}
@@ -19,7 +20,8 @@ use Rattle.chart_model.specs.Names.{name_cmp, edited_at}
 use Rattle.update_apply.specs.declared.judge.Kept.{Kept}
 use Rattle.update_apply.specs.declared.fault.ChangeFault.{ChangeFault}
 use Rattle.update_apply.specs.declared.fault.ChangeFault.TheVariants as fault
-use Rattle.update_apply.specs.Changed.{changed, changed_in, inserted_vector, inserted_feature, modified_vector, modified_feature}
+use Rattle.update_apply.specs.Changed.{changed, changed_in, inserted_vector, inserted_feature, modified_vector}
+use Rattle.update_apply.specs.Changed.{modified_feature}
 use Rattle.update_apply.specs.Fault.{is_feature, inserts, deletes, kept_vector, kept_feature, fault_by, fault_of}
 use Rattle.update_sequence.specs.declared.fault.BuildFault.TheVariants as of_build
 use Rattle.update_sequence.specs.Built.{begun, folded, built}
@@ -50,7 +52,8 @@ age cell name = age_by (is_feature name) cell name
 
 -- ---- a change of one record
 
-quiet-first : (b : Bool) (fault : ChangeFault) (more : List (Option ChangeFault)) → first_of (when b fault ∷ more) ≡ None →
+quiet-first : (b : Bool) (fault : ChangeFault) (more : List (Option ChangeFault))
+    → first_of (when b fault ∷ more) ≡ None →
     b ≡ false
 quiet-first true fault more e = absurd cc
 quiet-first false fault more e = refl
@@ -120,6 +123,7 @@ ages-one cell change name stays none = by (eq_by_cmp name_cmp name change.target
     older same =
         subst (λ (n : Name). age cell n < age (changed cell change) n) same
         (older-by (is_feature change.target) cell change stays none)
+
     by : (b : Bool) → eq_by_cmp name_cmp name change.target ≡ b → Ages cell (changed cell change) change name
     by true same = (omega (arith, older (sym (same_name name change.target same))), older)
     by false apart =
@@ -164,7 +168,8 @@ others-by : (b : Bool) (before after : CellValue) (name : Name) → age_by b bef
 others-by true before after name less = inr (λ same. omega (arith, less, ap feature_age same))
 others-by false before after name less = inl (λ same. omega (arith, less, ap vector_age same))
 
-pub named-differ : (chart after : CellValue) (dataset : DatasetValue) (name : Name) → built (Some chart) dataset ≡ Ok after →
+pub named-differ : (chart after : CellValue) (dataset : DatasetValue) (name : Name)
+    → built (Some chart) dataset ≡ Ok after →
     delete_none dataset.changes ≡ true → Contains (targets dataset.changes) name → HasOther chart after name
 named-differ chart after dataset name made stay there =
     others-by (is_feature name) chart after name
