@@ -1,5 +1,6 @@
 -- Names in order, each once, and those of them that pass a test.
 use Rattle.std.proofs.Common.{◌≡◌, ◌≢◌, ◌⊎◌, inl, inr, ⊎_elim, zero, suc, arith, Bool, true, false, cond, List, [], ◌∷◌, ◌++◌, Option, Some, None, Result, Ok, Err, IfOk, refl, sym, ap, subst, ◌∙◌, rules}
+use Rattle.std.specs.Prelude.{◌↔◌}
 use Rattle.std.specs.Option.{is_some}
 use Rattle.std.specs.FinMap as map
 use Rattle.std.specs.List.{Contains, filter}
@@ -11,8 +12,8 @@ use Rattle.std.specs.Cmp.Rules.{comparing}
 use Rattle.std.proofs.lemmas.List.Elements.{All-contains, filter_passes, Contains-append_left, Contains-append_right, Contains-append_cases}
 use Rattle.std.proofs.lemmas.List.Folds.{Any-from_list_any}
 use Rattle.std.proofs.lemmas.List.Filters.{dedup_is}
-use Rattle.std.proofs.lemmas.List.Kept.{Contains-dedup, IsStrictlySortedBy-dedup, IsStrictlySortedBy-filter}
-use Rattle.std.proofs.lemmas.List.Sorted.{Contains-permutation}
+use Rattle.std.proofs.lemmas.List.Kept.{Contains-dedup, Contains-from_dedup, IsStrictlySortedBy-dedup, IsStrictlySortedBy-filter}
+use Rattle.std.proofs.lemmas.List.Sorted.{Contains-permutation, IsPermutation-sym}
 use Rattle.chart_model.specs.Cell.{CellValue}
 use Rattle.chart_model.specs.Names.{name_cmp}
 use Rattle.chart_model.specs.declared.name.Name.{Name}
@@ -80,24 +81,37 @@ all-names old new name apart =
     (λ f. ⊎_elim (λ s. in-old (some-feature old name s)) (λ s. in-new (some-feature new name s)) (one-of (feature_in old name) (feature_in new name) f))
     apart
 
--- the names, in order and each once, as far as their records differ
-pub changed-among : (old new : Option CellValue) (given sorted once : List Name) → HasAll old new given
-    → IsPermutation given sorted → IsSorted name_cmp sorted → IsFiltered (DiffersFromLast same_name) [] sorted once
+-- names in order, of which those that stand twice are left out
+pub sorted-once : (sorted once : List Name) → IsSorted name_cmp sorted
+    → IsFiltered (DiffersFromLast same_name) [] sorted once → IsStrictlySortedBy name_cmp once
+sorted-once sorted once rising filtered =
+    subst (IsStrictlySortedBy name_cmp) (sym (dedup_is same_name sorted once filtered))
+    (IsStrictlySortedBy-dedup name_cmp-total ties sorted rising)
+
+pub same-once : (given sorted once : List Name) → IsPermutation given sorted
+    → IsFiltered (DiffersFromLast same_name) [] sorted once → (name : Name) → Contains once name ↔ Contains given name
+same-once given sorted once moved filtered name =
+    let is = dedup_is same_name sorted once filtered in (
+      λ there. Contains-permutation sorted given name (IsPermutation-sym given sorted moved)
+          (Contains-from_dedup same_name sorted name (subst (λ (l : List Name). Contains l name) is there)),
+      λ there. subst (λ (l : List Name). Contains l name) (sym is)
+          (Contains-dedup same_name-IsEquivalence (λ x y. (names x y).0) sorted name
+          (Contains-permutation given sorted name moved there)),
+    )
+
+-- of names in order, each once, those whose records differ
+pub changed-among : (old new : Option CellValue) (given once : List Name) → HasAll old new given
+    → IsStrictlySortedBy name_cmp once → ((name : Name) → Contains once name ↔ Contains given name)
     → AreChanged old new (filter (differ old new) once)
-changed-among old new given sorted once all moved rising filtered =
-    let is = dedup_is same_name sorted once filtered in
-    record {
-      rising = IsStrictlySortedBy-filter name_cmp (differ old new) once
-          (subst (IsStrictlySortedBy name_cmp) (sym is) (IsStrictlySortedBy-dedup name_cmp-total ties sorted rising));
-      exact = λ name. (
-        λ there. (differs old new name).0 (All-contains (λ x. differ old new x ≡ true) (filter (differ old new) once) name (filter_passes (differ old new) once) there),
-        λ differ. Contains-filter _ once name
-            (subst (λ (l : List Name). Contains l name) (sym is)
-            (Contains-dedup same_name-IsEquivalence (λ x y. (names x y).0) sorted name
-            (Contains-permutation given sorted name moved (all name differ))))
-            ((differs old new name).1 differ),
-      );
-    }
+changed-among old new given once all rising same = record {
+  rising = IsStrictlySortedBy-filter name_cmp (differ old new) once rising;
+  exact = λ name. (
+    λ there. (differs old new name).0
+        (All-contains (λ x. differ old new x ≡ true) (filter (differ old new) once) name
+        (filter_passes (differ old new) once) there),
+    λ differ. Contains-filter _ once name ((same name).1 (all name differ)) ((differs old new name).1 differ),
+  );
+}
 
 pub kept-are : {X E : Type 0} (P : X → Type 0) {x : X} (r : Result X E) → IfOk r (λ kept. kept ≡ x) → P x → IfOk r P
 kept-are P (Ok y) is holds = subst P (sym is) holds

@@ -1,9 +1,12 @@
 //! The names whose records differ.
 
-ghost use Rattle.std.specs.Prelude.{◌≡◌, ◌≢◌, ◌++◌, None, IfOk, OnOk};
+ghost use Rattle.std.specs.Prelude.{◌≡◌, ◌≢◌, ◌↔◌, ◌++◌, None, IfOk, OnOk, Contains};
 ghost use Rattle.std.specs.List.{filter};
+ghost use Rattle.std.specs.List.Sorted.{IsStrictlySortedBy};
 ghost use Rattle.std.specs.Option.{option_copied};
 ghost use Rattle.std.specs.FinMap as map;
+ghost use Rattle.chart_model.specs.Names.{name_cmp};
+ghost use Rattle.chart_model.specs.declared.name.Name.{Name};
 ghost use Rattle.chart_difference.specs.Same.{differ};
 ghost use Rattle.chart_difference.specs.Difference.{AreChanged, HasAll, vector_in, feature_in, names_in};
 
@@ -65,6 +68,17 @@ fn keep_changed(
     Ok(kept)
 }
 
+/// These names in order, each once. It takes no memory.
+pub fn in_order_once(names: Vec<Name>) -> NameList
+    ensures rising { IsStrictlySortedBy name_cmp result }
+    ensures same { (name : Name) → Contains result name ↔ Contains names.items name }
+{
+    let mut names = names;
+    names.sort_unstable();
+    names.dedup();
+    NameList::from_vec(names)
+}
+
 /// Of names that have all those whose records differ, these, in order and each once.
 pub fn changed_among(
     alloc: Global,
@@ -75,10 +89,7 @@ pub fn changed_among(
     requires { HasAll (option_copied old) (option_copied new) names.items }
     ensures { IfOk result (AreChanged (option_copied old.entry) (option_copied new.entry)) }
 {
-    let mut names = names;
-    names.sort_unstable();
-    names.dedup();
-    keep_changed(alloc, old, new, names)
+    keep_changed(alloc, old, new, in_order_once(names).into_vec())
 }
 
 /// Adds the names of records.

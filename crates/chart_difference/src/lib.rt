@@ -6,4 +6,4 @@
 mod difference;
 mod same;
 
-pub use difference::{changed_among, changed_names};
+pub use difference::{changed_among, changed_names, in_order_once};

@@ -1,12 +1,14 @@
 -- The names whose records an update changes.
-use Rattle.std.proofs.Common.{◌≡◌, ◌⊎◌, inl, inr, List, Option, Some, Result, Ok, Err, sym, ◌∙◌, ap, subst}
-use Rattle.std.specs.Prelude.{Contains, map}
+use Rattle.std.proofs.Common.{◌≡◌, ◌⊎◌, inl, inr, true, List, Option, Some, Result, Ok, Err, sym, ◌∙◌, ap, subst}
+use Rattle.std.specs.Prelude.{◌↔◌, Contains, map}
+use Rattle.std.specs.List.Sorted.{IsStrictlySortedBy}
 use Rattle.chart_model.specs.Answers.{◌>>=◌}
-use Rattle.update_sequence.specs.Others.{HasSame}
-use Rattle.chart_difference.specs.Difference.{Differ, HasAll}
+use Rattle.update_sequence.specs.Others.{HasSame, HasOther, delete_none}
+use Rattle.chart_difference.specs.Difference.{AreChanged, Differ, HasAll}
 use Rattle.chart_model.specs.Cell.{CellValue}
 use Rattle.chart_model.specs.Change.{Change}
 use Rattle.chart_model.specs.Dataset.{DatasetValue}
+use Rattle.chart_model.specs.Names.{name_cmp}
 use Rattle.chart_model.specs.declared.name.Name.{Name}
 use Rattle.update_sequence.specs.Built.{built}
 use Rattle.update_sequence.specs.declared.fault.BuildFault.{BuildFault}
@@ -39,6 +41,32 @@ pub names-differing : (before now : CellValue) (dataset : DatasetValue) (inside 
 names-differing before now dataset inside slice names stay made seen whole is =
     subst (HasAll (Some before) (Some now)) (sym (is ∙ ap targets_of (whole ∙ seen)))
     (names-all before now dataset stay made)
+
+-- what is another record differs
+differs-too : (before now : CellValue) (name : Name) → HasOther before now name → Differ (Some before) (Some now) name
+differs-too before now name (inl other) = inl (λ same. other (sym same))
+differs-too before now name (inr other) = inr (λ same. other (sym same))
+
+pub all-differ : (before now : CellValue) (dataset : DatasetValue) (inside slice : List Change) (names once : List Name) →
+    ((chart after : CellValue) (dataset : DatasetValue) (name : Name) → built (Some chart) dataset ≡ Ok after →
+    Contains (targets_of dataset.changes) name ⊎ HasSame chart after name) →
+    ((chart after : CellValue) (dataset : DatasetValue) (name : Name) → built (Some chart) dataset ≡ Ok after →
+    delete_none dataset.changes ≡ true → Contains (targets_of dataset.changes) name → HasOther chart after name) →
+    built (Some before) dataset ≡ Ok now → inside ≡ dataset.changes → slice ≡ inside → names ≡ targets_of slice →
+    true ≡ delete_none slice → IsStrictlySortedBy name_cmp once →
+    ((name : Name) → Contains once name ↔ Contains names name) → AreChanged (Some before) (Some now) once
+all-differ before now dataset inside slice names once stay other made seen whole is none rising same =
+    let named : names ≡ targets_of dataset.changes = is ∙ ap targets_of (whole ∙ seen) in
+    let kept : delete_none dataset.changes ≡ true = sym (none ∙ ap delete_none (whole ∙ seen)) in
+    record {
+      rising = rising;
+      exact = λ name. (
+        λ there. differs-too before now name (other before now dataset name made kept
+            (subst (λ (l : List Name). Contains l name) named ((same name).0 there))),
+        λ differ. (same name).1
+            (names-differing before now dataset inside slice names stay made seen whole is name differ),
+      );
+    }
 
 some_is : {A : Type 0} {x y : A} → ◌≡◌ {A = Option A} (Some x) (Some y) → x ≡ y
 some_is e = cc

@@ -4,12 +4,16 @@ ghost use Rattle.std.specs.Prelude.{◌≡◌, Ok, Some, map, IfOk};
 ghost use Rattle.std.specs.Option.{option_copied};
 ghost use Rattle.chart_difference.specs.Difference.{AreChanged};
 ghost use Rattle.update_sequence.specs.Built.{built};
+ghost use Rattle.update_sequence.specs.Others.{delete_none};
 ghost use Rattle.chart_store.specs.Taken.{chart_after};
+ghost use Rattle.chart_store.specs.declared.next.Naming.TheVariants as Naming;
 
-use chart_difference::{changed_among, changed_names};
+use crate::next::Naming;
+use chart_difference::{changed_among, changed_names, in_order_once};
+use chart_model::codes::DELETE;
 use chart_model::{Cell, Dataset, Name, NameList, UpdateRecord};
 use std::alloc::{AllocError, Global};
-use update_sequence::{Effect, other_records_stay};
+use update_sequence::{Effect, named_records_differ, other_records_stay};
 
 /// The names of the records that changes change, in the order of the changes.
 fn targets(alloc: Global, changes: &[UpdateRecord]) -> Result<Vec<Name>, AllocError>
@@ -18,7 +22,15 @@ fn targets(alloc: Global, changes: &[UpdateRecord]) -> Result<Vec<Name>, AllocEr
     changes.iter().map(|change| change.target).collect(alloc)
 }
 
-/// The names whose records an update changes. Those of its changes alone are looked at.
+/// Whether the changes delete no record.
+fn delete_none(changes: &[UpdateRecord]) -> bool
+    ensures { result ≡ delete_none changes.now }
+{
+    changes.iter().all(|change| change.ruin != DELETE)
+}
+
+/// The names whose records an update changes. Those of its changes alone are looked at, and no record where none is
+/// deleted: then each of them has got another.
 fn changed_by_update(
     alloc: Global,
     before: &Cell,
@@ -29,23 +41,49 @@ fn changed_by_update(
     ensures { IfOk result (AreChanged (Some before.now) (Some now.now)) }
 {
     other_records_stay();
-    let names = targets(alloc, dataset.changes.as_slice())?;
+    named_records_differ();
+    let changes = dataset.changes.as_slice();
+    let names = targets(alloc, changes)?;
+    if delete_none(changes) {
+        return Ok(in_order_once(names));
+    }
     changed_among(alloc, Some(before), Some(now), names)
 }
 
-/// The names whose records differ between a chart and the one that a data set makes of it, in order.
+/// The names whose records differ between two charts, in order, where they are worked out.
+pub(crate) fn changed_between(
+    alloc: Global,
+    naming: Naming,
+    before: Option<&Cell>,
+    now: Option<&Cell>,
+) -> Result<NameList, AllocError>
+    ensures { naming ≡ Naming.Named →
+        IfOk result (AreChanged (option_copied before.entry) (option_copied now.entry)) }
+{
+    match naming {
+        Naming::Named => changed_names(alloc, before, now),
+        Naming::Unnamed => Ok(NameList::new(alloc)),
+    }
+}
+
+/// The names whose records differ between a chart and the one that a data set makes of it, in order, where they are
+/// worked out.
 pub(crate) fn changed_by_file(
     alloc: Global,
+    naming: Naming,
     before: Option<&Cell>,
     now: Option<&Cell>,
     effect: Effect,
     dataset: &Dataset,
 ) -> Result<NameList, AllocError>
     requires { chart_after (option_copied before) effect dataset.now ≡ Ok (option_copied now) }
-    ensures { IfOk result (AreChanged (option_copied before.entry) (option_copied now.entry)) }
+    ensures { naming ≡ Naming.Named →
+        IfOk result (AreChanged (option_copied before.entry) (option_copied now.entry)) }
 {
-    match (before, now, effect) {
-        (Some(before), Some(now), Effect::Extend) => changed_by_update(alloc, before, now, dataset),
-        _ => changed_names(alloc, before, now),
+    match (naming, before, now, effect) {
+        (Naming::Named, Some(before), Some(now), Effect::Extend) => {
+            changed_by_update(alloc, before, now, dataset)
+        }
+        _ => changed_between(alloc, naming, before, now),
     }
 }

@@ -8,31 +8,37 @@ ghost use Rattle.chart_store.specs.Loaded.{loaded, GivesLoaded, come_to};
 ghost use Rattle.chart_store.specs.Next.{IsNext, GivesNext};
 ghost use Rattle.chart_store.specs.Outcome.{outcome, dropped, most_steps};
 ghost use Rattle.chart_store.specs.Taken.{chart_of};
+ghost use Rattle.chart_store.specs.declared.next.Naming.TheVariants as Naming;
 
+use crate::changed::changed_between;
 use crate::fault::TakeFault;
 use crate::live::{LiveCells, bytes_of};
 use crate::load::next_of_file;
-use crate::next::Next;
+use crate::next::{Naming, Next};
 use crate::refusal::Refusal;
 use crate::rollback::next_of_rollback;
 use crate::taken::Taken;
-use chart_difference::changed_names;
 use chart_model::{Command, Key, Octets};
 use chart_ports::Steps;
 use std::alloc::Global;
 use std::sync::ledger::Ledger;
 
 /// What is held once a cell is taken away.
-fn next_of_drop(alloc: Global, live: &LiveCells, key: Key) -> Result<Next, TakeFault>
+fn next_of_drop(
+    alloc: Global,
+    live: &LiveCells,
+    key: Key,
+    naming: Naming,
+) -> Result<Next, TakeFault>
     ensures after { GivesNext result live.now (dropped live.now key) }
     ensures stands { IfOk result (IsNext live.now) }
-    ensures changed { IfOk result (λ next.
+    ensures changed { naming ≡ Naming.Named → IfOk result (λ next.
         AreChanged (chart_of (map.get live.now.cells next.key)) (chart_of next.holding) next.changed) }
 {
     let Some(here) = live.cells().get(key) else {
         return Err(TakeFault::Refused(Refusal::NoCell(key)));
     };
-    let changed = changed_names(alloc, here.chart.as_ref(), None)?;
+    let changed = changed_between(alloc, naming, here.chart.as_ref(), None)?;
     Ok(Next {
         key,
         held: here.held,
@@ -52,24 +58,61 @@ pub(crate) fn next_of<C: Ledger>(
     alloc: Global,
     live: &LiveCells,
     command: Command,
+    naming: Naming,
     steps: &mut Steps<C>,
 ) -> Result<Next, TakeFault>
     ensures after { GivesNext result live.now (outcome live.now command) }
     ensures stands { IfOk result (IsNext live.now) }
-    ensures changed { IfOk result (λ next.
+    ensures changed { naming ≡ Naming.Named → IfOk result (λ next.
         AreChanged (chart_of (map.get live.now.cells next.key)) (chart_of next.holding) next.changed) }
     ensures read { (file : List ℕ) → command ≡ Load file → result ≢ Err TakeFault.NoMemory →
         steps.new ≡ steps.old + come_to file }
     ensures at_most { steps.new ≤ steps.old + most_steps live.now command }
 {
     match command {
-        Command::Load(file) => next_of_file(alloc, live, file, steps),
-        Command::Rollback(key, number) => next_of_rollback(alloc, live, key, number, steps),
-        Command::Drop(key) => next_of_drop(alloc, live, key),
+        Command::Load(file) => next_of_file(alloc, live, file, naming, steps),
+        Command::Rollback(key, number) => {
+            next_of_rollback(alloc, live, key, number, naming, steps)
+        }
+        Command::Drop(key) => next_of_drop(alloc, live, key, naming),
     }
 }
 
 impl LiveCells {
+    /// Carries a command out as `take` does, and names the records that differ only where they are asked for.
+    pub(crate) fn take_by<C: Ledger>(
+        &mut self,
+        alloc: Global,
+        command: Command,
+        naming: Naming,
+        steps: &mut Steps<C>,
+    ) -> Result<Taken, TakeFault>
+        ensures outcome { GivesLoaded result self.new (outcome self.old command) }
+        ensures changed { naming ≡ Naming.Named →
+            IfOk result (λ taken. AreChanged (chart_of (map.get self.old.cells taken.key))
+            (chart_of (map.get self.new.cells taken.key)) taken.changed) }
+        ensures old { IfOk result (λ taken. taken.old ≡ chart_of (map.get self.old.cells taken.key)) }
+        ensures err { OnErr result (self.new ≡ self.old) }
+        ensures read { (file : List ℕ) → command ≡ Load file → result ≢ Err TakeFault.NoMemory →
+            steps.new ≡ steps.old + come_to file }
+        ensures at_most { steps.new ≤ steps.old + most_steps self.old command }
+    {
+        let Next {
+            key,
+            held,
+            holding,
+            bytes,
+            changed,
+        } = next_of(alloc, self, command, naming, steps)?;
+        let old = self.set(key, holding, bytes)?;
+        Ok(Taken {
+            key,
+            held,
+            changed,
+            old,
+        })
+    }
+
     /// Carries a command out, without a bank: a cell file is loaded, a cell is rolled back, or it is taken away.
     ///
     /// Each data record that is come to is a step: those of a file that is loaded once, those of a cell that is rolled
@@ -93,20 +136,7 @@ impl LiveCells {
             steps.new ≡ steps.old + come_to file }
         ensures at_most { steps.new ≤ steps.old + most_steps self.old command }
     {
-        let Next {
-            key,
-            held,
-            holding,
-            bytes,
-            changed,
-        } = next_of(alloc, self, command, steps)?;
-        let old = self.set(key, holding, bytes)?;
-        Ok(Taken {
-            key,
-            held,
-            changed,
-            old,
-        })
+        self.take_by(alloc, command, Naming::Named, steps)
     }
 
     /// Loads a cell file: a base file replaces what is held of its cell, an update extends it, and an update of

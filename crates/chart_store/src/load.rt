@@ -11,12 +11,13 @@ ghost use Rattle.chart_store.specs.Loaded.{loaded, bytes_of, files_of, live_byte
 ghost use Rattle.chart_store.specs.Live.{IsLive, AreLive};
 ghost use Rattle.chart_store.specs.Next.{IsNext, GivesNext, GivesNextState};
 ghost use Rattle.chart_store.specs.Taken.{held_of, chart_of, held_after, cell_after, replaced_bytes, placed, taken};
+ghost use Rattle.chart_store.specs.declared.next.Naming.TheVariants as Naming;
 
 use crate::changed::changed_by_file;
 use crate::fault::TakeFault;
 use crate::holding::{chart_after, chart_of, files_after, held_of};
 use crate::live::{CELLS_LIMIT, LiveCells, STORE_LIMIT, bytes_of};
-use crate::next::Next;
+use crate::next::{Naming, Next};
 use crate::refusal::Refusal;
 use chart_model::{Cell, Dataset, Header, Held, Holding, Key, NameList, Octets};
 use chart_ports::Steps;
@@ -124,6 +125,7 @@ fn placed(
     file: Octets,
     effect: Effect,
     held: Held,
+    naming: Naming,
 ) -> Result<Next, TakeFault>
     requires reads { data_set_in file ≡ Ok dataset.now }
     requires short { IsFileLength (length file) }
@@ -135,7 +137,7 @@ fn placed(
     ensures stands { IfOk result (IsNext live.now) }
     ensures key { IfOk result (λ next. next.key ≡ dataset.now.header.key) }
     ensures held { IfOk result (λ next. next.held ≡ held) }
-    ensures changed { IfOk result (λ next.
+    ensures changed { naming ≡ Naming.Named → IfOk result (λ next.
         AreChanged (chart_of (map.get live.now.cells dataset.now.header.key)) (chart_of next.holding) next.changed) }
 {
     files_are_data_sets();
@@ -145,7 +147,7 @@ fn placed(
     let key = dataset.header.key;
     let before = chart_of(live.cells().get(key));
     let chart = chart_after(alloc, before, effect, dataset)?;
-    let changed = changed_by_file(alloc, before, chart.as_ref(), effect, dataset)?;
+    let changed = changed_by_file(alloc, naming, before, chart.as_ref(), effect, dataset)?;
     let made = Made {
         held,
         chart,
@@ -160,13 +162,14 @@ fn next_of_data_set(
     live: &LiveCells,
     dataset: &Dataset,
     file: Octets,
+    naming: Naming,
 ) -> Result<Next, TakeFault>
     requires reads { data_set_in file ≡ Ok dataset.now }
     requires short { IsFileLength (length file) }
     ensures after { GivesNext result live.now
         (taken live.now dataset.now file (map.get live.now.cells dataset.now.header.key)) }
     ensures stands { IfOk result (IsNext live.now) }
-    ensures changed { IfOk result (λ next.
+    ensures changed { naming ≡ Naming.Named → IfOk result (λ next.
         AreChanged (chart_of (map.get live.now.cells next.key)) (chart_of next.holding) next.changed) }
     ensures live { AreLive live.now.cells }
 {
@@ -177,7 +180,7 @@ fn next_of_data_set(
     if live.is_full_for(key) {
         return Err(TakeFault::Refused(Refusal::CellsFull(CELLS_LIMIT)));
     }
-    placed(alloc, live, dataset, file, effect, held)
+    placed(alloc, live, dataset, file, effect, held, naming)
 }
 
 /// What is held once a file is loaded. Each data record that is come to is a step.
@@ -186,11 +189,12 @@ pub(crate) fn next_of_file<C: Ledger>(
     alloc: Global,
     live: &LiveCells,
     file: Octets,
+    naming: Naming,
     steps: &mut Steps<C>,
 ) -> Result<Next, TakeFault>
     ensures after { GivesNext result live.now (loaded live.now file) }
     ensures stands { IfOk result (IsNext live.now) }
-    ensures changed { IfOk result (λ next.
+    ensures changed { naming ≡ Naming.Named → IfOk result (λ next.
         AreChanged (chart_of (map.get live.now.cells next.key)) (chart_of next.holding) next.changed) }
     ensures read { result ≢ Err TakeFault.NoMemory → steps.new ≡ steps.old + come_to file }
     ensures at_most { steps.new ≤ steps.old + come_to file }
@@ -201,5 +205,5 @@ pub(crate) fn next_of_file<C: Ledger>(
         return Err(TakeFault::Refused(Refusal::FileLong(FILE_LIMIT)));
     }
     let dataset = read_data_set(alloc, file.as_slice(), steps)?;
-    next_of_data_set(alloc, live, &dataset, file)
+    next_of_data_set(alloc, live, &dataset, file, naming)
 }

@@ -2,6 +2,13 @@
 
 use chart_model::{Held, Holding, Key, NameList};
 
+/// Whether the names whose records differ are worked out. An opening carries commands out for what they leave alone.
+#[derive(Clone, Copy, Debug)]
+pub(crate) enum Naming {
+    Named,
+    Unnamed,
+}
+
 /// What an accepted command makes of its cell. It is made aside, so that nothing that is held changes before it is
 /// put in place.
 #[derive(Debug, Drop)]
@@ -14,6 +21,6 @@ pub(crate) struct Next {
     pub holding: Option<Holding>,
     /// The bytes of all live files then.
     pub bytes: u64,
-    /// The names whose records differ, in order.
+    /// The names whose records differ, in order; none where they aren't worked out.
     pub changed: NameList,
 }

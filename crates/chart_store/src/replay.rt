@@ -11,6 +11,7 @@ ghost use Rattle.chart_store.specs.Opened.{ForeignHas};
 
 use crate::fault::TakeFault;
 use crate::live::LiveCells;
+use crate::next::Naming;
 use crate::open_fault::OpenFault;
 use bank_journal::BodyList;
 use chart_ports::Steps;
@@ -44,7 +45,7 @@ fn replay_one<C: Ledger>(
 {
     let foreign = OpenFault::Foreign(1, gate);
     let command = decode_command(alloc, body)?.ok_or(foreign)?;
-    match live.take(alloc, command, steps) {
+    match live.take_by(alloc, command, Naming::Unnamed, steps) {
         Ok(_) => Ok(()),
         Err(TakeFault::Refused(_)) => Err(foreign),
         Err(TakeFault::NoMemory) => Err(OpenFault::NoMemory),

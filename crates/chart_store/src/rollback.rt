@@ -10,12 +10,13 @@ ghost use Rattle.chart_store.specs.Loaded.{files_of};
 ghost use Rattle.chart_store.specs.Next.{IsNext, GivesNext};
 ghost use Rattle.chart_store.specs.Outcome.{rolled_back};
 ghost use Rattle.chart_store.specs.Taken.{chart_of};
+ghost use Rattle.chart_store.specs.declared.next.Naming.TheVariants as Naming;
 
+use crate::changed::changed_between;
 use crate::fault::TakeFault;
 use crate::live::{LiveCells, bytes_of};
-use crate::next::Next;
+use crate::next::{Naming, Next};
 use crate::refusal::Refusal;
-use chart_difference::changed_names;
 use chart_model::{FileList, Held, Holding, Key};
 use chart_ports::Steps;
 use std::alloc::{AllocError, Global};
@@ -76,6 +77,7 @@ fn next_with<C: Ledger>(
     key: Key,
     here: &Holding,
     kept: Kept,
+    naming: Naming,
     steps: &mut Steps<C>,
 ) -> Result<Next, AllocError>
     requires here { map.get live.now.cells key ≡ Some here.now }
@@ -86,12 +88,13 @@ fn next_with<C: Ledger>(
     ensures held { IfOk result (λ next. next.held ≡ kept.held) }
     ensures holding { IfOk result (λ next. next.holding
         ≡ Some (record { held = kept.held; files = kept.files; chart = rebuilt kept.files })) }
-    ensures changed { IfOk result (λ next. AreChanged here.now.chart (chart_of next.holding) next.changed) }
+    ensures changed { naming ≡ Naming.Named →
+        IfOk result (λ next. AreChanged here.now.chart (chart_of next.holding) next.changed) }
     ensures at_most { steps.new ≤ steps.old + data_records_of here.now.files }
 {
     sound_lists_are_tested();
     let chart = rebuild(alloc, &kept.files, steps)?;
-    let changed = changed_names(alloc, here.chart.as_ref(), chart.as_ref())?;
+    let changed = changed_between(alloc, naming, here.chart.as_ref(), chart.as_ref())?;
     let bytes = live.bytes() - bytes_of(here.files.as_slice()) + bytes_of(kept.files.as_slice());
     let Kept { files, held } = kept;
     Ok(Next {
@@ -109,11 +112,12 @@ pub(crate) fn next_of_rollback<C: Ledger>(
     live: &LiveCells,
     key: Key,
     number: u32,
+    naming: Naming,
     steps: &mut Steps<C>,
 ) -> Result<Next, TakeFault>
     ensures after { GivesNext result live.now (rolled_back live.now key number) }
     ensures stands { IfOk result (IsNext live.now) }
-    ensures changed { IfOk result (λ next.
+    ensures changed { naming ≡ Naming.Named → IfOk result (λ next.
         AreChanged (chart_of (map.get live.now.cells next.key)) (chart_of next.holding) next.changed) }
     ensures at_most { steps.new ≤ steps.old + 2 * data_records_of (files_of (map.get live.now.cells key)) }
 {
@@ -126,5 +130,5 @@ pub(crate) fn next_of_rollback<C: Ledger>(
             update: number,
         }));
     };
-    Ok(next_with(alloc, live, key, here, kept, steps)?)
+    Ok(next_with(alloc, live, key, here, kept, naming, steps)?)
 }

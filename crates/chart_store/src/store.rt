@@ -5,7 +5,7 @@ ghost use Rattle.std.specs.Prelude.{◌≡◌};
 use crate::accepted::Accepted;
 use crate::command::next_of;
 use crate::live::LiveCells;
-use crate::next::Next;
+use crate::next::{Naming, Next};
 use crate::record::record_of;
 use crate::submit_fault::SubmitFault;
 use bank_journal::{AppendFault, Bank};
@@ -142,7 +142,7 @@ impl Store {
             holding,
             bytes,
             changed,
-        } = next_of(alloc, &self.live, command, steps)?;
+        } = next_of(alloc, &self.live, command, Naming::Named, steps)?;
         let prepared = self.live.prepare(key, holding, bytes)?;
         if let Err(fault) = self.bank.append(desk, &framed) {
             self.live.withdraw(prepared);

@@ -1,5 +1,6 @@
 -- The decimal text of a number is the one without leading zeros.
-use Rattle.std.proofs.Common.{◌≡◌, ℕ, zero, suc, ◌+◌, ◌*◌, ◌%◌, ◌^◌, ◌<◌, ◌≤◌, List, [], ◌∷◌, ◌++◌, length, get_or, refl, sym, ap, ◌∙◌, inl, inr, arith, length-append, lit<}
+use Rattle.std.proofs.Common.{◌≡◌, ℕ, zero, suc, ◌+◌, ◌*◌, ◌%◌, ◌^◌, ◌<◌, ◌≤◌, List, [], ◌∷◌, ◌++◌, length, get_or}
+use Rattle.std.proofs.Common.{refl, sym, ap, ◌∙◌, inl, inr, arith, length-append, lit<}
 use Rattle.std.specs.Prelude.{ℤ, pos, negsuc, unsigned_abs}
 use Rattle.std.specs.Fmt.{decimal}
 use Rattle.std.specs.Str.Parse.{AllDigits, IsNumeral, digits_value, digits_value_after}
@@ -57,7 +58,8 @@ value_after-ge n (d ∷ ds) =
     rw shifted (le_trans least rest)
 
 -- digits of one length that go on from numbers to one number, go on from one number and are the same
-same_digits : (m n : ℕ) (xs ys : List ℕ) → AllDigits 10 xs → AllDigits 10 ys → length xs ≡ length ys → digits_value_after 10 m xs ≡ digits_value_after 10 n ys → (m ≡ n) × (xs ≡ ys)
+same_digits : (m n : ℕ) (xs ys : List ℕ) → AllDigits 10 xs → AllDigits 10 ys → length xs ≡ length ys
+    → digits_value_after 10 m xs ≡ digits_value_after 10 n ys → (m ≡ n) × (xs ≡ ys)
 same_digits m n [] [] all_x all_y long same = (same, refl)
 same_digits m n [] (y ∷ ys) all_x all_y long same = absurd (omega arith)
 same_digits m n (x ∷ xs) [] all_x all_y long same = absurd (omega arith)
@@ -69,7 +71,8 @@ same_digits m n (x ∷ xs) (y ∷ ys) all_x all_y long same =
     (omega (arith, rest.0, all_x.0, all_y.0), ap (λ (c : ℕ). c ∷ xs) first ∙ ap (λ (t : List ℕ). y ∷ t) rest.1)
 
 -- a text without a leading zero isn't longer than another of the same number
-not_longer : (x : ℕ) (xs : List ℕ) (y : ℕ) (ys : List ℕ) → AllDigits 10 (x ∷ xs) → AllDigits 10 (y ∷ ys) → digits_value 10 (x ∷ xs) ≡ digits_value 10 (y ∷ ys) → (y ≡ 48 → length (y ∷ ys) ≡ 1) → length xs < length ys → ⊥
+not_longer : (x : ℕ) (xs : List ℕ) (y : ℕ) (ys : List ℕ) → AllDigits 10 (x ∷ xs) → AllDigits 10 (y ∷ ys)
+    → digits_value 10 (x ∷ xs) ≡ digits_value 10 (y ∷ ys) → (y ≡ 48 → length (y ∷ ys) ≡ 1) → length xs < length ys → ⊥
 not_longer x xs y ys all_x all_y same short longer =
     let digit_y = digit_of y all_y.0 in
     let no_zero : y ≡ 48 → ⊥ = λ h. omega (arith, short h) in
@@ -81,7 +84,8 @@ not_longer x xs y ys all_x all_y same short longer =
     let power : 10 ^ length (x ∷ xs) ≤ 10 ^ length ys = pow-le-pow_right {n = 10} (lit< tt) longer in
     omega (arith, least, least_first, first_is, most, power, same)
 
-same_numerals : (xs ys : List ℕ) → IsNumeral 10 xs → IsNumeral 10 ys → digits_value 10 xs ≡ digits_value 10 ys → (get_or xs 0 0 ≡ 48 → length xs ≡ 1) → (get_or ys 0 0 ≡ 48 → length ys ≡ 1) → xs ≡ ys
+same_numerals : (xs ys : List ℕ) → IsNumeral 10 xs → IsNumeral 10 ys → digits_value 10 xs ≡ digits_value 10 ys
+    → (get_or xs 0 0 ≡ 48 → length xs ≡ 1) → (get_or ys 0 0 ≡ 48 → length ys ≡ 1) → xs ≡ ys
 same_numerals [] ys x y same short_x short_y = absurd (let none : 0 < 0 = x.0 in omega arith)
 same_numerals (x ∷ xs) [] num_x num_y same short_x short_y = absurd (let none : 0 < 0 = num_y.0 in omega arith)
 same_numerals (x ∷ xs) (y ∷ ys) num_x num_y same short_x short_y =

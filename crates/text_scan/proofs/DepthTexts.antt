@@ -1,14 +1,20 @@
 -- A depth is read as it is spelled.
-use Rattle.std.proofs.Common.{◌≡◌, ℕ, ◌+◌, ◌*◌, ◌^◌, ◌<◌, ◌≤◌, Bool, true, false, cond, ltb, leb, eqb, ◌&&◌, ◌⊎◌, List, [], ◌∷◌, ◌++◌, length, Option, Some, None, refl, sym, ap, subst, ◌∙◌, inl, inr, arith, append_assoc, append-nil, lit<, length-append}
+use Rattle.std.proofs.Common.{◌≡◌, ℕ, ◌+◌, ◌*◌, ◌^◌, ◌<◌, ◌≤◌, Bool, true, false, cond, ltb, leb, eqb, ◌&&◌, ◌⊎◌, List}
+use Rattle.std.proofs.Common.{[], ◌∷◌, ◌++◌, length, Option, Some, None, refl, sym, ap, subst, ◌∙◌, inl, inr, arith}
+use Rattle.std.proofs.Common.{append_assoc, append-nil, lit<, length-append}
 use Rattle.std.specs.Prelude.{option_map, option_and_then, ℤ, IfSome}
 use Rattle.std.specs.Str.{all_ascii_digits}
+use Rattle.std.specs.List.{prefix_len, take_while}
 use Rattle.std.specs.Char.{is_ascii_digit}
-use Rattle.std.proofs.lemmas.Bool.{ltb-true, lt-ltb, leb-true, le-leb, eqb-true, and_parts, and_from, cases_Bool, true≢false, false_from_ne_true}
+use Rattle.std.proofs.lemmas.List.{take-append-drop}
+use Rattle.std.proofs.lemmas.Bool.{ltb-true, lt-ltb, leb-true, le-leb, eqb-true, and_parts, and_from, cases_Bool}
+use Rattle.std.proofs.lemmas.Bool.{true≢false, false_from_ne_true}
 use native.Mathlib.Nat.{one-le-pow}
 use Rattle.text_scan.specs.Number.{value_of}
-use Rattle.text_scan.specs.Depth.{SpellsSign, with_sign, IsFloor, SpellsDepth, digits_and_rest, decimals_of, digits_of, hundredths, depth_of}
+use Rattle.text_scan.specs.Depth.{SpellsSign, with_sign, IsFloor, SpellsDepth, behind_digits, decimals_of, digits_of}
+use Rattle.text_scan.specs.Depth.{hundredths, depth_of}
 use Rattle.text_scan.proofs.Floors.{floor_unique, floor_down, floor_up}
-use Rattle.text_scan.proofs.Scans.{chosen, AllDigits-from_test, test_from_AllDigits, digits_and_rest_parts, digits_and_rest-whole, digits_and_rest-before}
+use Rattle.text_scan.proofs.Scans.{chosen, AllDigits-from_test, test_from_AllDigits, front_is_digits, cut_before}
 use Rattle.text_scan.proofs.Numbers.{some_is, map_some}
 
 -- the digits of a text before and behind its point
@@ -20,7 +26,8 @@ pub record HasDigits (text whole decimals : List ℕ) : Type 0 where
   pub some_digit : 1 ≤ length whole + length decimals
   pub parts : ((text ≡ whole) × (decimals ≡ [])) ⊎ (text ≡ whole ++ 46 ∷ decimals)
 
-decimals_of_found : (text decimals : List ℕ) → decimals_of text ≡ Some decimals → (all_ascii_digits decimals ≡ true) × (((text ≡ []) × (decimals ≡ [])) ⊎ (text ≡ 46 ∷ decimals))
+decimals_of_found : (text decimals : List ℕ) → decimals_of text ≡ Some decimals
+    → (all_ascii_digits decimals ≡ true) × (((text ≡ []) × (decimals ≡ [])) ⊎ (text ≡ 46 ∷ decimals))
 unfolding decimals_of
 decimals_of_found [] decimals e =
     let none : [] ≡ decimals = some_is [] decimals e in
@@ -34,25 +41,29 @@ decimals_of_found (x ∷ xs) decimals e =
       | inr h ↦ absurd (let none = h.1 in cc)
     ]
 
-and_then_some : {A B : Type 0} (f : A → Option B) (o : Option A) (y : B) → option_and_then f o ≡ Some y → (x : A) × (o ≡ Some x) × (f x ≡ Some y)
+and_then_some : {A B : Type 0} (f : A → Option B) (o : Option A) (y : B) → option_and_then f o ≡ Some y
+    → (x : A) × (o ≡ Some x) × (f x ≡ Some y)
 and_then_some f None y e = absurd cc
 and_then_some f (Some x) y e = (x, refl, e)
 
 -- the parts of a text whose rest behind the digits has been read
-parts_of : (text whole rest decimals : List ℕ) → text ≡ whole ++ rest → ((rest ≡ []) × (decimals ≡ [])) ⊎ (rest ≡ 46 ∷ decimals) → ((text ≡ whole) × (decimals ≡ [])) ⊎ (text ≡ whole ++ 46 ∷ decimals)
+parts_of : (text whole rest decimals : List ℕ) → text ≡ whole ++ rest
+    → ((rest ≡ []) × (decimals ≡ [])) ⊎ (rest ≡ 46 ∷ decimals)
+    → ((text ≡ whole) × (decimals ≡ [])) ⊎ (text ≡ whole ++ 46 ∷ decimals)
 parts_of text whole rest decimals e (inl h) = inl (e ∙ ap (λ (t : List ℕ). whole ++ t) h.0 ∙ append-nil whole, h.1)
 parts_of text whole rest decimals e (inr h) = inr (e ∙ ap (λ (t : List ℕ). whole ++ t) h)
 
 abbrev in_range : List ℕ → List ℕ → Bool
 in_range whole decimals = leb (length whole) 6 && (leb (length decimals) 20 && ltb 0 (length whole + length decimals))
 
-pub digits_of_found : (text : List ℕ) (digits : List ℕ × List ℕ) → digits_of text ≡ Some digits → HasDigits text digits.0 digits.1
+pub digits_of_found : (text : List ℕ) (digits : List ℕ × List ℕ) → digits_of text ≡ Some digits
+    → HasDigits text digits.0 digits.1
 unfolding digits_of
 digits_of_found text digits e =
-    let whole = (digits_and_rest text).0 in
-    let a = and_then_some _ (decimals_of (digits_and_rest text).1) digits e in
-    let front = digits_and_rest_parts text in
-    let d = decimals_of_found (digits_and_rest text).1 a.0 a.1 in
+    let whole = take_while is_ascii_digit text in
+    let a = and_then_some _ (decimals_of (behind_digits text)) digits e in
+    let front = sym (take-append-drop (prefix_len is_ascii_digit text) text) in
+    let d = decimals_of_found (behind_digits text) a.0 a.1 in
     elim (chosen (in_range whole a.0) (Some (whole, a.0)) None (Some digits) a.2) [
       | inl h ↦
           let p = and_parts (leb (length whole) 6) (leb (length a.0) 20 && ltb 0 (length whole + length a.0)) h.0 in
@@ -60,12 +71,12 @@ digits_of_found text digits e =
           let some : 0 < length whole + length a.0 = ltb-true _ _ q.1 in
           let P : List ℕ × List ℕ → Type 0 = λ r. HasDigits text r.0 r.1 in
           subst P (some_is (whole, a.0) digits h.1) (record {
-            all_whole = front.1;
+            all_whole = front_is_digits text;
             short_whole = leb-true _ _ p.0;
             all_decimals = d.0;
             short_decimals = leb-true _ _ q.0;
             some_digit = omega arith;
-            parts = parts_of text whole (digits_and_rest text).1 a.0 front.0 d.1;
+            parts = parts_of text whole (behind_digits text) a.0 front d.1;
           })
       | inr h ↦ absurd (let none = h.1 in cc)
     ]
@@ -74,31 +85,48 @@ in_range_again : (text whole decimals : List ℕ) → HasDigits text whole decim
 in_range_again text whole decimals h =
     and_from _ _ (le-leb _ _ h.short_whole) (and_from _ _ (le-leb _ _ h.short_decimals) (lt-ltb _ _ (omega (arith, h.some_digit))))
 
-digits_of-cut : (text whole rest decimals : List ℕ) → digits_and_rest text ≡ (whole, rest) → decimals_of rest ≡ Some decimals → in_range whole decimals ≡ true → digits_of text ≡ Some (whole, decimals)
+digits_of-parts : (text whole rest decimals : List ℕ) → take_while is_ascii_digit text ≡ whole
+    → behind_digits text ≡ rest
+    → decimals_of rest ≡ Some decimals → in_range whole decimals ≡ true → digits_of text ≡ Some (whole, decimals)
 unfolding digits_of
-digits_of-cut text whole rest decimals cut read fits = rw (cut, read, fits) refl
+digits_of-parts text whole rest decimals front behind read fits = rw (front, behind, read, fits) refl
 
-pub digits_of_again : (text whole decimals : List ℕ) → HasDigits text whole decimals → digits_of text ≡ Some (whole, decimals)
+digits_of-cut : (text whole rest decimals : List ℕ) → text ≡ whole ++ rest → all_ascii_digits whole ≡ true
+    → prefix_len is_ascii_digit rest ≡ 0 → decimals_of rest ≡ Some decimals → in_range whole decimals ≡ true
+    → digits_of text ≡ Some (whole, decimals)
+digits_of-cut text whole rest decimals is all none read fits =
+    let cut = cut_before whole rest all none in
+    ap digits_of is ∙ digits_of-parts (whole ++ rest) whole rest decimals cut.0 cut.1 read fits
+
+pub digits_of_again : (text whole decimals : List ℕ) → HasDigits text whole decimals
+    → digits_of text ≡ Some (whole, decimals)
 unfolding decimals_of
 digits_of_again text whole decimals h =
     elim h.parts [
       | inl p ↦
-          digits_of-cut text whole [] decimals (ap digits_and_rest p.0 ∙ digits_and_rest-whole whole h.all_whole) (ap (λ (t : List ℕ). Some t) (sym p.1)) (in_range_again text whole decimals h)
+          digits_of-cut text whole [] decimals (p.0 ∙ sym (append-nil whole)) h.all_whole refl
+          (ap (λ (t : List ℕ). Some t) (sym p.1)) (in_range_again text whole decimals h)
       | inr p ↦
-          digits_of-cut text whole (46 ∷ decimals) decimals (ap digits_and_rest p ∙ digits_and_rest-before whole 46 decimals h.all_whole refl) (rw h.all_decimals refl) (in_range_again text whole decimals h)
+          digits_of-cut text whole (46 ∷ decimals) decimals p h.all_whole refl (rw h.all_decimals refl)
+          (in_range_again text whole decimals h)
     ]
 
 -- ---- the whole text
 
-rounds : (negative : Bool) (digits : List ℕ × List ℕ) → IsFloor (with_sign negative (100 * value_of (digits.0 ++ digits.1))) (10 ^ length digits.1) (hundredths negative digits)
+rounds : (negative : Bool) (digits : List ℕ × List ℕ)
+    → IsFloor (with_sign negative (100 * value_of (digits.0 ++ digits.1))) (10 ^ length digits.1) (hundredths negative digits)
 rounds true digits = floor_up (100 * value_of (digits.0 ++ digits.1)) (10 ^ length digits.1) (one-le-pow (length digits.1) 10 (lit< tt))
 rounds false digits = floor_down (100 * value_of (digits.0 ++ digits.1)) (10 ^ length digits.1) (one-le-pow (length digits.1) 10 (lit< tt))
 
-spelled_parts : (text sign rest whole decimals : List ℕ) → text ≡ sign ++ rest → ((rest ≡ whole) × (decimals ≡ [])) ⊎ (rest ≡ whole ++ 46 ∷ decimals) → ((text ≡ sign ++ whole) × (decimals ≡ [])) ⊎ (text ≡ sign ++ whole ++ 46 ∷ decimals)
+spelled_parts : (text sign rest whole decimals : List ℕ) → text ≡ sign ++ rest
+    → ((rest ≡ whole) × (decimals ≡ [])) ⊎ (rest ≡ whole ++ 46 ∷ decimals)
+    → ((text ≡ sign ++ whole) × (decimals ≡ [])) ⊎ (text ≡ sign ++ whole ++ 46 ∷ decimals)
 spelled_parts text sign rest whole decimals e (inl h) = inl (e ∙ ap (λ (t : List ℕ). sign ++ t) h.0, h.1)
 spelled_parts text sign rest whole decimals e (inr h) = inr (e ∙ ap (λ (t : List ℕ). sign ++ t) h ∙ sym (append_assoc sign whole (46 ∷ decimals)))
 
-spelled : (text sign rest : List ℕ) (negative : Bool) (digits : List ℕ × List ℕ) (depth : ℤ) → text ≡ sign ++ rest → SpellsSign negative sign → HasDigits rest digits.0 digits.1 → hundredths negative digits ≡ depth → SpellsDepth text depth
+spelled : (text sign rest : List ℕ) (negative : Bool) (digits : List ℕ × List ℕ) (depth : ℤ) → text ≡ sign ++ rest
+    → SpellsSign negative sign → HasDigits rest digits.0 digits.1 → hundredths negative digits ≡ depth
+    → SpellsDepth text depth
 spelled text sign rest negative digits depth e signed h same = record {
   negative = negative;
   sign = sign;
@@ -113,7 +141,9 @@ spelled text sign rest negative digits depth e signed h same = record {
 }
 
 -- with no `-` in front
-plain_found : (x : ℕ) (xs : List ℕ) (depth : ℤ) → option_map (hundredths false) (digits_of (cond (eqb x 43) xs (x ∷ xs))) ≡ Some depth → SpellsDepth (x ∷ xs) depth
+plain_found : (x : ℕ) (xs : List ℕ) (depth : ℤ)
+    → option_map (hundredths false) (digits_of (cond (eqb x 43) xs (x ∷ xs))) ≡ Some depth
+    → SpellsDepth (x ∷ xs) depth
 plain_found x xs depth e =
     elim (cases_Bool (eqb x 43)) [
       | inl h ↦
@@ -136,7 +166,8 @@ depth_of_found (x ∷ xs) depth e =
     ]
 
 -- a text of digits and a point begins with neither sign
-begins_otherwise : (x : ℕ) (xs whole decimals : List ℕ) (byte : ℕ) → is_ascii_digit byte ≡ false → eqb 46 byte ≡ false → HasDigits (x ∷ xs) whole decimals → eqb x byte ≡ false
+begins_otherwise : (x : ℕ) (xs whole decimals : List ℕ) (byte : ℕ) → is_ascii_digit byte ≡ false → eqb 46 byte ≡ false
+    → HasDigits (x ∷ xs) whole decimals → eqb x byte ≡ false
 begins_otherwise x xs [] decimals byte no_digit no_point h =
     elim h.parts [
       | inl p ↦ absurd (let empty = p.0 in cc)
@@ -147,7 +178,8 @@ begins_otherwise x xs (w ∷ ws) decimals byte no_digit no_point h =
     let digit = and_parts (is_ascii_digit w) (all_ascii_digits ws) h.all_whole in
     false_from_ne_true _ (λ same. true≢false (sym digit.0 ∙ ap is_ascii_digit (sym first ∙ eqb-true x byte same) ∙ no_digit))
 
-depth_of-unsigned : (text whole decimals : List ℕ) → HasDigits text whole decimals → depth_of text ≡ option_map (hundredths false) (digits_of text)
+depth_of-unsigned : (text whole decimals : List ℕ) → HasDigits text whole decimals
+    → depth_of text ≡ option_map (hundredths false) (digits_of text)
 unfolding depth_of
 depth_of-unsigned [] whole decimals h =
     elim h.parts [
@@ -158,11 +190,15 @@ depth_of-unsigned (x ∷ xs) whole decimals h =
     rw (begins_otherwise x xs whole decimals 45 refl refl h, begins_otherwise x xs whole decimals 43 refl refl h) refl
 
 -- the text behind the sign
-unsigned_parts : (text sign whole decimals : List ℕ) → ((text ≡ sign ++ whole) × (decimals ≡ [])) ⊎ (text ≡ sign ++ whole ++ 46 ∷ decimals) → (rest : List ℕ) × (text ≡ sign ++ rest) × (((rest ≡ whole) × (decimals ≡ [])) ⊎ (rest ≡ whole ++ 46 ∷ decimals))
+unsigned_parts : (text sign whole decimals : List ℕ)
+    → ((text ≡ sign ++ whole) × (decimals ≡ [])) ⊎ (text ≡ sign ++ whole ++ 46 ∷ decimals)
+    → (rest : List ℕ) × (text ≡ sign ++ rest) × (((rest ≡ whole) × (decimals ≡ [])) ⊎ (rest ≡ whole ++ 46 ∷ decimals))
 unsigned_parts text sign whole decimals (inl h) = (whole, h.0, inl (refl, h.1))
 unsigned_parts text sign whole decimals (inr h) = (whole ++ 46 ∷ decimals, h ∙ append_assoc sign whole (46 ∷ decimals), inr refl)
 
-again_from : (text sign rest : List ℕ) (negative : Bool) (whole decimals : List ℕ) → text ≡ sign ++ rest → SpellsSign negative sign → HasDigits rest whole decimals → depth_of text ≡ Some (hundredths negative (whole, decimals))
+again_from : (text sign rest : List ℕ) (negative : Bool) (whole decimals : List ℕ) → text ≡ sign ++ rest
+    → SpellsSign negative sign → HasDigits rest whole decimals
+    → depth_of text ≡ Some (hundredths negative (whole, decimals))
 unfolding depth_of
 again_from text sign rest true whole decimals e signed h =
     ap depth_of (e ∙ ap (λ (s : List ℕ). s ++ rest) signed) ∙ ap (option_map (hundredths true)) (digits_of_again rest whole decimals h)

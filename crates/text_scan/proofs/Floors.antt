@@ -40,14 +40,16 @@ times-neg (suc k) unit = refl
 after-neg : (k : ℕ) → neg_ℤ (pos (suc k)) +ℤ pos 1 ≡ neg_ℤ (pos k)
 after-neg k = omega (arith, ints)
 
-floor_up_from : (amount unit c : ℕ) → 0 < unit → amount ≤ c * unit → c * unit < amount + unit → IsFloor (neg_ℤ (pos amount)) unit (neg_ℤ (pos c))
+floor_up_from : (amount unit c : ℕ) → 0 < unit → amount ≤ c * unit → c * unit < amount + unit
+    → IsFloor (neg_ℤ (pos amount)) unit (neg_ℤ (pos c))
 floor_up_from amount unit zero some low high =
     let above : neg_ℤ (pos amount) <ℤ pos (1 * unit) = omega (arith, ints) in
     record { at_most = rw (times-neg zero unit) (omega (arith, ints)); greatest = above }
 floor_up_from amount unit (suc k) some low high =
     record { at_most = rw (times-neg (suc k) unit) (omega (arith, ints)); greatest = rw (after-neg k, times-neg k unit) (omega (arith, ints)) }
 
-pub floor_up : (amount unit : ℕ) → 0 < unit → IsFloor (neg_ℤ (pos amount)) unit (neg_ℤ (pos ((amount + (unit - 1)) / unit)))
+pub floor_up : (amount unit : ℕ) → 0 < unit
+    → IsFloor (neg_ℤ (pos amount)) unit (neg_ℤ (pos ((amount + (unit - 1)) / unit)))
 floor_up amount unit some =
     let parts = div-add-mod' (amount + (unit - 1)) unit in
     floor_up_from amount unit ((amount + (unit - 1)) / unit) some (omega (arith, parts)) (omega (arith, parts))
@@ -58,7 +60,8 @@ pub floor_small : (amount places : ℕ) → amount < 10 ^ (6 + places) → 100 *
 floor_small amount places small =
     div_below (100 * amount) (10 ^ places) (10 ^ 8) (one-le-pow places 10 (lit< tt)) (omega (arith, pow-add 10 6 places))
 
-pub ceiling_small : (amount places : ℕ) → amount < 10 ^ (6 + places) → (100 * amount + (10 ^ places - 1)) / 10 ^ places < 10 ^ 8 + 1
+pub ceiling_small : (amount places : ℕ) → amount < 10 ^ (6 + places)
+    → (100 * amount + (10 ^ places - 1)) / 10 ^ places < 10 ^ 8 + 1
 ceiling_small amount places small =
     div_below (100 * amount + (10 ^ places - 1)) (10 ^ places) (10 ^ 8 + 1) (one-le-pow places 10 (lit< tt)) (omega (arith, pow-add 10 6 places, one-le-pow places 10 (lit< tt)))
 

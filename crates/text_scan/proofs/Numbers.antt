@@ -1,16 +1,19 @@
 -- A number is read as it is spelled.
-use Rattle.std.proofs.Common.{◌≡◌, ℕ, ◌<◌, ◌≤◌, Bool, true, false, ltb, leb, eqb, ◌&&◌, ◌↔◌, ◌^◌, List, [], ◌∷◌, length, Option, Some, None, refl, sym, ap, ◌∙◌, inl, inr, arith}
+use Rattle.std.proofs.Common.{◌≡◌, ℕ, ◌<◌, ◌≤◌, Bool, true, false, ltb, leb, eqb, ◌&&◌, ◌↔◌, ◌^◌, List, [], ◌∷◌, length}
+use Rattle.std.proofs.Common.{Option, Some, None, refl, sym, ap, ◌∙◌, inl, inr, arith}
 use Rattle.std.specs.Prelude.{option_map, ℤ, pos, neg_ℤ, IfSome}
 use Rattle.std.specs.Str.{all_ascii_digits}
 use Rattle.std.specs.Char.{is_ascii_digit}
-use Rattle.std.proofs.lemmas.Bool.{ltb-true, lt-ltb, leb-true, le-leb, eqb-true, and_parts, true≢false, false_from_ne_true}
+use Rattle.std.proofs.lemmas.Bool.{ltb-true, lt-ltb, leb-true, le-leb, eqb-true, and_parts, true≢false}
+use Rattle.std.proofs.lemmas.Bool.{false_from_ne_true}
 use Rattle.text_scan.specs.Number.{IsNumber, value_of, number_of, SpellsSigned, signed_of}
 use Rattle.text_scan.proofs.Scans.{chosen, value_short, AllDigits-from_test, test_from_AllDigits}
 
 pub some_is : {A : Type 0} (x y : A) → ◌≡◌ {A = Option A} (Some x) (Some y) → x ≡ y
 some_is x y e = cc
 
-pub map_some : {A B : Type 0} (f : A → B) (o : Option A) (y : B) → option_map f o ≡ Some y → (x : A) × (o ≡ Some x) × (f x ≡ y)
+pub map_some : {A B : Type 0} (f : A → B) (o : Option A) (y : B) → option_map f o ≡ Some y
+    → (x : A) × (o ≡ Some x) × (f x ≡ y)
 map_some f None y e = absurd cc
 map_some f (Some x) y e = (x, refl, cc)
 
@@ -36,7 +39,8 @@ number_of_again text is =
     let all : all_ascii_digits text ≡ true = test_from_AllDigits text is.0.1 in
     rw (some, short, all) refl
 
-pub is_number_iff : (text : List ℕ) (all : Bool) → 0 < length text → length text ≤ 18 → all ≡ all_ascii_digits text → (all ≡ true) ↔ IsNumber text
+pub is_number_iff : (text : List ℕ) (all : Bool) → 0 < length text → length text ≤ 18 → all ≡ all_ascii_digits text
+    → (all ≡ true) ↔ IsNumber text
 is_number_iff text all some short same =
     (λ h. ((some, AllDigits-from_test text (sym same ∙ h)), short), λ is. same ∙ test_from_AllDigits text is.0.1)
 

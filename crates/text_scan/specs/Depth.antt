@@ -1,7 +1,8 @@
 -- Depths in text: decimals of a unit, in hundredths of it.
 use Rattle.std.specs.Prelude.{◌≡◌, ℕ, ◌+◌, ◌-◌, ◌*◌, ◌/◌, ◌^◌, ◌≤◌, ◌⊎◌, Bool, true, false, ◌&&◌, ◌==◌, nat_lt}
-use Rattle.std.specs.Prelude.{nat_le, if◌then◌else◌, List, [], ◌∷◌, ◌++◌, length, Option, Some, None, option_map}
+use Rattle.std.specs.Prelude.{nat_le, if◌then◌else◌, List, [], ◌∷◌, ◌++◌, length, drop, Option, Some, None, option_map}
 use Rattle.std.specs.Prelude.{option_and_then, ℤ, pos, neg_ℤ, ◌+ℤ◌, ◌*ℤ◌, ◌≤ℤ◌, ◌<ℤ◌}
+use Rattle.std.specs.List.{prefix_len, take_while}
 use Rattle.std.specs.Char.{is_ascii_digit}
 use Rattle.std.specs.Str.{all_ascii_digits}
 use Rattle.std.specs.Str.Parse.{AllDigits}
@@ -37,11 +38,9 @@ pub record SpellsDepth (text : List ℕ) (depth : ℤ) : Type 0 where
 
 -- ---- as a function
 
--- the digits at the front, and what follows them
-unfoldable pub digits_and_rest : List ℕ → List ℕ × List ℕ
-digits_and_rest [] = ([], [])
-digits_and_rest (x ∷ xs) =
-    if is_ascii_digit x then (x ∷ (digits_and_rest xs).0, (digits_and_rest xs).1) else ([], x ∷ xs)
+-- what follows the digits at the front
+abbrev pub behind_digits : List ℕ → List ℕ
+behind_digits text = drop (prefix_len is_ascii_digit text) text
 
 -- the decimals in what follows the digits: nothing, or `.` and digits
 unfoldable pub decimals_of : List ℕ → Option (List ℕ)
@@ -51,10 +50,10 @@ decimals_of (first ∷ rest) = if first == 46 && all_ascii_digits rest then Some
 -- the digits of a decimal without a sign, before and behind the point
 unfoldable pub digits_of : List ℕ → Option (List ℕ × List ℕ)
 digits_of text =
-    option_and_then (λ decimals. let whole = (digits_and_rest text).0 in
+    option_and_then (λ decimals. let whole = take_while is_ascii_digit text in
     if nat_le (length whole) 6 && (nat_le (length decimals) 20 && nat_lt 0 (length whole + length decimals))
     then Some (whole, decimals) else None)
-    (decimals_of (digits_and_rest text).1)
+    (decimals_of (behind_digits text))
 
 -- the hundredths of a decimal, rounded down
 abbrev pub hundredths : Bool → List ℕ × List ℕ → ℤ

@@ -1,10 +1,10 @@
 //! Digits, and the numbers that they write.
 
-ghost use Rattle.std.specs.Prelude.{◌≡◌, ◌+◌, ◌^◌, ◌<◌, ◌≤◌, length, take, drop, position, not, IsTrue};
+ghost use Rattle.std.specs.Prelude.{◌≡◌, ◌+◌, ◌^◌, ◌<◌, ◌≤◌, length, take, IsTrue};
+ghost use Rattle.std.specs.List.{prefix_len};
 ghost use Rattle.std.specs.Char.{is_ascii_digit};
 ghost use Rattle.std.specs.Str.{all_ascii_digits};
 ghost use Rattle.std.specs.Str.Parse.{digits_value_after};
-ghost use Rattle.text_scan.specs.Depth.{digits_and_rest};
 
 /// Whether the text is digits alone.
 pub fn are_digits(text: &[u8]) -> bool
@@ -18,23 +18,13 @@ pub fn are_digits(text: &[u8]) -> bool
     true
 }
 
-/// Where the first byte stands that is no digit.
-fn place_of_other(text: &[u8]) -> Option<usize>
-    ensures { result ≡ position (λ byte. not (is_ascii_digit byte)) text.now }
-{
-    text.iter().position(|byte| !byte.is_ascii_digit())
-}
-
 /// How many digits stand in front.
 pub fn digit_count(text: &[u8]) -> usize
-    ensures parts { digits_and_rest text.now ≡ (take result text.now, drop result text.now) }
+    ensures count { result ≡ prefix_len is_ascii_digit text.now }
     ensures within { result ≤ length text.now }
     ensures digits { IsTrue (all_ascii_digits (take result text.now)) }
 {
-    match place_of_other(text) {
-        Some(at) => at,
-        None => text.len(),
-    }
+    text.iter().take_while(|byte| byte.is_ascii_digit()).count()
 }
 
 /// The number that these digits write behind those of another.

@@ -1,6 +1,6 @@
 //! Whether a change fits the cell.
 
-ghost use Rattle.std.specs.Prelude.{◌≡◌, IsTrue, if◌then◌else◌};
+ghost use Rattle.std.specs.Prelude.{◌≡◌, IsTrue, None, [], if◌then◌else◌};
 ghost use Rattle.chart_model.specs.Answers.{first_of, when};
 ghost use Rattle.update_apply.specs.Fault as spec;
 
@@ -173,11 +173,25 @@ fn mixed_fault(
     when(so, ChangeFault::Mixed { name })
 }
 
+/// Whether a change edits no list: most set attributes alone.
+fn edits_nothing(change: &UpdateRecord) -> bool
+    ensures edits { IsTrue result → (change.now.pointer_edit ≡ None) × (change.now.coord_edit ≡ None)
+        × (change.now.related_edit ≡ None) }
+    ensures items { IsTrue result → (change.now.pointers ≡ []) × (change.now.coords ≡ []) × (change.now.related ≡ []) }
+{
+    change.pointer_edit.is_none()
+        && change.coord_edit.is_none()
+        && change.related_edit.is_none()
+        && change.pointers.as_slice().is_empty()
+        && change.coords.as_slice().is_empty()
+        && change.related.as_slice().is_empty()
+}
+
 /// The first fault of the three edits of a modification.
 fn edits_fault(change: &UpdateRecord, kept: &Kept) -> Option<ChangeFault>
     ensures { result ≡ spec.edits_fault change.now kept.now }
 {
-    if change.ruin != MODIFY {
+    if change.ruin != MODIFY || edits_nothing(change) {
         return None;
     }
     let name = change.target;

@@ -21,12 +21,12 @@ use Rattle.update_sequence.proofs.DataSets.{ok_is}
 
 -- ---- steps that succeed
 
-bind-ok : (r : Result CellValue BuildFault) (next : CellValue → Result CellValue BuildFault) (cell : CellValue) → (r >>= next) ≡ Ok cell →
+pub bind-ok : (r : Result CellValue BuildFault) (next : CellValue → Result CellValue BuildFault) (cell : CellValue) → (r >>= next) ≡ Ok cell →
     (x : CellValue) × (r ≡ Ok x) × (next x ≡ Ok cell)
 bind-ok (Ok x) next cell e = (x, refl, e)
 bind-ok (Err fault) next cell e = absurd cc
 
-unless-ok : {F : Type 0} (wrap : F → BuildFault) (fault : Option F) (x cell : CellValue) → unless (option_map wrap fault) x ≡ Ok cell → (fault ≡ None) × (x ≡ cell)
+pub unless-ok : {F : Type 0} (wrap : F → BuildFault) (fault : Option F) (x cell : CellValue) → unless (option_map wrap fault) x ≡ Ok cell → (fault ≡ None) × (x ≡ cell)
 unless-ok wrap None x cell e = (refl, ok_is e)
 unless-ok wrap (Some fault) x cell e = absurd cc
 

@@ -12,4 +12,5 @@ mod Held
 mod OneName
 mod LocalChanges
 mod OtherRecords
+mod NamedRecords
 mod NameLists

@@ -51,7 +51,7 @@ changed_in-others {V} inserted modified records change other apart =
     ]
 
 -- a change of another name leaves the records of a name
-changed-others : (cell : CellValue) (change : Change) (other : Name) → eq_by_cmp name_cmp other change.target ≡ false →
+pub changed-others : (cell : CellValue) (change : Change) (other : Name) → eq_by_cmp name_cmp other change.target ≡ false →
     HasSame cell (changed cell change) other
 changed-others cell change other apart =
     elim (is_feature change.target) as (λ b. HasSame cell (if b

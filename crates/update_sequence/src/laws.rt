@@ -4,7 +4,7 @@ ghost use Rattle.std.specs.Prelude.{◌≡◌, ◌≢◌, ◌⊎◌, ◌↔◌, 
 ghost use Rattle.std.specs.Option.{option_map};
 ghost use Rattle.std.specs.Result.{IsOk, result_ok};
 ghost use Rattle.chart_closure.specs.Closed.{IsClosed};
-ghost use Rattle.update_sequence.specs.Others.{HasSame};
+ghost use Rattle.update_sequence.specs.Others.{HasSame, HasOther, delete_none};
 ghost use Rattle.chart_model.specs.Answers.{unless};
 ghost use Rattle.chart_model.specs.Cell.{CellValue, IsCell};
 ghost use Rattle.chart_model.specs.Change.{Change, IsChange};
@@ -122,4 +122,12 @@ pub fn changes_are_made_in_turn()
 pub fn other_records_stay()
     ensures { (chart after : CellValue) (dataset : DatasetValue) (name : Name) → built (Some chart) dataset ≡ Ok after →
         Contains (map (λ change. change.target) dataset.changes) name ⊎ HasSame chart after name }
+{}
+
+/// Where no change of an update deletes a record, there is another record under each name that one of them has: an
+/// insertion puts one where none was, and a modification raises the version.
+pub fn named_records_differ()
+    ensures { (chart after : CellValue) (dataset : DatasetValue) (name : Name) → built (Some chart) dataset ≡ Ok after →
+        delete_none dataset.changes ≡ true → Contains (map (λ change. change.target) dataset.changes) name →
+        HasOther chart after name }
 {}

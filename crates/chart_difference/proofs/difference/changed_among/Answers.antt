@@ -6,5 +6,6 @@ use Rattle.chart_difference.proofs.difference.changed_among.Goals as goal
 pub returns : goal.returns
 returns c =
     kept-are (AreChanged (option_copied c.args.old) (option_copied c.args.new)) c.keep_changed.result c.keep_changed.ensures
-    (changed-among (option_copied c.args.old) (option_copied c.args.new) c.args.names.items c.sort_unstable.new.self.items c.dedup.new.self.items
-    c.requires c.sort_unstable.ensures.permutation c.sort_unstable.ensures.sorted c.dedup.ensures.filtered)
+    (rw c.into_vec.ensures
+    (changed-among (option_copied c.args.old) (option_copied c.args.new) c.args.names.items c.in_order_once.result
+    c.requires c.in_order_once.ensures.rising c.in_order_once.ensures.same))

@@ -49,11 +49,11 @@ returns-clause-after c =
     c.dataset.inside.header.key keyed c.requires.held builds c.with_file.result c.with_file.ensures.after
 
 pub returns-clause-changed : goal.returns-clause-changed
-returns-clause-changed c =
+returns-clause-changed c = λ named.
     let keyed = ap (λ (d : DatasetValue). d.header.key) c.dataset.view_is in
     let found = chart-found c.args.live.now.cells _ _ _ _ _ c.chart_of-before.ensures c.get.ensures c.cells.ensures.cells keyed in
     changed-in c.with_file.result _ c.in_ok-chart.chart c.in_ok-changed.changed c.with_file.ensures.changed
     c.with_file.ensures.chart
     (subst (λ (chart : Option CellValue). AreChanged chart c.in_ok-chart.chart c.in_ok-changed.changed) found
     (subst (λ (chart : Option CellValue). AreChanged (option_copied c.chart_of-before.result) chart c.in_ok-changed.changed) c.as_ref.ensures.value
-    c.in_ok-changed.ensures))
+    (c.in_ok-changed.ensures named)))

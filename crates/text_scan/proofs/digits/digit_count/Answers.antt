@@ -1,18 +1,20 @@
-use Rattle.std.proofs.Common.{length, sym, ◌∙◌}
-use Rattle.text_scan.proofs.Scans.{digits_and_rest-found, digits_and_rest-missed, digits_in_front}
+use Rattle.std.proofs.Common.{take, ap, ◌∙◌, rules, tests}
+use Rattle.std.specs.Char.{is_ascii_digit}
+use Rattle.std.specs.Str.{all_ascii_digits}
+use Rattle.std.proofs.lemmas.Iterator.{YieldsList-from_slice}
+use Rattle.std.proofs.lemmas.Iterator.Consumers.{count_from_yields_List}
+use Rattle.std.proofs.lemmas.Iterator.Search.{YieldsList-from_take_while}
+use Rattle.std.proofs.lemmas.List.Folds.{length-prefix_len}
+use Rattle.text_scan.proofs.Scans.{front_is_digits}
 use Rattle.text_scan.proofs.digits.digit_count.Goals as goal
 
-pub returns-in-Some-clause-parts : goal.returns-in-Some-clause-parts
-returns-in-Some-clause-parts c =
-    digits_and_rest-found c.args.text.now c.in-Some.at (sym c.place_of_other.ensures ∙ c.in-Some.is)
+pub returns-clause-count : goal.returns-clause-count
+returns-clause-count c =
+    count_from_yields_List c.take_while.result _ c.count.ensures.ran
+    (YieldsList-from_take_while _ is_ascii_digit (YieldsList-from_slice c.args.text.now cc)
+    c.take_while.ensures.closure c.take_while.ensures.done (λ x b q k. search (rules, tests)))
+    ∙ length-prefix_len is_ascii_digit c.args.text.now
 
-pub returns-in-Some-clause-digits : goal.returns-in-Some-clause-digits
-returns-in-Some-clause-digits c =
-    digits_in_front c.args.text.now c.in-Some.at (digits_and_rest-found c.args.text.now c.in-Some.at (sym c.place_of_other.ensures ∙ c.in-Some.is))
-
-pub returns-in-None-clause-parts : goal.returns-in-None-clause-parts
-returns-in-None-clause-parts c = digits_and_rest-missed c.args.text.now (sym c.place_of_other.ensures ∙ c.in-None.is)
-
-pub returns-in-None-clause-digits : goal.returns-in-None-clause-digits
-returns-in-None-clause-digits c =
-    digits_in_front c.args.text.now (length c.args.text.now) (digits_and_rest-missed c.args.text.now (sym c.place_of_other.ensures ∙ c.in-None.is))
+pub returns-clause-digits : goal.returns-clause-digits
+returns-clause-digits c =
+    ap (λ n. all_ascii_digits (take n c.args.text.now)) (returns-clause-count c) ∙ front_is_digits c.args.text.now

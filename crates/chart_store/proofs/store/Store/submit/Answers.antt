@@ -1,4 +1,4 @@
-use Rattle.std.proofs.Common.{◌≡◌, Option, Ok, Err, sym, ap, ◌∙◌, subst, arith}
+use Rattle.std.proofs.Common.{◌≡◌, Option, Ok, Err, refl, sym, ap, ◌∙◌, subst, arith}
 use Rattle.std.specs.FinMap as map
 use Rattle.chart_difference.specs.Difference.{AreChanged}
 use Rattle.chart_model.specs.Answers.{FailsBy}
@@ -133,7 +133,7 @@ returns-clause-changed g c =
     ∙ get-with live.cells next.key next.holding in
     subst (λ (holding : Option Holding).
     AreChanged (chart_of (map.get live.cells next.key)) (chart_of holding) next.changed) (sym here)
-    c.in_ok-key.ensures.changed
+    (c.in_ok-key.ensures.changed refl)
 
 pub returns-clause-kept : goal.returns-clause-kept
 returns-clause-kept g c = λ tells _.
