@@ -6,3 +6,4 @@ mod Lines
 mod Steps
 mod Runs
 mod Answering
+mod Opening

@@ -65,7 +65,7 @@ padding files script = replicate (length (lines script)) (fetches_of files false
 padding-serves : (files : Files) (script : List ℕ) → All Serves (padding files script)
 padding-serves files script = All-replicate Serves (length (lines script)) (fetches_of files false) (λ name e. cc)
 
-padding-told : (tells : Bool) (files : Files) (script : List ℕ) → All (IsAnswer tells files) (padding files script)
+pub padding-told : (tells : Bool) (files : Files) (script : List ℕ) → All (IsAnswer tells files) (padding files script)
 padding-told tells files script = All-replicate (IsAnswer tells files) (length (lines script)) (fetches_of files false) (λ t. (false, refl))
 
 pub steps_of-start : (model : Model) (script : List ℕ) (answers : List Fetches) → steps_of model script answers ≡ steps_from model 1 (lines script) answers
@@ -102,6 +102,10 @@ covers-all files model script answers steps e = record {
   mild = refl;
 }
 
+-- no step was taken
+pub covers-none : TellsFailure → (files : Files) (model : Model) (script : List ℕ) → Covers files model script [] []
+covers-none law files model script = covers-first law files model script [] [] (record { model = model; number = 1; left = lines script; behind = refl })
+
 covers-front : (files : Files) (model : Model) (script : List ℕ) (answers : List Fetches) (steps : List Step) (said now : List ℕ)
     → (x : Covers files model script answers steps) → SaysFront said (output steps) now
     → SaysFront said (output (steps_of model script (answers ++ padding files script))) now
@@ -112,7 +116,7 @@ covers-front files model script answers steps said now x front =
 -- ---- what a run says
 
 -- a run that neither was done nor ended with its script
-other-says : (files : Files) (model : Model) (status : Status) (before : Outside) (left said : List ℕ) (faults : ℕ) (answers : List Fetches) (steps : List Step)
+pub other-says : (files : Files) (model : Model) (status : Status) (before : Outside) (left said : List ℕ) (faults : ℕ) (answers : List Fetches) (steps : List Step)
     → IsOther status → Covers files model before.left answers steps → SaysFront before.said (output steps) said
     → Says status (λ script. steps_of model script (answers ++ padding files before.left)) before (outside_of left said faults)
 other-says files model status before left said faults answers steps other x front = record {

@@ -147,24 +147,24 @@ last-ahead at fetches more h some =
     ap (λ (l : List ℕ). steps_from at.world.model at.number (lines l) (fetches ∷ more)) (append-nil at.line)
     ∙ steps-last at.world.model at.number at.line (fetches ∷ more) h some
 
-pub Finished-last : (tells : Bool) (files : Files) (Leaves : Moments) (at : Standing) (now : World) → Unbroken at.line → 0 < length at.line
-    → Answered tells files Leaves at.number at.line at.world now → Finished tells files Leaves at now
-Finished-last tells files Leaves at now h some x = record {
+pub Finished-last : (tells : Bool) (files : Files) (Leaves : Moments) (at : Standing) (shown : List ℕ) (now : World) → shown ≡ at.line → Unbroken at.line
+    → 0 < length at.line → Answered tells files Leaves at.number shown at.world now → Finished tells files Leaves at now
+Finished-last tells files Leaves at shown now same h some x = record {
   answers = x.fetches ∷ [];
-  steps = step_to x.fetches at.world.model at.number at.line ∷ [];
+  steps = step_to x.fetches at.world.model at.number shown ∷ [];
   taken = x.taken;
   after = x.after;
-  ahead = λ more. last-ahead at x.fetches more h some;
+  ahead = λ more. last-ahead at x.fetches more h some ∙ ap (λ (l : List ℕ). step_to x.fetches at.world.model at.number l ∷ []) (sym same);
 }
 
-pub Unfinished-last : (tells : Bool) (files : Files) (Leaves : Moments) (at : Standing) (now : World) → Unbroken at.line → 0 < length at.line
-    → Interrupted tells files Leaves at.number at.line at.world now → Unfinished tells files Leaves at now
-Unfinished-last tells files Leaves at now h some x = record {
+pub Unfinished-last : (tells : Bool) (files : Files) (Leaves : Moments) (at : Standing) (shown : List ℕ) (now : World) → shown ≡ at.line → Unbroken at.line
+    → 0 < length at.line → Interrupted tells files Leaves at.number shown at.world now → Unfinished tells files Leaves at now
+Unfinished-last tells files Leaves at shown now same h some x = record {
   answers = x.fetches ∷ [];
-  steps = step_to x.fetches at.world.model at.number at.line ∷ [];
+  steps = step_to x.fetches at.world.model at.number shown ∷ [];
   taken = x.taken;
   front = x.front;
-  ahead = λ more. last-ahead at x.fetches more h some;
+  ahead = λ more. last-ahead at x.fetches more h some ∙ ap (λ (l : List ℕ). step_to x.fetches at.world.model at.number l ∷ []) (sym same);
 }
 
 -- ---- the end within bytes
@@ -307,3 +307,15 @@ OnOk-map (Err e) P Q f h = tt
 pub OnErr-map : {T E : Type 0} (r : Result T E) (P Q : Type 0) → (P → Q) → OnErr r P → OnErr r Q
 OnErr-map (Ok x) P Q f h = tt
 OnErr-map (Err e) P Q f h = f h
+
+pub OnOk-from : {T E : Type 0} (r : Result T E) (P : Type 0) → P → OnOk r P
+OnOk-from (Ok x) P h = h
+OnOk-from (Err e) P h = tt
+
+-- ---- lengths that were tested
+
+pub emptied : (n : ℕ) → true ≡ eqb n 0 → n ≡ 0
+emptied n h = grind (arith, nat_tests)
+
+pub filled : (n : ℕ) → false ≡ eqb n 0 → 0 < n
+filled n h = grind (arith, nat_tests)

@@ -8,7 +8,7 @@ mod rounds;
 pub mod status;
 mod stop;
 
-ghost use Rattle.std.specs.Prelude.{◌≡◌, ◌≢◌, ◌+◌, ◌<◌, ◌≤◌, ◌⊎◌, ◌↔◌, [], List, ℕ, IsTrue, length, None, Ok, Err, IsSome};
+ghost use Rattle.std.specs.Prelude.{◌≡◌, ◌≢◌, ◌+◌, ◌<◌, ◌≤◌, ◌⊎◌, ◌↔◌, [], List, ℕ, IsTrue, length, map, string_bytes, None, Ok, Err, IsSome};
 ghost use Rattle.chart_ports.specs.Count.{IsSteady, Rose, RoseBy};
 ghost use Rattle.chart_ports.specs.Moments.{LeavesOnly, MayBeLeft, images_of};
 ghost use Rattle.chart_store.specs.Images.{Reading, read_of};
@@ -20,7 +20,9 @@ ghost use Rattle.ecdis_cli.specs.Run.{Ran, model_at, outside_of};
 use crate::run::opened::run_opened;
 use crate::run::status::Status;
 use chart_ports::{Desk, Shelf, Source, Steps};
+use chart_store::files_that_stand_are_read;
 use command_words::{WordsFault, read_words};
+use session_core::turns_follow_their_commands;
 use std::alloc::Global;
 use std::sync::ledger::Ledger;
 
@@ -38,9 +40,9 @@ pub fn run_ecdis<S: Source, L: Shelf, D: Desk, C: Ledger>(
     steps: &mut Steps<C>,
 ) -> Status
     // Words that don't fit end the run before anything is read, written or said, and no others do.
-    ensures words { result ≡ Status.Words → words_of words.now ≡ None }
-    ensures wordless { words_of words.now ≡ None → (result ≡ Status.Words) ⊎ (result ≡ Status.NoMemory) }
-    ensures untouched { words_of words.now ≡ None →
+    ensures words { result ≡ Status.Words → words_of (map string_bytes words.now) ≡ None }
+    ensures wordless { words_of (map string_bytes words.now) ≡ None → (result ≡ Status.Words) ⊎ (result ≡ Status.NoMemory) }
+    ensures untouched { words_of (map string_bytes words.now) ≡ None →
         (script.new ≡ script.old) × (shelf.new ≡ shelf.old) × (desk.new ≡ desk.old) }
 
     // From files that read as what is held, the output is the replies to the script's lines, all of them where the run
@@ -72,15 +74,18 @@ pub fn run_ecdis<S: Source, L: Shelf, D: Desk, C: Ledger>(
     ensures desk_later { D.faults desk.old ≤ D.faults desk.new }
 
     // Where none of these holds, the run is done, unless memory runs out.
-    ensures complete { IsSome (words_of words.now) → IsTrue S.tells → IsTrue D.tells → (opening : Reading) →
+    ensures complete { IsSome (words_of (map string_bytes words.now)) → IsTrue S.tells → IsTrue D.tells → (opening : Reading) →
         read_of (images_of (D.contents desk.old)) ≡ Ok opening → length (S.left script.old) ≤ SCRIPT_LIMIT →
         IsSteady (S.faults script.old) (S.faults script.new) → IsSteady (D.faults desk.old) (D.faults desk.new) →
         (result ≡ Status.Done) ⊎ (result ≡ Status.NoMemory) }
 {
+    files_that_stand_are_read();
+    turns_follow_their_commands();
     match read_words(alloc, words) {
+        Err(WordsFault::Refused) => return Status::Words,
+        Err(WordsFault::NoMemory) => return Status::NoMemory,
         // The catalogue and the table are not asked for yet.
-        Ok(_) => run_opened(alloc, script, shelf, desk, steps),
-        Err(WordsFault::Refused) => Status::Words,
-        Err(WordsFault::NoMemory) => Status::NoMemory,
+        Ok(_) => {}
     }
+    run_opened(alloc, script, shelf, desk, steps)
 }

@@ -12,7 +12,7 @@ use crate::run::rounds::run_script;
 use crate::run::status::Status;
 use chart_ports::{Desk, Shelf, Source, Steps};
 use chart_store::{files_that_stand_are_read, open_store};
-use session_core::Session;
+use session_core::{Session, turns_follow_their_commands};
 use std::alloc::Global;
 use std::sync::ledger::Ledger;
 
@@ -51,6 +51,7 @@ pub fn run_opened<S: Source, L: Shelf, D: Desk, C: Ledger>(
     ensures desk_later { D.faults desk.old ≤ D.faults desk.new }
 {
     files_that_stand_are_read();
+    turns_follow_their_commands();
     let store = match open_store(alloc, desk, steps) {
         Ok(store) => store,
         Err(fault) => return Status::of_opening(fault),

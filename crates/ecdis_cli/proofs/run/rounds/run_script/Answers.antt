@@ -1,11 +1,12 @@
 -- The run goes on by the bytes that were pulled.
-use Rattle.std.proofs.Common.{◌≡◌, ◌≤◌, [], length-take-le, arith, refl, ap, ◌∙◌, inl}
+use Rattle.std.proofs.Common.{◌≡◌, ◌≤◌, ℕ, [], length-take-le, arith, refl, sym, ap, subst, ◌∙◌, inl}
 use Rattle.std.specs.Prelude.{Ok}
 use Rattle.chart_ports.specs.Moments.{LeavesOnly, MayBeLeft}
 use Rattle.session_core.specs.Session.{model_of}
+use Rattle.session_core.specs.declared.session.Session.{Session}
 use Rattle.ecdis_cli.specs.Run.{outside_of}
 use Rattle.ecdis_cli.specs.Standing.{standing}
-use Rattle.ecdis_cli.specs.World.{Standing, at_start, world_of}
+use Rattle.ecdis_cli.specs.World.{IsReady, Standing, at_start, world_of}
 use Rattle.ecdis_cli.proofs.Steps.{Advanced-start}
 use Rattle.ecdis_cli.proofs.Taking.{quiet, rose-fewer}
 use Rattle.ecdis_cli.proofs.Runs.{Underway-start, Underway-next, Underway-fault, Underway-long, Underway-halted, Underway-done, Underway-cut, pull-part, pull-whole, length-pull, given-more, read-within}
@@ -21,7 +22,11 @@ loop-round-init g c = record {
       (quiet g.D.Desk.clock g.D.Desk.might desk (g.D.Desk.may_leave desk) (g.D.Desk.said desk) before.world.model.state
       (λ images so_far left. g.met.D.Desk.only_now desk images so_far d left)
       (λ images left. c.kept_stores_are_read.ensures.stands desk _ images (c.requires.ready.kept d) left)));
-  ready = c.requires.ready;
+  ready =
+      subst (λ (n : ℕ). IsReady g.D.Desk.tells (g.D.Desk.contents c.args.desk.now) (g.D.Desk.may_leave c.args.desk.now) n c.new-reader.result.session)
+      (sym (ap (λ (at : Standing). at.number) (c.new-reader.ensures.start [] 0)))
+      (subst (λ (session : Session). IsReady g.D.Desk.tells (g.D.Desk.contents c.args.desk.now) (g.D.Desk.may_leave c.args.desk.now) 1 session)
+      (sym c.new-reader.ensures.session) c.requires.ready);
   counted = λ s. omega arith;
   number = omega (arith, ap (λ (at : Standing). at.number) (c.new-reader.ensures.start [] 0));
   rounds = omega arith;

@@ -13,7 +13,7 @@ use Rattle.ecdis_cli.proofs.run.rounds.run_script.Given as goal
 abbrev pub invariant-loop-round : goal.invariant-loop-round
 invariant-loop-round g l = record {
   underway : IsTrue g.S.Source.tells → IsTrue g.D.Desk.tells → Underway g.D.Desk.clock g.D.Desk.might g.L.Shelf.tells (g.L.Shelf.files l.initial.shelf)
-      (model_of l.initial.session) (outside_of (g.S.Source.left l.initial.script) (g.D.Desk.said l.initial.desk) (g.L.Shelf.faults l.initial.shelf))
+      (model_of l.fn.session) (outside_of (g.S.Source.left l.initial.script) (g.D.Desk.said l.initial.desk) (g.L.Shelf.faults l.initial.shelf))
       l.initial.desk l.desk (g.S.Source.left l.script) (standing l.reader (g.D.Desk.said l.desk) (g.L.Shelf.faults l.shelf));
   ready : IsReady g.D.Desk.tells (g.D.Desk.contents l.desk) (g.D.Desk.may_leave l.desk) l.reader.number l.reader.session;
   counted : IsTrue g.S.Source.tells → length (g.S.Source.left l.initial.script) + l.room ≡ SCRIPT_LIMIT + length (g.S.Source.left l.script);

@@ -4,7 +4,7 @@ use Rattle.std.proofs.lemmas.List.{nil_from_length}
 use Rattle.chart_ports.specs.Moments.{LeavesOnly}
 use Rattle.ecdis_cli.specs.World.{world_of}
 use Rattle.ecdis_cli.specs.Standing.{standing}
-use Rattle.ecdis_cli.proofs.Steps.{Finished-none, Finished-last, Unfinished-last, OnOk-map, OnErr-map}
+use Rattle.ecdis_cli.proofs.Steps.{Finished-none, Finished-last, Unfinished-last, OnOk-map, OnErr-map, emptied, filled}
 use Rattle.ecdis_cli.proofs.Taking.{quiet}
 use Rattle.ecdis_cli.proofs.run.reader.Reader.finish.Goals as goal
 
@@ -16,14 +16,14 @@ returns-then-is_empty-clause-ok g c = λ d.
     (quiet g.D.Desk.clock g.D.Desk.might desk (g.D.Desk.may_leave desk) (g.D.Desk.said desk) at.world.model.state
     (λ images so_far left. g.met.D.Desk.only_now desk images so_far d left)
     (λ images left. c.kept_stores_are_read.ensures.stands desk _ images (c.requires.ready.kept d) left))
-    (nil_from_length _ (omega arith))
+    (nil_from_length _ (omega (arith, emptied _ c.if-is_empty.ensures)))
 
 pub returns-clause-ok : goal.returns-clause-ok
 returns-clause-ok g c = λ d.
     let at = standing c.args.self.now (g.D.Desk.said c.args.desk.now) (g.L.Shelf.faults c.args.shelf.now) in
     let now = world_of c.answer.new.session (g.D.Desk.said c.answer.new.desk) (g.L.Shelf.faults c.answer.new.shelf) in
     OnOk-map c.answer.result _ _
-    (Finished-last _ _ (LeavesOnly g.D.Desk.clock g.D.Desk.might c.args.desk.now c.answer.new.desk) at now c.args.self.now.unbroken (omega arith))
+    (Finished-last _ _ (LeavesOnly g.D.Desk.clock g.D.Desk.might c.args.desk.now c.answer.new.desk) at _ now c.deref.ensures.value c.args.self.now.unbroken (omega (arith, filled _ c.if-is_empty.ensures)))
     (c.answer.ensures.said d)
 
 pub returns-clause-err : goal.returns-clause-err
@@ -31,5 +31,5 @@ returns-clause-err g c = λ d.
     let at = standing c.args.self.now (g.D.Desk.said c.args.desk.now) (g.L.Shelf.faults c.args.shelf.now) in
     let now = world_of c.answer.new.session (g.D.Desk.said c.answer.new.desk) (g.L.Shelf.faults c.answer.new.shelf) in
     OnErr-map c.answer.result _ _
-    (Unfinished-last _ _ (LeavesOnly g.D.Desk.clock g.D.Desk.might c.args.desk.now c.answer.new.desk) at now c.args.self.now.unbroken (omega arith))
+    (Unfinished-last _ _ (LeavesOnly g.D.Desk.clock g.D.Desk.might c.args.desk.now c.answer.new.desk) at _ now c.deref.ensures.value c.args.self.now.unbroken (omega (arith, filled _ c.if-is_empty.ensures)))
     (c.answer.ensures.front d)

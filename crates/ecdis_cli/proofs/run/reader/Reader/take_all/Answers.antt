@@ -1,6 +1,8 @@
 -- Nothing was taken yet; then one byte more.
-use Rattle.std.proofs.Common.{arith, refl, ◌∙◌}
+use Rattle.std.proofs.Common.{ℕ, List, arith, refl, subst, ◌∙◌}
+use Rattle.std.proofs.lemmas.List.{take_all}
 use Rattle.chart_ports.specs.Moments.{LeavesOnly}
+use Rattle.ecdis_cli.specs.Progress.{Advanced}
 use Rattle.ecdis_cli.specs.World.{world_of}
 use Rattle.ecdis_cli.specs.Standing.{standing}
 use Rattle.ecdis_cli.proofs.Steps.{Advanced-start, Advanced-next, Stopped-next, OnErr-from}
@@ -41,3 +43,11 @@ loop-byte-preserved g c = record {
   shelf_later = omega arith;
   desk_later = omega arith;
 }
+
+pub returns-clause-ok : goal.returns-clause-ok
+returns-clause-ok g c = λ d.
+    subst (λ (bytes : List ℕ). Advanced g.L.Shelf.tells (g.L.Shelf.files c.args.shelf.now)
+    (LeavesOnly g.D.Desk.clock g.D.Desk.might c.args.desk.now c.loop-byte.desk)
+    (standing c.args.self.now (g.D.Desk.said c.args.desk.now) (g.L.Shelf.faults c.args.shelf.now)) bytes
+    (standing c.loop-byte.self (g.D.Desk.said c.loop-byte.desk) (g.L.Shelf.faults c.loop-byte.shelf)))
+    (take_all c.loop-byte.byte-index c.args.bytes.now (omega arith)) (c.loop-byte.invariant.advanced d)

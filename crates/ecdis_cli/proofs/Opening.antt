@@ -1,0 +1,160 @@
+-- The run over a store that was opened, or that wasn't.
+use Rattle.std.proofs.Common.{◌≡◌, ◌≢◌, ℕ, ◌<◌, ◌≤◌, ◌⊎◌, Bool, false, List, [], ◌∷◌, ◌++◌, length, refl, sym, ◌∙◌, ap, subst, arith, inl, inr, ⊎_elim}
+use Rattle.std.specs.Prelude.{Option, Some, None, Result, Ok, Err}
+use Rattle.std.specs.Str.Lines.{lines}
+use Rattle.std.proofs.lemmas.List.{length-replicate}
+use Rattle.std.proofs.lemmas.List.Elements.{All-nil}
+use Rattle.chart_model.specs.State.{StateValue}
+use Rattle.chart_ports.specs.Count.{IsSteady, Rose, RoseBy}
+use Rattle.chart_ports.specs.Moments.{LeavesOnly, MayBeLeft, images_of}
+use Rattle.chart_ports.specs.declared.images.Images.{Images}
+use Rattle.chart_ports.proofs.Moments.{and_then, started, weaker}
+use Rattle.chart_store.specs.Images.{Place, Reading, StandFor, read_of}
+use Rattle.chart_store.specs.Store.{LeavesBefore, LeavesReading}
+use Rattle.session_core.specs.Fetch.{Files, Fetches, fetches_of}
+use Rattle.session_core.specs.Model.{Model}
+use Rattle.chart_store.specs.declared.open_fault.OpenFault.{OpenFault}
+use Rattle.chart_store.specs.declared.open_fault.OpenFault.TheVariants as of_opening
+use Rattle.ecdis_cli.specs.declared.run.status.Status.{Status}
+use Rattle.ecdis_cli.specs.declared.run.status.Status.TheVariants as status
+use Rattle.ecdis_cli.specs.Stop.{status_of_opening}
+use Rattle.ecdis_cli.specs.Crash.{LeavesPrefix}
+use Rattle.ecdis_cli.specs.Run.{Outside, Ran, model_at, outside_of}
+use Rattle.ecdis_cli.specs.Script.{failures_in, steps_of}
+use Rattle.ecdis_cli.specs.Step.{Step}
+use Rattle.ecdis_cli.proofs.Crashes.{prefix-extended, prefix-none}
+use Rattle.ecdis_cli.proofs.Failures.{TellsFailure}
+use Rattle.ecdis_cli.proofs.Runs.{Covers, IsOther, covers-none, other-says, padding, padding-told}
+use Rattle.ecdis_cli.proofs.Taking.{front-none, rose-none}
+
+-- files that read stand for what they read as
+abbrev pub ReadStands : Type 0
+ReadStands = (images : Images) (state : StateValue) (used : ℕ) → read_of images ≡ Ok (record { state = state; used = used }) → StandFor images state
+
+ok-same : (a b : Reading) → ◌≡◌ {A = Result Reading Place} (Ok a) (Ok b) → a ≡ b
+ok-same a b e = cc
+
+-- what is read at the opening, as the model of what was opened
+pub opened-model : (found : Result Reading Place) (opening : Reading) (state : StateValue) (used : ℕ) → found ≡ Ok opening
+    → found ≡ Ok (record { state = state; used = used }) → record { state = state; room = record { used = used; other = None } } ≡ model_at opening
+opened-model found opening state used e f = ap model_at (ok-same (record { state = state; used = used }) opening (sym f ∙ e))
+
+module _ {D : Type 0} (clock : D → ℕ) (might : D → ℕ → Images → List ℕ → Type 0) (reads : ReadStands)
+    (contents : ℕ → List ℕ) (may_leave : ℕ → List ℕ → Type 0) (said : List ℕ) (opening : Reading)
+    (read : read_of (images_of contents) ≡ Ok opening) where
+  -- the moments of an opening
+  opening-crash : (d0 d1 : D) (steps : List Step) → LeavesOnly clock might d0 d1 (LeavesReading contents may_leave said)
+      → LeavesOnly clock might d0 d1 (λ images so_far. LeavesBefore may_leave said images so_far ⊎ LeavesPrefix opening.state steps said images so_far)
+  opening-crash d0 d1 steps run =
+      weaker clock might d0 d1 (LeavesReading contents may_leave said)
+      (λ images so_far. LeavesBefore may_leave said images so_far ⊎ LeavesPrefix opening.state steps said images so_far)
+      (λ images so_far x. ⊎_elim
+      (λ (left : MayBeLeft may_leave images). inl (record { silent = x.silent; left = left }))
+      (λ (same : read_of images ≡ read_of (images_of contents)). inr (prefix-extended opening.state [] steps said so_far images
+      (prefix-none opening.state said so_far images x.silent (reads images opening.state opening.used (same ∙ read))))) x.either) run
+
+  -- a run that ends there
+  pub ran-unopened : TellsFailure → (tells : Bool) (files : Files) (d0 d1 : D) (status : Status) (Left : Images → Type 0) (left said' : List ℕ) (faults : ℕ)
+      → IsOther status → said' ≡ said → LeavesOnly clock might d0 d1 (LeavesReading contents may_leave said)
+      → Ran tells files (model_at opening) status (LeavesOnly clock might d0 d1) (LeavesBefore may_leave said) Left (outside_of left said faults) (outside_of left said' faults)
+  ran-unopened law tells files d0 d1 status Left left said' faults other silent run =
+      let before : Outside = outside_of left said faults in
+      let covers : Covers files (model_at opening) left [] [] = covers-none law files (model_at opening) left in
+      record {
+        answers = padding files left;
+        told = padding-told tells files left;
+        enough = omega (arith, length-replicate (length (lines left)) (fetches_of files false));
+        says = other-says files (model_at opening) status before left said' faults [] [] other covers (front-none said [] said' silent);
+        failed = subst (λ (k : ℕ). RoseBy k faults faults) (sym (ap failures_in covers.whole ∙ covers.mild)) (rose-none faults faults (omega arith));
+        crash = opening-crash d0 d1 (steps_of (model_at opening) left (padding files left)) run;
+        end = λ e. absurd (other.not_done e);
+      }
+
+  -- a run of the script behind it
+  pub ran-opened : (tells : Bool) (files : Files) (d0 d1 d2 : D) (status : Status) (Left : Images → Type 0) (left said' : List ℕ) (faults : ℕ) (now : Outside) (model : Model)
+      → said' ≡ said → model ≡ model_at opening → LeavesOnly clock might d0 d1 (LeavesReading contents may_leave said)
+      → Ran tells files model status (LeavesOnly clock might d1 d2) (λ images so_far. ⊥) Left (outside_of left said' faults) now
+      → Ran tells files (model_at opening) status (LeavesOnly clock might d0 d2) (LeavesBefore may_leave said) Left (outside_of left said faults) now
+  ran-opened tells files d0 d1 d2 status Left left said' faults now model silent is run ran =
+      let x : Ran tells files (model_at opening) status (LeavesOnly clock might d1 d2) (λ images so_far. ⊥) Left (outside_of left said faults) now
+      = subst (λ (m : Model). Ran tells files m status (LeavesOnly clock might d1 d2) (λ images so_far. ⊥) Left (outside_of left said faults) now) is
+          (subst (λ (l : List ℕ). Ran tells files model status (LeavesOnly clock might d1 d2) (λ images so_far. ⊥) Left (outside_of left l faults) now) silent ran) in
+      let steps : List Step = steps_of (model_at opening) left x.answers in
+      let P : Images → List ℕ → Type 0 = λ images so_far. LeavesBefore may_leave said images so_far ⊎ LeavesPrefix opening.state steps said images so_far in
+      record {
+        answers = x.answers;
+        told = x.told;
+        enough = x.enough;
+        says = x.says;
+        failed = x.failed;
+        crash = and_then clock might d0 d1 d2 P (opening-crash d0 d1 steps run)
+            (weaker clock might d1 d2 (λ images so_far. ⊥ ⊎ LeavesPrefix opening.state steps said images so_far) P
+            (λ images so_far y. ⊎_elim (λ none. absurd none) (λ left. inr left) y) x.crash);
+        end = x.end;
+      }
+
+-- the desk isn't called
+pub reading-none : {D : Type 0} (clock : D → ℕ) (might : D → ℕ → Images → List ℕ → Type 0) (desk : D) (contents : ℕ → List ℕ) (may_leave : ℕ → List ℕ → Type 0) (said : List ℕ)
+    → ((images : Images) (so_far : List ℕ) → might desk (clock desk) images so_far → MayBeLeft may_leave images × (so_far ≡ said))
+    → LeavesOnly clock might desk desk (LeavesReading contents may_leave said)
+reading-none clock might desk contents may_leave said only_now =
+    started clock might desk (LeavesReading contents may_leave said)
+    (λ images so_far here. let now = only_now images so_far here in record { silent = now.1; either = inl now.0 })
+
+-- ---- statuses
+
+pub other-status : IsOther status.NoMemory
+other-status = record {
+  not_done = λ d. let x : status.NoMemory ≡ status.Done = d in cc;
+  not_fault = λ d. let x : status.NoMemory ≡ status.ScriptFault = d in cc;
+  not_long = λ d. let x : status.NoMemory ≡ status.ScriptLong = d in cc;
+}
+
+pub words-status : IsOther status.Words
+words-status = record {
+  not_done = λ d. let x : status.Words ≡ status.Done = d in cc;
+  not_fault = λ d. let x : status.Words ≡ status.ScriptFault = d in cc;
+  not_long = λ d. let x : status.Words ≡ status.ScriptLong = d in cc;
+}
+
+pub opening-status : (fault : OpenFault) (result : Status) → result ≡ status_of_opening fault → IsOther result
+opening-status of_opening.DeskFault result e = record {
+  not_done = λ d. let x : status.DeskFault ≡ status.Done = sym e ∙ d in cc;
+  not_fault = λ d. let x : status.DeskFault ≡ status.ScriptFault = sym e ∙ d in cc;
+  not_long = λ d. let x : status.DeskFault ≡ status.ScriptLong = sym e ∙ d in cc;
+}
+opening-status (of_opening.Foreign bank at) result e = record {
+  not_done = λ d. let x : status.Foreign bank at ≡ status.Done = sym e ∙ d in cc;
+  not_fault = λ d. let x : status.Foreign bank at ≡ status.ScriptFault = sym e ∙ d in cc;
+  not_long = λ d. let x : status.Foreign bank at ≡ status.ScriptLong = sym e ∙ d in cc;
+}
+opening-status of_opening.NoMemory result e = subst IsOther (sym e) other-status
+
+-- a count that rose later rose
+pub rose-later : (a b c : ℕ) → a ≤ b → Rose b c → Rose a c
+rose-later a b c h (inl x) = inl (omega arith)
+rose-later a b c h (inr x) = inr x
+
+-- ---- where nothing fails
+
+pub steady : (before now : ℕ) → IsSteady before now → Rose before now → ⊥
+steady before now h (inl x) = omega (arith, h.same)
+steady before now h (inr x) = omega (arith, h.below)
+
+-- a run is done, or there is no memory
+pub complete : (found : Result Reading Place) (opening : Reading) (result : Status) (script : List ℕ) (limit s0 s1 d0 d1 : ℕ) → found ≡ Ok opening
+    → result ≢ status.Words → ((bank at : ℕ) → result ≡ status.Foreign bank at → found ≡ Err (record { bank = bank; at = at }))
+    → (result ≡ status.ScriptFault → Rose s0 s1) → (result ≡ status.ScriptLong → limit < length script) → (result ≡ status.DeskFault → Rose d0 d1)
+    → length script ≤ limit → IsSteady s0 s1 → IsSteady d0 d1 → (result ≡ status.Done) ⊎ (result ≡ status.NoMemory)
+complete found opening status.Done script limit s0 s1 d0 d1 reads words foreign fault long desk short source said = inl refl
+complete found opening status.Words script limit s0 s1 d0 d1 reads words foreign fault long desk short source said = absurd (words refl)
+complete found opening (status.Foreign bank at) script limit s0 s1 d0 d1 reads words foreign fault long desk short source said =
+    absurd (let e : Ok opening ≡ Err (record { bank = bank; at = at }) = sym reads ∙ foreign bank at refl in cc)
+complete found opening status.ScriptFault script limit s0 s1 d0 d1 reads words foreign fault long desk short source said = absurd (steady s0 s1 source (fault refl))
+complete found opening status.ScriptLong script limit s0 s1 d0 d1 reads words foreign fault long desk short source said = absurd (let over : limit < length script = long refl in omega arith)
+complete found opening status.DeskFault script limit s0 s1 d0 d1 reads words foreign fault long desk short source said = absurd (steady d0 d1 said (desk refl))
+complete found opening status.NoMemory script limit s0 s1 d0 d1 reads words foreign fault long desk short source said = inr refl
+
+-- the words were refused
+pub refused-words : {A : Type 0} (found : Option A) (x : A) → found ≡ Some x → found ≡ None → {X : Type 0} → X
+refused-words {A = A} found x e n = absurd (let f : ◌≡◌ {A = Option A} (Some x) None = sym e ∙ n in cc)
