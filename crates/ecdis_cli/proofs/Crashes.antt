@@ -41,8 +41,12 @@ prefix-extended state steps more said so_far images x = record {
       (sym (ap (take x.bytes) (output-append steps more) ∙ take-append-le x.bytes (output steps) (output more) x.within));
   within = omega (arith, x.within, ap length (output-append steps more), length-append (output steps) (output more));
   count = x.count;
-  there = omega (arith, x.there, ap length (commands-append steps more),
-      length-append (commands_in steps) (commands_in more));
+  there = omega (
+    arith,
+    x.there,
+    ap length (commands-append steps more),
+    length-append (commands_in steps) (commands_in more),
+  );
   acknowledged = subst (λ (l : List Step). (x.count ≡ length (commands_in l)) ⊎ (x.count ≡ length (commands_in l) + 1))
       (sym (begun-front x.bytes steps more x.within)) x.acknowledged;
   stands = subst (λ (l : List Command). StandFor images (after state l))
@@ -62,8 +66,12 @@ prefix-behind state between before steps said middle so_far images spoken whole 
       ∙ take-append-add (output before) (output steps) x.bytes));
   within = omega (arith, x.within, ap length (output-append before steps), length-append (output before) (output steps));
   count = length (commands_in before) + x.count;
-  there = omega (arith, x.there, ap length (commands-append before steps),
-      length-append (commands_in before) (commands_in steps));
+  there = omega (
+    arith,
+    x.there,
+    ap length (commands-append before steps),
+    length-append (commands_in before) (commands_in steps),
+  );
   acknowledged = ⊎_elim (λ (e : x.count ≡ acknowledged x.bytes steps).
       inl (omega (arith, e, acknowledged-behind x.bytes before steps spoken)))
       (λ (e : x.count ≡ acknowledged x.bytes steps + 1).

@@ -71,7 +71,7 @@ acknowledged-one : (bytes : ℕ) (x : Step) (xs : List Step) → IsSpoken x
 acknowledged-one bytes x xs spoken =
     let whole : ℕ = length (said_in x) + bytes in
     let P : Bool → Type 0 = λ (v : Bool). length (commands_in (cond v [] (x ∷ begun (whole - length (said_in x)) xs)))
-        ≡ length (listed x.command) + acknowledged bytes xs in
+    ≡ length (listed x.command) + acknowledged bytes xs in
     elim (eqb whole 0) as (λ v. eqb whole 0 ≡ v → P v) [
       | true ↦ λ e.
           let nothing : whole ≡ 0 = grind (arith, nat_tests) in
@@ -95,7 +95,7 @@ acknowledged-behind bytes (x ∷ xs) ys spoken =
     let counted : length (output (x ∷ xs)) + bytes ≡ length (said_in x) + (length (output xs) + bytes)
     = omega (arith, length-append (said_in x) (output xs)) in
     let here : acknowledged (length (said_in x) + (length (output xs) + bytes)) (x ∷ (xs ++ ys))
-        ≡ length (listed x.command) + acknowledged (length (output xs) + bytes) (xs ++ ys)
+    ≡ length (listed x.command) + acknowledged (length (output xs) + bytes) (xs ++ ys)
     = acknowledged-one (length (output xs) + bytes) x (xs ++ ys) (All-head IsSpoken x xs spoken) in
     let rest : acknowledged (length (output xs) + bytes) (xs ++ ys) ≡ length (commands_in xs) + acknowledged bytes ys
     = acknowledged-behind bytes xs ys (All-tail IsSpoken x xs spoken) in

@@ -78,7 +78,7 @@ module _ {D : Type 0} (clock : D → ℕ) (might : D → ℕ → Images → List
   ran-opened tells files d0 d1 d2 status Left left said' faults now model silent is run ran =
       let x : Ran tells files (model_at opening) status (LeavesOnly clock might d1 d2) (λ images so_far. ⊥) Left (outside_of left said faults) now
       = subst (λ (m : Model). Ran tells files m status (LeavesOnly clock might d1 d2) (λ images so_far. ⊥) Left (outside_of left said faults) now) is
-          (subst (λ (l : List ℕ). Ran tells files model status (LeavesOnly clock might d1 d2) (λ images so_far. ⊥) Left (outside_of left l faults) now) silent ran) in
+      (subst (λ (l : List ℕ). Ran tells files model status (LeavesOnly clock might d1 d2) (λ images so_far. ⊥) Left (outside_of left l faults) now) silent ran) in
       let steps : List Step = steps_of (model_at opening) left x.answers in
       let P : Images → List ℕ → Type 0 = λ images so_far. LeavesBefore may_leave said images so_far ⊎ LeavesPrefix opening.state steps said images so_far in
       record {

@@ -257,7 +257,7 @@ module _ {D : Type 0} (clock : D → ℕ) (might : D → ℕ → Images → List
       = x.split ∙ ap (λ (l : List ℕ). x.taken ++ l) e ∙ sym (append_assoc x.taken bytes left1) in
       let covers : Covers files model before.left z.answers z.steps
       = covers-first law files model before.left z.answers z.steps
-          (subst (λ (l : List ℕ). ComeFirst z.steps pad (steps_from model 1 (lines l) (z.answers ++ pad))) (sym split) (z.ahead left1 pad)) in
+      (subst (λ (l : List ℕ). ComeFirst z.steps pad (steps_from model 1 (lines l) (z.answers ++ pad))) (sym split) (z.ahead left1 pad)) in
       let other : IsOther status = status_of-other stop status is in
       ran-by d0 d2 status (outside_of left now.said now.faults) z.answers z.steps z.taken covers
       (other-says files model status before left now.said now.faults z.answers z.steps other covers z.front)

@@ -92,10 +92,10 @@ pub Advanced-feed : (tells : Bool) (files : Files) (Leaves : Moments) (at : Stan
 Advanced-feed tells files Leaves at stripped now h e x =
     let step : Step = step_to x.fetches at.world.model at.number stripped in
     let here : (rest : List ℕ) (more : List Fetches) → steps_from at.world.model at.number (lines (at.line ++ 10 ∷ rest)) (x.fetches ∷ more)
-        ≡ step ∷ steps_from step.model (at.number + 1) (lines rest) more
+    ≡ step ∷ steps_from step.model (at.number + 1) (lines rest) more
     = λ rest more. steps-feed at.world.model at.number at.line rest (x.fetches ∷ more) h
-        ∙ ap (λ (l : List ℕ). step_to x.fetches at.world.model at.number l
-        ∷ steps_from (step_to x.fetches at.world.model at.number l).model (at.number + 1) (lines rest) more) (sym e) in
+    ∙ ap (λ (l : List ℕ). step_to x.fetches at.world.model at.number l
+    ∷ steps_from (step_to x.fetches at.world.model at.number l).model (at.number + 1) (lines rest) more) (sym e) in
     record {
       answers = x.fetches ∷ [];
       steps = step ∷ [];
@@ -205,7 +205,7 @@ module _ {D : Type 0} (clock : D → ℕ) (might : D → ℕ → Images → List
       → steps_from p.world.model p.number (lines (ended (p.line ++ (bytes ++ more)))) ((x.answers ++ y.answers) ++ others) ≡ x.steps ++ y.steps
   then-unbroken tells files files' A B p q r bytes more h u x y others =
       let none : y.steps ≡ [] = sym (y.ended_lines (x.open_line h) others)
-          ∙ steps-ended_none q.world.model q.number (q.line ++ more) (y.answers ++ others) (All-append (λ b. eqb b 10 ≡ false) q.line more (x.open_line h) u) in
+      ∙ steps-ended_none q.world.model q.number (q.line ++ more) (y.answers ++ others) (All-append (λ b. eqb b 10 ≡ false) q.line more (x.open_line h) u) in
       ap (λ (l : List ℕ). steps_from p.world.model p.number (lines l) ((x.answers ++ y.answers) ++ others))
       (ap ended (sym (append_assoc p.line bytes more)) ∙ ended-append_unbroken (p.line ++ bytes) more u)
       ∙ ap (λ (l : List Fetches). steps_from p.world.model p.number (lines (ended (p.line ++ bytes))) (l ++ others))

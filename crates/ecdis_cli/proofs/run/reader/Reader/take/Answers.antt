@@ -20,8 +20,8 @@ returns-else-byte-eq10-clause-ok g c = λ d.
     let leaves = LeavesOnly g.D.Desk.clock g.D.Desk.might desk desk in
     let before = standing c.args.self.now said faults in
     let crash = quiet g.D.Desk.clock g.D.Desk.might desk (g.D.Desk.may_leave desk) said before.world.model.state
-        (λ images so_far left. g.met.D.Desk.only_now desk images so_far d left)
-        (λ images left. c.kept_stores_are_read.ensures.stands desk _ images (c.requires.ready.kept d) left) in
+    (λ images so_far left. g.met.D.Desk.only_now desk images so_far d left)
+    (λ images left. c.kept_stores_are_read.ensures.stands desk _ images (c.requires.ready.kept d) left) in
     OnOk-map c.keep.result _ _
     (λ (kept : c.keep.new.self.line.items ≡ cond (ltb (length c.args.self.now.line.items) KEPT_LIMIT) (c.args.self.now.line.items ++ c.args.byte ∷ []) c.args.self.now.line.items).
     subst (λ (n : ℕ). Advanced g.L.Shelf.tells files leaves before (c.args.byte ∷ []) (record { world = world_of c.keep.new.self.session said faults; number = n; line = c.keep.new.self.line.items }))
@@ -38,7 +38,7 @@ returns-else-byte-eq10-clause-err g c = λ d.
     let faults = g.L.Shelf.faults c.args.shelf.now in
     let before = standing c.args.self.now said faults in
     let crash = quiet g.D.Desk.clock g.D.Desk.might desk (g.D.Desk.may_leave desk) said before.world.model.state
-        (λ images so_far left. g.met.D.Desk.only_now desk images so_far d left)
-        (λ images left. c.kept_stores_are_read.ensures.stands desk _ images (c.requires.ready.kept d) left) in
+    (λ images so_far left. g.met.D.Desk.only_now desk images so_far d left)
+    (λ images left. c.kept_stores_are_read.ensures.stands desk _ images (c.requires.ready.kept d) left) in
     OnErr-from c.keep.result _ (Stopped-start _ _ (LeavesOnly g.D.Desk.clock g.D.Desk.might desk desk) before _ (world_of c.keep.new.self.session said faults) crash
     (ap (λ (s : Session). world_of s said faults) c.keep.ensures.session))

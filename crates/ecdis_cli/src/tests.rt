@@ -1,0 +1,310 @@
+//! The program over devices in memory.
+
+mod crashes;
+mod files;
+mod loads;
+
+ghost use Rattle.std.specs.Prelude.{◌≡◌, ◌<◌};
+
+use crate::run::run_ecdis;
+use crate::run::status::Status;
+use chart_ports::{FailingCalls, FileBytes, MemoryDesk, MemoryShelf, MemorySource, Steps};
+use std::alloc::{AllocError, Global};
+use std::marker::Brand;
+use std::sync::ledger::{Blank, Ledger};
+use std::test::Fail;
+
+/// A base cell of one data record, which has a DSID field alone.
+const CELL: &[u8; 292] = b"002013LE1 0900036 ! 3404DSID1650000\x1E\
+1600;&   Data set identification field\x1F\
+RCNM!RCID!EXPP!INTU!DSNM!EDTN!UPDN!UADT!ISDT!STED!PRSP!PSDN!PRED!PROF!AGEN!COMT\x1F\
+(b11,b14,2b11,3A,2A(8),R(4),b11,2A,b11,b12,A)\x1E\
+00091 D     00036   3404DSID0550000\x1E\
+\x0A\x01\0\0\0\x01\x05AA5TEST1.000\x1F1\x1F0\x1F202401012024010103.1\x01\x1F2.0\x1F\x01\x26\x02\x1F\x1E";
+
+/// A script, and which calls fail: numbers from 1, or 0 for none.
+#[derive(Clone, Copy, Debug)]
+struct Case<'a> {
+    script: &'a [u8],
+    /// Whether the source gives one byte a pull.
+    slow: bool,
+    /// Whether the shelf has eight of the longest files too.
+    large: bool,
+    pull: u64,
+    fetch: u64,
+    /// A call of the desk: the opening makes eight.
+    desk: u64,
+}
+
+impl<'a> Case<'a> {
+    fn of(script: &'a [u8]) -> Case<'a> {
+        Case {
+            script,
+            slow: false,
+            large: false,
+            pull: 0,
+            fetch: 0,
+            desk: 0,
+        }
+    }
+}
+
+fn failing(alloc: Global, number: u64) -> Result<FailingCalls, AllocError> {
+    Ok(FailingCalls::from_vec([number].to_vec(alloc)?))
+}
+
+/// The cell with another byte at a place.
+fn changed(alloc: Global, place: usize, byte: u8) -> Result<Vec<u8>, AllocError> {
+    let mut bytes = CELL.to_vec(alloc)?;
+    if place < bytes.len() {
+        bytes[place] = byte;
+    }
+    Ok(bytes)
+}
+
+/// Puts a file of this name on the shelf.
+fn put(
+    alloc: Global,
+    shelf: &mut MemoryShelf,
+    name: &str,
+    bytes: Vec<u8>,
+) -> Result<(), AllocError> {
+    shelf.insert(String::from_str(alloc, name)?, FileBytes::from_vec(bytes))
+}
+
+/// A shelf with the cell, the cell with a fault in its descriptor's labels or in its edition number,
+/// its data descriptive record alone, an empty file, and files that can be loaded.
+fn shelf(alloc: Global, case: &Case) -> Result<MemoryShelf, AllocError> {
+    let mut shelf = MemoryShelf::new(alloc, failing(alloc, case.fetch)?);
+    put(alloc, &mut shelf, "AA5TEST1.000", CELL.to_vec(alloc)?)?;
+    put(alloc, &mut shelf, "LABELS", changed(alloc, 79, b'?')?)?;
+    put(alloc, &mut shelf, "EDITION", changed(alloc, 257, b'x')?)?;
+    put(alloc, &mut shelf, "ALONE", CELL[..201].to_vec(alloc)?)?;
+    put(alloc, &mut shelf, "EMPTY", Vec::new(alloc))?;
+    put(alloc, &mut shelf, "T", files::base(alloc)?)?;
+    put(alloc, &mut shelf, "U", files::update(alloc)?)?;
+    put(alloc, &mut shelf, "DELETE", files::deletion(alloc)?)?;
+    put(alloc, &mut shelf, "CANCEL", files::cancellation(alloc)?)?;
+    if case.large {
+        for last in loads::LARGE {
+            let mut name = String::from_str(alloc, "L")?;
+            name.push(*last as char)?;
+            shelf.insert(name, FileBytes::from_vec(files::longest_of(alloc, *last)?))?;
+        }
+    }
+    for last in loads::CELLS {
+        let mut name = String::from_str(alloc, "T")?;
+        name.push(*last as char)?;
+        shelf.insert(name, FileBytes::from_vec(files::base_of(alloc, *last)?))?;
+    }
+    Ok(shelf)
+}
+
+/// The status and what was said.
+fn outcome_of<C: Ledger>(
+    alloc: Global,
+    words: &[String],
+    case: &Case,
+    blank: Blank,
+) -> Result<(Status, Vec<u8>), AllocError>
+    requires name { blank.name ≡ C.name }
+    requires parts { blank.parts ≡ C.parts }
+    requires share { 0 < C.parts }
+{
+    let pace = if case.slow { 1 } else { usize::MAX };
+    let bytes = case.script.to_vec(alloc)?;
+    let mut script = MemorySource::with_pace(bytes, failing(alloc, case.pull)?, pace);
+    let mut shelf = shelf(alloc, case)?;
+    let mut desk = MemoryDesk::new(alloc, failing(alloc, case.desk)?);
+    let mut steps = Steps::<C>::new(blank);
+    let status = run_ecdis(alloc, words, &mut script, &mut shelf, &mut desk, &mut steps);
+    Ok((status, desk.said().to_vec(alloc)?))
+}
+
+fn outcome(alloc: Global, words: &[String], case: &Case) -> Result<(Status, Vec<u8>), AllocError> {
+    outcome_of::<Brand>(alloc, words, case, Blank::new(1))
+}
+
+/// The words that the program takes.
+fn words(alloc: Global) -> Result<Vec<String>, AllocError> {
+    let mut words = Vec::new(alloc);
+    for word in ["ecdis", "--catalogue", "catalogue", "--table", "table"] {
+        words.push(String::from_str(alloc, word)?)?;
+    }
+    Ok(words)
+}
+
+/// A line of a front and then so many bytes `x`.
+fn line(alloc: Global, front: &[u8], count: usize) -> Result<Vec<u8>, AllocError> {
+    let mut line = front.to_vec(alloc)?;
+    for _ in 0..count {
+        line.push(b'x')?;
+    }
+    line.push(b'\n')?;
+    Ok(line)
+}
+
+#[test]
+fn answers_lines(rt: HostRuntime) -> Result<(), Fail> {
+    let alloc = rt.alloc();
+    let words = words(alloc)?;
+    let cases: [(&[u8], &[u8]); 9] = [
+        (b"info AA5TEST1.000\n", b"ok info AA5TEST1 1 0 1\n"),
+        (b"info AA5TEST1.000\r\n", b"ok info AA5TEST1 1 0 1\n"),
+        (b"info AA5TEST1.000", b"ok info AA5TEST1 1 0 1\n"),
+        // A carriage return is removed only before a line feed, and only one.
+        (b"info EMPTY\r\r\ninfo EMPTY\r", b"no 70 1\nno 70 2\n"),
+        (
+            b"info EMPTY\ninfo NONE\ninfo LABELS\ninfo EDITION\ninfo ALONE\n",
+            b"no 10 0\nno 71 NONE\nno 14 DSID\nno 22 1 EDTN\nno 20\n",
+        ),
+        (
+            b"cells\nload NONE\nload EMPTY\nload AA5TEST1.000\ncells \ncells\n",
+            b"ok cells 0\nno 71 NONE\nno 10 0\nno 23 DSPM\nno 70 5\nok cells 0\n",
+        ),
+        (b"", b""),
+        (b"\n\r\n#info\n#\n \n", b"no 70 5\n"),
+        (
+            b"info\ninfo \ninfo  A\ninfo A \ninfo A B\nINFO A\ninfo A\x7F\ninfo \x80\ninfo !~\n",
+            b"no 70 1\nno 70 2\nno 70 3\nno 70 4\nno 70 5\nno 70 6\nno 70 7\nno 70 8\nno 71 !~\n",
+        ),
+    ];
+    for (script, said) in cases {
+        for slow in [false, true] {
+            let case = Case {
+                slow,
+                ..Case::of(script)
+            };
+            let outcome = outcome(alloc, &words, &case)?;
+            assert_eq!(rt; outcome.0, Status::Done);
+            assert_eq!(rt; outcome.1.as_slice(), said);
+        }
+    }
+    Ok(())
+}
+
+#[test]
+fn answers_long_lines(rt: HostRuntime) -> Result<(), Fail> {
+    let alloc = rt.alloc();
+    let words = words(alloc)?;
+    let cases: [(&[u8], usize, &[u8]); 6] = [
+        (b"info ", 256, b"no 70 1\n"),
+        (b"", 1024, b"no 70 1\n"),
+        (b"", 1025, b"no 70 1\n"),
+        (b"", 2000, b"no 70 1\n"),
+        (b"#", 1023, b""),
+        (b"#", 2000, b""),
+    ];
+    let name = line(alloc, b"info ", 255)?;
+    let reply = line(alloc, b"no 71 ", 255)?;
+    let longest = outcome(alloc, &words, &Case::of(name.as_slice()))?;
+    assert_eq!(rt; longest.0, Status::Done);
+    assert_eq!(rt; longest.1.as_slice(), reply.as_slice());
+    for (front, count, said) in cases {
+        let script = line(alloc, front, count)?;
+        let outcome = outcome(alloc, &words, &Case::of(script.as_slice()))?;
+        assert_eq!(rt; outcome.0, Status::Done);
+        assert_eq!(rt; outcome.1.as_slice(), said);
+    }
+    Ok(())
+}
+
+#[test]
+fn ends_where_a_device_fails(rt: HostRuntime) -> Result<(), Fail> {
+    let alloc = rt.alloc();
+    let words = words(alloc)?;
+    let whole = Case::of(b"info AA5TEST1.000\ninfo NONE\nx\n");
+    let slow = Case {
+        slow: true,
+        ..whole
+    };
+    let cases: [(Case, Status, &[u8]); 9] = [
+        // The shelf fails once, and the run goes on.
+        (
+            Case { fetch: 1, ..whole },
+            Status::Done,
+            b"no 72\nno 71 NONE\nno 70 3\n",
+        ),
+        (
+            Case { fetch: 2, ..whole },
+            Status::Done,
+            b"ok info AA5TEST1 1 0 1\nno 72\nno 70 3\n",
+        ),
+        // The source fails at the start, and in the middle of the second line.
+        (Case { pull: 1, ..whole }, Status::ScriptFault, b""),
+        (
+            Case { pull: 20, ..slow },
+            Status::ScriptFault,
+            b"ok info AA5TEST1 1 0 1\n",
+        ),
+        // The source fails at its end, where every line was answered.
+        (
+            Case { pull: 2, ..whole },
+            Status::ScriptFault,
+            b"ok info AA5TEST1 1 0 1\nno 71 NONE\nno 70 3\n",
+        ),
+        // The desk fails while the store is opened, and at each reply, of which it says a half.
+        (Case { desk: 1, ..whole }, Status::DeskFault, b""),
+        (Case { desk: 8, ..whole }, Status::DeskFault, b""),
+        (Case { desk: 9, ..whole }, Status::DeskFault, b"ok info AA5"),
+        (
+            Case { desk: 11, ..whole },
+            Status::DeskFault,
+            b"ok info AA5TEST1 1 0 1\nno 71 NONE\nno 7",
+        ),
+    ];
+    for (case, status, said) in cases {
+        let outcome = outcome(alloc, &words, &case)?;
+        assert_eq!(rt; outcome.0, status);
+        assert_eq!(rt; outcome.1.as_slice(), said);
+    }
+    Ok(())
+}
+
+#[test]
+fn other_words_do_nothing(rt: HostRuntime) -> Result<(), Fail> {
+    let alloc = rt.alloc();
+    let none = Vec::new(alloc);
+    let mut more = words(alloc)?;
+    more.push(String::from_str(alloc, "--shades=3")?)?;
+    for words in [none.as_slice(), &more.as_slice()[..3], more.as_slice()] {
+        let outcome = outcome(alloc, words, &Case::of(b"x\n"))?;
+        assert_eq!(rt; outcome.0, Status::Words);
+        assert_eq!(rt; outcome.1.as_slice(), b"".as_slice());
+    }
+    Ok(())
+}
+
+#[test]
+fn ends_a_long_script(rt: HostRuntime) -> Result<(), Fail> {
+    let alloc = rt.alloc();
+    let words = words(alloc)?;
+    for (count, status) in [(16_777_214, Status::Done), (16_777_215, Status::ScriptLong)] {
+        let mut script = b"x\n".to_vec(alloc)?;
+        for _ in 0..count {
+            script.push(b'#')?;
+        }
+        let outcome = outcome(alloc, &words, &Case::of(script.as_slice()))?;
+        assert_eq!(rt; outcome.0, status);
+        assert_eq!(rt; outcome.1.as_slice(), b"no 70 1\n".as_slice());
+    }
+    Ok(())
+}
+
+#[test]
+fn statuses_have_numbers_and_lines(rt: HostRuntime) -> Result<(), Fail> {
+    let cases = [
+        (Status::Done, 0, ""),
+        (Status::Words, 1, "ecdis: words"),
+        (Status::Foreign(1, 8), 3, "ecdis: foreign 1 8"),
+        (Status::ScriptFault, 4, "ecdis: script fault"),
+        (Status::ScriptLong, 5, "ecdis: script long"),
+        (Status::DeskFault, 6, "ecdis: desk fault"),
+        (Status::NoMemory, 7, "ecdis: no memory"),
+    ];
+    for (status, number, line) in cases {
+        assert_eq!(rt; status.number(), number);
+        assert_eq!(rt; status.to_string(rt.alloc())?.as_str(), line);
+    }
+    Ok(())
+}

@@ -1,0 +1,186 @@
+//! A script that is stopped at each call of the desk, and the store that is opened then.
+
+ghost use Rattle.std.specs.Prelude.{◌≡◌, ◌<◌};
+
+use super::{Case, failing, shelf, words};
+use crate::run::run_ecdis;
+use crate::run::status::Status;
+use chart_ports::{Fill, Images, MemoryDesk, MemorySource, Steps};
+use std::alloc::{AllocError, Global};
+use std::marker::Brand;
+use std::sync::ledger::{Blank, Ledger};
+use std::test::Fail;
+
+/// A line, its reply, and what `cells` lists once it is run, where the line is accepted.
+const LINES: [(&str, &str, Option<&str>); 15] = [
+    ("cells\n", "ok cells 0\n", None),
+    (
+        "load T\n",
+        "ok load AA5TEST1 1 0\n",
+        Some("ok cells 1\ncell AA5TEST1 1 0 1 2\n"),
+    ),
+    ("load NONE\n", "no 71 NONE\n", None),
+    (
+        "load U\n",
+        "ok load AA5TEST1 1 1\n",
+        Some("ok cells 1\ncell AA5TEST1 1 1 2 2\n"),
+    ),
+    ("hello\n", "no 70 5\n", None),
+    (
+        "load T0\n",
+        "ok load AA5TEST0 1 0\n",
+        Some("ok cells 2\ncell AA5TEST0 1 0 1 2\ncell AA5TEST1 1 1 2 2\n"),
+    ),
+    ("rollback AA5TEST1 7\n", "no 74 AA5TEST1 7\n", None),
+    (
+        "rollback AA5TEST1 0\n",
+        "ok rollback AA5TEST1 1 0\n",
+        Some("ok cells 2\ncell AA5TEST0 1 0 1 2\ncell AA5TEST1 1 0 1 2\n"),
+    ),
+    (
+        "load CANCEL\n",
+        "ok cancel AA5TEST1\n",
+        Some("ok cells 2\ncell AA5TEST0 1 0 1 2\ncell AA5TEST1 1 0 2 cancelled\n"),
+    ),
+    ("load U\n", "no 34 AA5TEST1\n", None),
+    (
+        "rollback AA5TEST1 0\n",
+        "ok rollback AA5TEST1 1 0\n",
+        Some("ok cells 2\ncell AA5TEST0 1 0 1 2\ncell AA5TEST1 1 0 1 2\n"),
+    ),
+    ("drop ZZ\n", "no 73 ZZ\n", None),
+    (
+        "drop AA5TEST0\n",
+        "ok drop AA5TEST0\n",
+        Some("ok cells 1\ncell AA5TEST1 1 0 1 2\n"),
+    ),
+    ("# a remark\n", "", None),
+    ("drop AA5TEST0\n", "no 73 AA5TEST0\n", None),
+];
+
+/// What is listed of an empty store.
+const NOTHING: &str = "ok cells 0\n";
+
+/// How many calls an opening makes, and how many a command that is accepted makes before its reply.
+const OPENING: u64 = 8;
+
+/// The sides that a store shows which is opened after one of a command's calls failed, or its reply, with each fill of
+/// the bytes that are uncertain: what was held before it, or after it.
+const FAILED: [&str; 5] = ["bbb", "bbb", "bba", "baa", "aaa"];
+
+fn run_with<C: Ledger>(
+    alloc: Global,
+    script: &[u8],
+    desk: &mut MemoryDesk,
+    blank: Blank,
+) -> Result<Status, AllocError>
+    requires name { blank.name ≡ C.name }
+    requires parts { blank.parts ≡ C.parts }
+    requires share { 0 < C.parts }
+{
+    let words = words(alloc)?;
+    let mut script = MemorySource::new(script.to_vec(alloc)?, failing(alloc, 0)?);
+    let mut shelf = shelf(alloc, &Case::of(b""))?;
+    let mut steps = Steps::<C>::new(blank);
+    Ok(run_ecdis(alloc, &words, &mut script, &mut shelf, desk, &mut steps))
+}
+
+/// Runs a script on a desk.
+fn run(alloc: Global, script: &[u8], desk: &mut MemoryDesk) -> Result<Status, AllocError> {
+    run_with::<Brand>(alloc, script, desk, Blank::new(1))
+}
+
+/// The whole script.
+fn script(alloc: Global) -> Result<Vec<u8>, AllocError> {
+    let mut script = Vec::new(alloc);
+    for (line, _, _) in &LINES {
+        script.extend_from_slice(line.as_bytes())?;
+    }
+    Ok(script)
+}
+
+/// What a store in these files lists.
+fn listed(alloc: Global, images: Images) -> Result<Vec<u8>, AllocError> {
+    let mut desk = MemoryDesk::open(alloc, failing(alloc, 0)?, images)?;
+    let _ = run(alloc, b"cells\n", &mut desk)?;
+    desk.said().to_vec(alloc)
+}
+
+/// With each fill of the bytes that a crash now leaves uncertain, whether what is listed is as before a command or as
+/// after it: `b` or `a`.
+fn sides(
+    alloc: Global,
+    desk: &MemoryDesk,
+    before: &str,
+    after: &str,
+) -> Result<String, AllocError> {
+    let mut sides = String::new(alloc);
+    for fill in [Fill::Old, Fill::New, Fill::Ones] {
+        let listed = listed(alloc, desk.image_after(alloc, u64::MAX, fill)?)?;
+        let side = match listed.as_slice() {
+            listed if listed == before.as_bytes() => 'b',
+            listed if listed == after.as_bytes() => 'a',
+            _ => '?',
+        };
+        sides.push(side)?;
+    }
+    Ok(sides)
+}
+
+/// Runs the script with a desk whose call of this number fails, and tells the sides then.
+fn stopped(
+    alloc: Global,
+    call: u64,
+    before: &str,
+    after: &str,
+) -> Result<(Status, String), AllocError> {
+    let mut desk = MemoryDesk::new(alloc, failing(alloc, call)?);
+    let status = run(alloc, &script(alloc)?, &mut desk)?;
+    Ok((status, sides(alloc, &desk, before, after)?))
+}
+
+#[test]
+fn a_crash_leaves_the_commands_that_were_acknowledged(rt: HostRuntime) -> Result<(), Fail> {
+    let alloc = rt.alloc();
+    for call in 1..=OPENING {
+        let (status, sides) = stopped(alloc, call, NOTHING, "")?;
+        assert_eq!(rt; status, Status::DeskFault);
+        assert_eq!(rt; sides.as_str(), "bbb", "at call {call}");
+    }
+    let mut calls = OPENING;
+    let mut before = NOTHING;
+    for (line, reply, accepted) in &LINES {
+        let wanted: &[&str] = match accepted {
+            Some(_) => &FAILED,
+            None if reply.is_empty() => &[],
+            None => &["bbb"],
+        };
+        let after = accepted.unwrap_or(before);
+        for wanted in wanted {
+            calls = calls.saturating_add(1);
+            let (status, sides) = stopped(alloc, calls, before, after)?;
+            assert_eq!(rt; status, Status::DeskFault);
+            assert_eq!(rt; sides.as_str(), *wanted, "at call {calls}, {line}");
+        }
+        before = after;
+    }
+    // No further call is made, and all commands are there.
+    let (status, sides) = stopped(alloc, calls.saturating_add(1), "", before)?;
+    assert_eq!(rt; status, Status::Done);
+    assert_eq!(rt; sides.as_str(), "aaa");
+    Ok(())
+}
+
+#[test]
+fn the_output_is_the_replies(rt: HostRuntime) -> Result<(), Fail> {
+    let alloc = rt.alloc();
+    let mut said = Vec::new(alloc);
+    for (_, reply, _) in &LINES {
+        said.extend_from_slice(reply.as_bytes())?;
+    }
+    let mut desk = MemoryDesk::new(alloc, failing(alloc, 0)?);
+    let status = run(alloc, &script(alloc)?, &mut desk)?;
+    assert_eq!(rt; status, Status::Done);
+    assert_eq!(rt; desk.said(), said.as_slice());
+    Ok(())
+}
