@@ -15,7 +15,7 @@ use crate::run::stop::Stop;
 use chart_ports::{Desk, Shelf, Steps};
 use chart_store::kept_stores_are_read;
 use script_reader::{
-    Event, LineFault, Reply, long_lines_are_read_by_their_front, print_reply, read_line,
+    LineFault, Reply, long_lines_are_read_by_their_front, print_reply, read_line,
     replies_are_spoken,
 };
 use session_core::{Refusal, Session, turns_follow_their_commands};
