@@ -18,7 +18,7 @@ mod read;
 #[cfg(test)]
 mod tests;
 
-pub use acronym::read_acronym;
+pub use acronym::{Acronym, read_acronym};
 pub use catalogue::Catalogue;
 pub use entry::{Entry, Kind};
 pub use fault::CatalogueFault;

@@ -1,6 +1,6 @@
 //! The parts of a line between bytes that part it.
 
-ghost use Rattle.std.specs.Prelude.{◌≡◌, ◌≢◌, ◌==◌, ◌∷◌, [], ◌++◌, position, All, List, ℕ, IfSome, IfNone};
+ghost use Rattle.std.specs.Prelude.{◌≡◌, ◌≢◌, ◌==◌, ◌<◌, length, ◌∷◌, [], ◌++◌, position, All, List, ℕ, IfSome, IfNone};
 ghost use Rattle.std.specs.List.{join_with_byte};
 ghost use Rattle.text_lines.specs.Lines.{parts_at, Lacks};
 
@@ -17,6 +17,7 @@ pub fn cut_part(text: &[u8], parting: u8) -> (&[u8], Option<&[u8]>)
     ensures more { IfSome result.1 (λ rest.
         parts_at parting text.now ≡ result.0.now ∷ parts_at parting rest.now) }
     ensures last { IfNone result.1 (parts_at parting text.now ≡ result.0.now ∷ []) }
+    ensures shorter { IfSome result.1 (λ rest. length rest.now < length text.now) }
 {
     match place_of(text, parting) {
         Some(at) => (&text[..at], Some(&text[at + 1..])),
