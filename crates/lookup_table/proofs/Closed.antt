@@ -1,14 +1,9 @@
 -- Texts in parentheses.
 use Rattle.std.proofs.lemmas.List.{take_more}
 use Rattle.std.proofs.Math.Seq.{take-length}
-use Rattle.std.proofs.Common.{◌≡◌, ◌≢◌, ℕ, ◌+◌, ◌-◌, ◌<◌, ◌≤◌, Bool, true, false, ◌&&◌, eqb, List, [], ◌∷◌, ◌++◌, length, take, get_or, Option, Some, None, cond, refl, sym, ap, ◌∙◌, subst, arith}
-use Rattle.std.specs.Bool.{Decides}
-use Rattle.std.specs.List.{All, list_all}
-use Rattle.std.specs.Prelude.{nat_le, not, ◌||◌}
-use Rattle.std.proofs.lemmas.Bool.{leb-true, le-leb, and_parts, true≢false}
-use Rattle.std.proofs.lemmas.Bool.Decides.{Decides-eqb, Decides-and, Decides-or, Decides-not, Decides-like, Decides-by_and, nat_tests}
-use Rattle.std.proofs.lemmas.List.Elements.{All-nil, All-cons}
-use Rattle.lookup_table.specs.Written.{IsCapital, IsPlain, IsInstruction, is_capital, is_plain, is_closed, is_instruction}
+use Rattle.std.proofs.Common.{◌≡◌, ℕ, ◌+◌, ◌-◌, ◌<◌, ◌≤◌, Bool, true, false, ◌&&◌, eqb, List, [], ◌∷◌, ◌++◌, length, take, get_or, refl, sym, ap, ◌∙◌, arith}
+use Rattle.std.specs.List.{list_all}
+use Rattle.lookup_table.specs.Written.{is_plain, is_closed}
 
 pub closed-by : (inner : List ℕ) (last : ℕ) → is_closed (inner ++ last ∷ []) ≡ (list_all is_plain inner && eqb last 41)
 unfolding is_closed

@@ -1,12 +1,10 @@
 -- The places of lines in the maps of a table.
-use Rattle.std.proofs.Common.{◌≡◌, ◌≢◌, ℕ, ◌+◌, Bool, true, false, cond, eqb, List, [], ◌∷◌, ◌++◌, length, Option, Some, None, refl, sym, ap, ◌∙◌, subst, arith, add-one}
+use Rattle.std.proofs.Common.{◌≡◌, ℕ, ◌+◌, Bool, true, false, cond, eqb, List, [], ◌∷◌, ◌++◌, length, refl, sym, ap, ◌∙◌, arith}
 use Rattle.std.specs.Prelude.{◌&&◌}
-use Rattle.std.specs.Ordering.{nat_cmp, is_eq}
-use Rattle.std.proofs.lemmas.Bool.Decides.{nat_tests}
 use Rattle.chart_model.specs.declared.drawing.Geom.{Geom}
 use Rattle.chart_model.specs.declared.drawing.Geom.TheVariants.{Area, Line, Point}
 use Rattle.lookup_table.specs.declared.line.TableLine.{TableLine}
-use Rattle.lookup_table.specs.Selection.{is_for, same_geom}
+use Rattle.lookup_table.specs.Selection.{is_for}
 use Rattle.lookup_table.specs.Index.{places_from, places_in, HasPlaceMore, IsIndexOf}
 use Rattle.lookup_table.specs.Places.{AddsPlace}
 

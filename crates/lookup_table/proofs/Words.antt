@@ -1,14 +1,12 @@
 -- The parts of a line, one after the other.
-use Rattle.std.proofs.Common.{◌≡◌, ℕ, ◌+◌, ◌-◌, ◌<◌, ◌≤◌, Bool, true, false, cond, ◌&&◌, eqb, List, [], ◌∷◌, ◌++◌, length, take, get_or, Option, Some, None, Bor, refl, sym, ap, ◌∙◌, subst, arith, add-one}
+use Rattle.std.proofs.Common.{◌≡◌, ℕ, ◌+◌, ◌<◌, ◌≤◌, Bool, false, cond, eqb, List, [], ◌∷◌, length, Option, Some, None, Bor, refl, sym, ap, ◌∙◌, subst, arith}
 use Rattle.std.specs.Prelude.{IfSome, IfNone, codes}
 use Rattle.std.specs.Str.{bytes_eq}
-use Rattle.std.specs.List.{list_all, slice_split, join_with_byte}
+use Rattle.std.specs.List.{join_with_byte}
 use Rattle.std.proofs.lemmas.List.Splits.{join_with_byte-slice_split, length-slice_split}
 use Rattle.text_lines.specs.Lines.{parts_at}
 use Rattle.object_catalogue.specs.Acronym.{acronym_of}
 use Rattle.lookup_table.specs.declared.written.WrittenCondition.{WrittenCondition}
-use Rattle.lookup_table.specs.declared.written.WrittenLine.{WrittenLine}
-use Rattle.lookup_table.specs.Written.{is_plain, is_closed}
 use Rattle.lookup_table.specs.Reading.{each, instruction_of, test_of, condition_with, condition_in, condition_of, conditions_of, instructions_of, geom_of, priority_of, written_with, written_in, written_of}
 
 -- what a cut says where there is a rest

@@ -4,7 +4,6 @@ use Rattle.std.specs.Option.{unwrap_or}
 use Rattle.std.specs.Map.{lookup}
 use Rattle.std.specs.Ordering.{nat_cmp, is_eq}
 use Rattle.chart_model.specs.declared.drawing.Geom.{Geom}
-use Rattle.chart_model.specs.declared.drawing.Geom.TheVariants.{Area, Line, Point}
 use Rattle.lookup_table.specs.declared.line.TableLine.{TableLine}
 use Rattle.lookup_table.specs.Selection.{is_for}
 

@@ -1,5 +1,5 @@
 -- The names and procedures of a line, looked up.
-use Rattle.std.specs.Prelude.{ℕ, Bool, ◌||◌, if◌then◌else◌, List, [], ◌∷◌, take, codes, Option, Some, None, is_none}
+use Rattle.std.specs.Prelude.{ℕ, Bool, ◌||◌, if◌then◌else◌, List, take, codes, Option, Some, None, is_none}
 use Rattle.std.specs.List.{list_any}
 use Rattle.std.specs.Str.{bytes_eq}
 use Rattle.object_catalogue.specs.Codes.{CatalogueValue, code_in}

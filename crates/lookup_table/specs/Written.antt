@@ -2,7 +2,7 @@
 use Rattle.std.specs.Prelude.{◌≡◌, ◌≢◌, ℕ, ◌+◌, ◌≤◌, nat_le, Bool, false, not, ◌&&◌, ◌||◌, ◌==◌, List, [], ◌∷◌, ◌++◌, ⊤}
 use Rattle.std.specs.Prelude.{length, All, codes}
 use Rattle.std.specs.Prelude as list
-use Rattle.std.specs.List.{list_all, join_with_byte}
+use Rattle.std.specs.List.{join_with_byte}
 use Rattle.chart_model.specs.declared.drawing.Geom.{Geom}
 use Rattle.chart_model.specs.declared.drawing.Geom.TheVariants.{Area, Line, Point}
 use Rattle.object_catalogue.specs.Acronym.{IsAcronym}

@@ -1,7 +1,7 @@
-use Rattle.std.proofs.Common.{◌≡◌, [], List, ap, sym, ◌∙◌, arith}
+use Rattle.std.proofs.Common.{List, ap, sym, ◌∙◌, arith}
 use Rattle.std.specs.Vec.Iter.{into_iter_items}
 use Rattle.lookup_table.specs.declared.condition.Condition.{Condition}
-use Rattle.lookup_table.specs.Named.{named_condition, instruction_in}
+use Rattle.lookup_table.specs.Named.{named_condition}
 use Rattle.lookup_table.specs.Reading.{each}
 use Rattle.lookup_table.proofs.Each.{front, each_step, each_failed, each_done, no_elements}
 use Rattle.lookup_table.proofs.named.name_conditions.Goals as goal

@@ -1,7 +1,7 @@
-use Rattle.std.proofs.Common.{◌≡◌, [], List, ap, sym, ◌∙◌, arith}
+use Rattle.std.proofs.Common.{List, ap, sym, ◌∙◌, arith}
 use Rattle.std.specs.Vec.Iter.{into_iter_items}
 use Rattle.lookup_table.specs.declared.instruction.Instruction.{Instruction}
-use Rattle.lookup_table.specs.Named.{named_condition, instruction_in}
+use Rattle.lookup_table.specs.Named.{instruction_in}
 use Rattle.lookup_table.specs.Reading.{each}
 use Rattle.lookup_table.proofs.Each.{front, each_step, each_failed, each_done, no_elements}
 use Rattle.lookup_table.proofs.named.read_instructions.Goals as goal

@@ -1,6 +1,6 @@
 use Rattle.std.proofs.lemmas.Result.{err_from_is_err_and}
 use Rattle.lookup_table.specs.Lines.{table_in}
-use Rattle.lookup_table.proofs.Progress.{read_none, read_more, read_fault, read_all, failed}
+use Rattle.lookup_table.proofs.Progress.{read_none, read_more, read_fault, failed}
 use Rattle.lookup_table.proofs.read.read_table.Goals as goal
 
 pub loop-line-init : goal.loop-line-init

@@ -1,4 +1,4 @@
-use Rattle.std.proofs.Common.{Result, Option, sym, ◌∙◌, subst, ◌≡◌}
+use Rattle.std.proofs.Common.{Option, sym, subst, ◌≡◌}
 use Rattle.std.specs.Prelude.{IfOk}
 use Rattle.lookup_table.specs.declared.written.WrittenCondition.{WrittenCondition}
 use Rattle.lookup_table.proofs.Words.{cut_gives, condition_cut}

@@ -1,8 +1,6 @@
-use Rattle.std.proofs.Common.{◌≡◌, ◌<◌, false, ℕ, List, ◌++◌, Option, ap, sym, ◌∙◌, rules}
+use Rattle.std.proofs.Common.{◌≡◌, false, ℕ, List, ap, sym, ◌∙◌, rules}
 use Rattle.std.specs.Prelude.{codes}
 use Rattle.std.specs.Str.{bytes_eq}
-use Rattle.text_lines.specs.Lines.{parts_at}
-use Rattle.lookup_table.specs.declared.written.WrittenCondition.{WrittenCondition}
 use Rattle.lookup_table.specs.Reading.{each, instruction_of}
 use Rattle.lookup_table.proofs.Each.{front, each_step, each_failed, each_done}
 use Rattle.lookup_table.proofs.Words.{parts_left, parts_left-cut, left_to_read-cut, instructions_by}

@@ -1,7 +1,4 @@
-use Rattle.std.proofs.Common.{◌≡◌, ℕ, List, Option, Some, None, ap, sym, ◌∙◌, position}
-use Rattle.std.specs.Prelude.{◌&&◌}
-use Rattle.std.specs.Option.{option_or}
-use Rattle.lookup_table.specs.declared.line.TableLine.{TableLine}
+use Rattle.std.proofs.Common.{sym, ◌∙◌}
 use Rattle.lookup_table.specs.Index.{first_place}
 use Rattle.lookup_table.specs.Selection.{applies, is_unconditional}
 use Rattle.lookup_table.proofs.Selections.{chosen_first, chosen_second}

@@ -1,4 +1,4 @@
-use Rattle.std.proofs.Common.{◌≡◌, ◌++◌, ◌∷◌, [], ℕ, List, length, sym, ◌∙◌, subst, rules}
+use Rattle.std.proofs.Common.{◌≡◌, ℕ, List, length, sym, subst, rules}
 use Rattle.lookup_table.specs.declared.line.TableLine.{TableLine}
 use Rattle.lookup_table.specs.Index.{IsIndexOf}
 use Rattle.lookup_table.specs.Places.{index_of, AddsPlace}
