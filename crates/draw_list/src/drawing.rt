@@ -1,7 +1,7 @@
 //! The drawing of a cell.
 
-ghost use Rattle.std.specs.Prelude.{◌≡◌, IfOk};
-ghost use Rattle.draw_list.specs.Drawing.{IsDrawing, key_of, blocks_in};
+ghost use Rattle.std.specs.Prelude.{◌≡◌, ◌++◌, IfOk, OnOk};
+ghost use Rattle.draw_list.specs.Drawing.{IsDrawing, key_of, blocks_in, drawn_with};
 
 use crate::block::block_in;
 use chart_model::{Block, Cell, Geom, Sequence, Settings};
@@ -38,6 +38,23 @@ fn order_of(drawn: &Drawn) -> DrawOrder
     }
 }
 
+/// Adds the block of the feature with a number, where it is shown.
+fn push_block(
+    blocks: &mut Vec<Drawn>,
+    rcid: u32,
+    block: Option<Block>,
+) -> Result<(), AllocError>
+    ensures { OnOk result (blocks.new.items ≡ blocks.old.items ++ drawn_with rcid block) }
+{
+    match block {
+        Some(block) => {
+            blocks.push(Drawn { rcid, block })?;
+            Ok(())
+        }
+        None => Ok(()),
+    }
+}
+
 /// The blocks of all features that are shown, in the order of their names.
 fn blocks_of(
     alloc: Global,
@@ -49,12 +66,8 @@ fn blocks_of(
 {
     let mut blocks = Vec::new(alloc);
     for (name, feature) in cell.features.iter() {
-        if let Some(block) = block_in(alloc, table, settings, feature)? {
-            blocks.push(Drawn {
-                rcid: name.rcid,
-                block,
-            })?;
-        }
+        let block = block_in(alloc, table, settings, feature)?;
+        push_block(&mut blocks, name.rcid, block)?;
     }
     Ok(blocks)
 }
