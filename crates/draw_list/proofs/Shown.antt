@@ -31,12 +31,15 @@ geom_cases prim = area (eqb_tells prim 3)
   where
     at_geom : (a b c : Bool) → Option Geom
     at_geom a b c = cond a (Some Area) (cond b (Some Line) (cond c (Some Point) None))
+
     point : eqb prim 3 ≡ false → prim ≢ 3 → eqb prim 2 ≡ false → prim ≢ 2 → ((eqb prim 1 ≡ true) × (prim ≡ 1)) ⊎ ((eqb prim 1 ≡ false) × (prim ≢ 1)) → HasGeom prim
     point a na b nb (inl h) = inl (Point, ((λ i. at_geom (a i) (b i) (h.0 i)), (omega (arith, h.1), omega (arith, h.1))))
     point a na b nb (inr h) = inr ((λ i. at_geom (a i) (b i) (h.0 i)), λ r. omega (arith, na, nb, h.1, r.0, r.1))
+
     line : eqb prim 3 ≡ false → prim ≢ 3 → ((eqb prim 2 ≡ true) × (prim ≡ 2)) ⊎ ((eqb prim 2 ≡ false) × (prim ≢ 2)) → HasGeom prim
     line a na (inl h) = inl (Line, ((λ i. at_geom (a i) (h.0 i) (eqb prim 1)), (omega (arith, h.1), omega (arith, h.1))))
     line a na (inr h) = point a na h.0 h.1 (eqb_tells prim 1)
+
     area : ((eqb prim 3 ≡ true) × (prim ≡ 3)) ⊎ ((eqb prim 3 ≡ false) × (prim ≢ 3)) → HasGeom prim
     area (inl h) = inl (Area, ((λ i. at_geom (h.0 i) (eqb prim 2) (eqb prim 1)), (omega (arith, h.1), omega (arith, h.1))))
     area (inr h) = line h.0 h.1 (eqb_tells prim 2)
@@ -65,6 +68,7 @@ fits-shown spelled attrs scale fits = by (map.get attrs 133) refl
     number text there (Some n) e =
         let s = (spelled text n).0 e in
         not_below scale n (subst (λ (k : ℕ). scale ≤ k) s.1 (fits text there s.0))
+
     by : (o : Option (List ℕ)) → map.get attrs 133 ≡ o → is_below scale (option_and_then number_of o) ≡ false
     by None e = refl
     by (Some text) e = number text e (number_of text) refl
@@ -102,6 +106,7 @@ shown-from spelled cell table scale name feature there s = by (geom_cases featur
   where
     same : s.feature ≡ feature
     same = let e = sym s.there ∙ there in cc
+
     by : HasGeom feature.prim → IsSome (block_in table scale feature)
     by (inl g) =
         subst (λ (o : Option Geom). IsSome (block_as table scale feature o)) (sym g.1.0)

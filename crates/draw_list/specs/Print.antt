@@ -29,5 +29,5 @@ target_text (At x y) = join_with_byte 32 (codes "at" ∷ signed x ∷ signed y �
 abbrev pub printed : ℕ → Geom → ℕ → Item → List ℕ
 printed priority geom rcid item =
     join_with_byte 32 (
-      codes "item" ∷ number priority ∷ letter_of geom ∷ number rcid ∷ target_text item.target ∷ item.text ∷ []
+    codes "item" ∷ number priority ∷ letter_of geom ∷ number rcid ∷ target_text item.target ∷ item.text ∷ []
     ) ++ 10 ∷ []

@@ -5,7 +5,9 @@ ghost use Rattle.std.specs.Option.{option_copied};
 ghost use Rattle.std.specs.Prelude as list;
 ghost use Rattle.draw_list.specs.Block.{IsShown, block_at, block_in, block_with, line_for, geom_of, is_hidden, item_of, unknown_items};
 
-use chart_model::{AttrMap, Block, Cell, Feature, Geom, Item, ItemList, Name, Octets, Settings, Target};
+use chart_model::{
+    AttrMap, Block, Cell, Feature, Geom, Item, ItemList, Name, Octets, Settings, Target,
+};
 use lookup_table::{Instruction, InstructionList, Table, TableLine};
 use std::alloc::{AllocError, Global};
 use text_scan::{numbers_are_spelled, read_number};

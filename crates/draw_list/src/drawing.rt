@@ -39,11 +39,7 @@ fn order_of(drawn: &Drawn) -> DrawOrder
 }
 
 /// Adds the block of the feature with a number, where it is shown.
-fn push_block(
-    blocks: &mut Vec<Drawn>,
-    rcid: u32,
-    block: Option<Block>,
-) -> Result<(), AllocError>
+fn push_block(blocks: &mut Vec<Drawn>, rcid: u32, block: Option<Block>) -> Result<(), AllocError>
     ensures { OnOk result (blocks.new.items ≡ blocks.old.items ++ drawn_with rcid block) }
 {
     match block {

@@ -57,11 +57,11 @@ abbrev whole : CatalogueValue → ℕ → Bool → Bool → Option WrittenLine �
 whole catalogue number late silent written =
     let line = cond silent [] (option_to_list written) in
     unless (first_of (
-      when late (BadLine number)
-      ∷ when (not silent && is_none written) (BadLine number)
-      ∷ when (list_any (has_unknown_name catalogue) line) (UnknownName number)
-      ∷ when (list_any has_unknown_procedure line) (UnknownProcedure number)
-      ∷ []
+    when late (BadLine number)
+    ∷ when (not silent && is_none written) (BadLine number)
+    ∷ when (list_any (has_unknown_name catalogue) line) (UnknownName number)
+    ∷ when (list_any has_unknown_procedure line) (UnknownProcedure number)
+    ∷ []
     )) (flat_map (λ w. option_to_list (named catalogue w)) line)
 
 in_time : (number : ℕ) → number ≤ 10000 → ltb 10000 number ≡ false

@@ -135,10 +135,12 @@ test_is text test e = question (bytes_eq text (codes "?")) refl e
           },
           refl,
         )
+
     star : (b : Bool) → bytes_eq text (codes "*") ≡ b → bytes_eq text (codes "?") ≡ false
         → cond b (Some Filled) (cond (nat_le 1 (length text) && list_all is_text_byte text) (Some (Equals text)) None) ≡ Some test → IsTest test × (text ≡ test_text test)
     star true h question e = subst (λ (x : Test). IsTest x × (text ≡ test_text x)) (some_is Filled test e) (tt, (bytes_eq-Decides text (codes "*")).0 h)
     star false h question e = equal (nat_le 1 (length text) && list_all is_text_byte text) refl question h e
+
     question : (b : Bool) → bytes_eq text (codes "?") ≡ b
         → cond b (Some Empty) (cond (bytes_eq text (codes "*")) (Some Filled) (cond (nat_le 1 (length text) && list_all is_text_byte text) (Some (Equals text)) None)) ≡ Some test
         → IsTest test × (text ≡ test_text test)
@@ -271,7 +273,7 @@ conditions_told found first (c ∷ cs) h =
     let word = conditions_text (c ∷ cs) in
     let parts = found 43 (condition_text c) (list.map condition_text cs) (all_texts (λ b. b ≢ 43) lacks_plus (c ∷ cs) h) in
     let other : word ≢ codes "-" = λ e. long_condition c (All-head IsCondition c cs h)
-        (same_head (condition_text c) (codes "-") (list.map condition_text cs) [] (sym parts ∙ ap (parts_at 43) e)) in
+    (same_head (condition_text c) (codes "-") (list.map condition_text cs) [] (sym parts ∙ ap (parts_at 43) e)) in
     ap (λ (b : Bool). cond b (Some []) (each condition_of (parts_at 43 word))) (not_text word (codes "-") other)
     ∙ ap (each condition_of) parts
     ∙ each-spelled condition_of condition_text IsCondition (condition_told first) (c ∷ cs) h
@@ -377,9 +379,11 @@ geom_is word geom e = area (bytes_eq word (codes "A")) refl e
     point : (b : Bool) → bytes_eq word (codes "P") ≡ b → cond b (Some Point) None ≡ Some geom → word ≡ geom_text geom
     point true h e = (bytes_eq-Decides word (codes "P")).0 h ∙ ap geom_text (some_is Point geom e)
     point false h e = absurd cc
+
     line : (b : Bool) → bytes_eq word (codes "L") ≡ b → cond b (Some Line) (cond (bytes_eq word (codes "P")) (Some Point) None) ≡ Some geom → word ≡ geom_text geom
     line true h e = (bytes_eq-Decides word (codes "L")).0 h ∙ ap geom_text (some_is Line geom e)
     line false h e = point (bytes_eq word (codes "P")) refl e
+
     area : (b : Bool) → bytes_eq word (codes "A") ≡ b → cond b (Some Area) (cond (bytes_eq word (codes "L")) (Some Line) (cond (bytes_eq word (codes "P")) (Some Point) None)) ≡ Some geom → word ≡ geom_text geom
     area true h e = (bytes_eq-Decides word (codes "A")).0 h ∙ ap geom_text (some_is Area geom e)
     area false h e = line (bytes_eq word (codes "L")) refl e

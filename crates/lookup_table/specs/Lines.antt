@@ -33,11 +33,11 @@ is_bad line = not (is_silent line) && is_none (written_of line)
 abbrev pub line_fault : CatalogueValue → ℕ → List ℕ → Option TableFault
 line_fault catalogue number line =
     first_of (
-      when (nat_lt 10000 number) (BadLine number)
-      ∷ when (is_bad line) (BadLine number)
-      ∷ when (list_any (has_unknown_name catalogue) (written_on line)) (UnknownName number)
-      ∷ when (list_any has_unknown_procedure (written_on line)) (UnknownProcedure number)
-      ∷ []
+    when (nat_lt 10000 number) (BadLine number)
+    ∷ when (is_bad line) (BadLine number)
+    ∷ when (list_any (has_unknown_name catalogue) (written_on line)) (UnknownName number)
+    ∷ when (list_any has_unknown_procedure (written_on line)) (UnknownProcedure number)
+    ∷ []
     )
 
 -- what is wrong with a line behind others

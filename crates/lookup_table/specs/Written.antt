@@ -80,12 +80,12 @@ geom_text Point = codes "P"
 abbrev pub line_text : WrittenLine → List ℕ
 line_text line =
     join_with_byte 32 (
-      line.class
-      ∷ geom_text line.geom
-      ∷ ((48 + line.priority) ∷ [])
-      ∷ conditions_text line.conditions
-      ∷ instructions_text line.instructions
-      ∷ []
+    line.class
+    ∷ geom_text line.geom
+    ∷ ((48 + line.priority) ∷ [])
+    ∷ conditions_text line.conditions
+    ∷ instructions_text line.instructions
+    ∷ []
     )
 
 pub record IsWritten (line : WrittenLine) : Type 0 where

@@ -60,7 +60,9 @@ fn first_that_applies(lines: &[TableLine], places: &[usize], attrs: &AttrMap) ->
     ensures { result ≡ first_place (applies attrs.now) lines.now places.now }
 {
     for place in places {
-        if let Some(line) = line_at(lines, *place) && applies(line, attrs) {
+        if let Some(line) = line_at(lines, *place)
+            && applies(line, attrs)
+        {
             return Some(*place);
         }
     }
@@ -72,7 +74,9 @@ fn first_unconditional(lines: &[TableLine], places: &[usize]) -> Option<usize>
     ensures { result ≡ first_place is_unconditional lines.now places.now }
 {
     for place in places {
-        if let Some(line) = line_at(lines, *place) && is_unconditional(line) {
+        if let Some(line) = line_at(lines, *place)
+            && is_unconditional(line)
+        {
             return Some(*place);
         }
     }
@@ -101,7 +105,11 @@ impl Table {
     }
 
     /// The table with a line behind the others, where there is one.
-    pub(crate) fn with_any(self, alloc: Global, line: Option<TableLine>) -> Result<Table, AllocError>
+    pub(crate) fn with_any(
+        self,
+        alloc: Global,
+        line: Option<TableLine>,
+    ) -> Result<Table, AllocError>
         ensures { IfOk result (λ table. table ≡ self ++ option_to_list line) }
     {
         match line {

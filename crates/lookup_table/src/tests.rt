@@ -24,7 +24,10 @@ fn first_faults(rt: HostRuntime) -> Result<(), Fail> {
         (b"", None),
         (b"DEPARE A 1 - -", None),
         (b"DEPARE L 0 - -\nDEPARE P 9 - -\r\n# CS\n\n", None),
-        (b"DEPARE A 1 DRVAL1=5+WATLEV=*+VALSOU=? AC(DEPVS);LS(DASH, 2,CHGRF)", None),
+        (
+            b"DEPARE A 1 DRVAL1=5+WATLEV=*+VALSOU=? AC(DEPVS);LS(DASH, 2,CHGRF)",
+            None,
+        ),
         // `=`, `?` and `*` in texts, and the ends of the ranges
         (b"DEPARE A 1 DRVAL1==+VALSOU=??+WATLEV=** -", None),
         (b"DEPARE A 1 DRVAL1=!~ AC( ~);ZZ()", None),
@@ -106,7 +109,8 @@ fn attributes(alloc: Global, text: Option<&[u8]>) -> Result<AttrMap, AllocError>
 #[test]
 fn selections(rt: HostRuntime) -> Result<(), Fail> {
     let catalogue = catalogue(rt.alloc())?;
-    let text = b"WRECKS P 1 - -\nWRECKS P 2 VALSOU=* -\nWRECKS P 3 VALSOU=? -\nWRECKS P 4 VALSOU=15 -\n\
+    let text =
+        b"WRECKS P 1 - -\nWRECKS P 2 VALSOU=* -\nWRECKS P 3 VALSOU=? -\nWRECKS P 4 VALSOU=15 -\n\
         WRECKS P 5 - -\nWRECKS L 6 VALSOU=15+WATLEV=3 -\nDEPARE A 7 VALSOU=15 SY(A);AC(B)\nDEPARE A 8 VALSOU=15 -\n";
     let table = read_table(rt.alloc(), text, &catalogue)?;
     let cases: [(u16, Geom, Option<&[u8]>, Option<usize>); 9] = [
@@ -137,6 +141,8 @@ fn selections(rt: HostRuntime) -> Result<(), Fail> {
         assert!(rt; false);
         return Ok(());
     };
-    assert!(rt; first.as_slice() == b"SY(A)".as_slice() && second.as_slice() == b"AC(B)".as_slice());
+    assert!(rt;
+        first.as_slice() == b"SY(A)".as_slice() && second.as_slice() == b"AC(B)".as_slice()
+    );
     Ok(())
 }

@@ -112,8 +112,7 @@ fn read_conditions(
 fn are_plain(text: &[u8]) -> bool
     ensures { result ≡ list_all is_plain text.now }
 {
-    text.iter()
-        .all(|byte| matches!(byte, 0x20..=0x7E) && !matches!(byte, b'(' | b')' | b';'))
+    text.iter().all(|byte| matches!(byte, 0x20..=0x7E) && !matches!(byte, b'(' | b')' | b';'))
 }
 
 /// Whether such bytes and `)` stand there, and nothing else.
