@@ -10,8 +10,10 @@
 
 mod block;
 mod drawing;
+mod laws;
 mod print;
 
 pub use block::block_of;
 pub use drawing::{DrawList, Drawn, draw_cell};
+pub use laws::drawings_are_one;
 pub use print::print_item;
