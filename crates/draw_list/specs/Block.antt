@@ -57,7 +57,11 @@ unknown_items = record { target = Whole; text = codes "SY(QUESMRK1)" } ∷ []
 -- the block by the line of the table for the feature, where there is one
 abbrev pub block_with : Geom → Option TableLine → Block
 block_with geom None = record { priority = 5; geom = geom; items = unknown_items }
-block_with geom (Some line) = record { priority = line.priority; geom = geom; items = list.map item_of line.instructions }
+block_with geom (Some line) = record {
+  priority = line.priority;
+  geom = geom;
+  items = list.map item_of line.instructions;
+}
 
 -- the line of the table for the feature
 abbrev pub line_for : List TableLine → Feature → Geom → Option TableLine

@@ -1,5 +1,6 @@
 -- What the bytes of a table are, or their first fault.
-use Rattle.std.specs.Prelude.{ℕ, ◌+◌, nat_lt, Bool, not, ◌&&◌, if◌then◌else◌, List, [], ◌∷◌, length, Option, Some, None, Result, Ok, Err, is_none}
+use Rattle.std.specs.Prelude.{ℕ, ◌+◌, nat_lt, Bool, not, ◌&&◌, if◌then◌else◌, List, [], ◌∷◌, length}
+use Rattle.std.specs.Prelude.{Option, Some, None, is_none, Result, Ok, Err}
 use Rattle.std.specs.Option.{option_to_list}
 use Rattle.std.specs.List.{flat_map, list_any}
 use Rattle.std.specs.Str.Lines.{lines}
@@ -28,8 +29,8 @@ said catalogue line = flat_map (λ written. option_to_list (named catalogue writ
 abbrev pub is_bad : List ℕ → Bool
 is_bad line = not (is_silent line) && is_none (written_of line)
 
--- What is wrong with the line of a number: it stands behind the 10,000th; or it is bad; or one of its names isn't in the
--- catalogue; or one of its procedures isn't there.
+-- What is wrong with the line of a number: it stands behind the 10,000th; or it is bad; or one of its names isn't in
+-- the catalogue; or one of its procedures isn't there.
 abbrev pub line_fault : CatalogueValue → ℕ → List ℕ → Option TableFault
 line_fault catalogue number line =
     first_of (
@@ -56,7 +57,8 @@ unfoldable pub line_in : CatalogueValue → ℕ → List ℕ → Result (List Ta
 line_in catalogue number line = unless (line_fault catalogue number line) (said catalogue line)
 
 -- the line of this number by its parts that are there, or the first fault among those that aren't
-abbrev pub line_or_fault : ℕ → WrittenLine → Option ℕ → Option (List Condition) → Option (List Instruction) → Result TableLine TableFault
+abbrev pub line_or_fault : ℕ → WrittenLine → Option ℕ → Option (List Condition) → Option (List Instruction)
+    → Result TableLine TableFault
 line_or_fault number line None conditions instructions = Err (UnknownName number)
 line_or_fault number line (Some class) None instructions = Err (UnknownName number)
 line_or_fault number line (Some class) (Some conditions) None = Err (UnknownProcedure number)

@@ -42,7 +42,8 @@ line_with line (Some class) (Some conditions) (Some instructions) = Some (record
 -- the line with codes in place of acronyms, where all its names and procedures are there
 abbrev pub named : CatalogueValue → WrittenLine → Option TableLine
 named catalogue line =
-    line_with line (code_in catalogue.classes line.class) (each (named_condition catalogue) line.conditions) (each instruction_in line.instructions)
+    line_with line (code_in catalogue.classes line.class)
+    (each (named_condition catalogue) line.conditions) (each instruction_in line.instructions)
 
 -- the class or an attribute isn't in the catalogue
 abbrev pub has_unknown_name : CatalogueValue → WrittenLine → Bool

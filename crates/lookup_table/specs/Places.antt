@@ -16,4 +16,5 @@ index_of index Point = index.points.entries
 abbrev pub AddsPlace : (Geom → List (ℕ × List ℕ)) → (Geom → List (ℕ × List ℕ)) → ℕ → Geom → ℕ → Type 0
 AddsPlace old new class geom place = (other : ℕ) (kind : Geom) →
     places_in (new kind) other
-    ≡ (if (class == other) && same_geom geom kind then places_in (old kind) other ++ place ∷ [] else places_in (old kind) other)
+    ≡ (if (class == other) && same_geom geom kind then places_in (old kind) other ++ place ∷ []
+    else places_in (old kind) other)

@@ -41,7 +41,8 @@ condition_with None test = None
 unfoldable pub condition_in : List (List ℕ) → Option WrittenCondition
 condition_in [] = None
 condition_in (attribute ∷ []) = None
-condition_in (attribute ∷ first ∷ more) = condition_with (acronym_of attribute) (test_of (join_with_byte 61 (first ∷ more)))
+condition_in (attribute ∷ first ∷ more) =
+    condition_with (acronym_of attribute) (test_of (join_with_byte 61 (first ∷ more)))
 
 abbrev pub condition_of : List ℕ → Option WrittenCondition
 condition_of text = condition_in (parts_at 61 text)
@@ -72,7 +73,8 @@ priority_of (digit ∷ []) = if nat_le 48 digit && nat_le digit 57 then Some (di
 priority_of (digit ∷ other ∷ more) = None
 
 -- a line, where each of its parts is there
-abbrev pub written_with : Option (List ℕ) → Option Geom → Option ℕ → Option (List WrittenCondition) → Option (List (List ℕ)) → Option WrittenLine
+abbrev pub written_with : Option (List ℕ) → Option Geom → Option ℕ
+    → Option (List WrittenCondition) → Option (List (List ℕ)) → Option WrittenLine
 written_with None geom priority conditions instructions = None
 written_with (Some class) None priority conditions instructions = None
 written_with (Some class) (Some geom) None conditions instructions = None

@@ -45,8 +45,8 @@ applies attrs line = nat_lt 0 (length line.conditions) && list_all (holds attrs)
 abbrev pub is_unconditional : TableLine → Bool
 is_unconditional line = length line.conditions == 0
 
--- The place of the line for an object: the first line for its class and geometry with a condition at least, all of which
--- hold; else the first without conditions.
+-- The place of the line for an object: the first line for its class and geometry with a condition at least, all of
+-- which hold; else the first without conditions.
 abbrev pub selected : List TableLine → ℕ → Geom → Attrs → Option ℕ
 selected lines class geom attrs =
     option_or

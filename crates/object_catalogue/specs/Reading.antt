@@ -1,5 +1,6 @@
 -- What the bytes of a catalogue are, or their first fault.
-use Rattle.std.specs.Prelude.{ℕ, ◌+◌, nat_lt, Bool, not, ◌&&◌, List, [], ◌∷◌, length, Option, Result, is_none, if◌then◌else◌}
+use Rattle.std.specs.Prelude.{ℕ, ◌+◌, nat_lt, Bool, not, ◌&&◌, if◌then◌else◌, List, [], ◌∷◌, length}
+use Rattle.std.specs.Prelude.{Option, Result, is_none}
 use Rattle.std.specs.Option.{option_to_list}
 use Rattle.std.specs.List.{flat_map, list_any}
 use Rattle.std.specs.Str.Lines.{lines}
