@@ -1,8 +1,6 @@
 -- The order of blocks.
-use Rattle.std.proofs.Common.{◌≡◌, ℕ, ◌+◌, get_or, Bool, List, refl, sym, ap, ◌∙◌, subst}
+use Rattle.std.proofs.Common.{◌≡◌, ℕ, ◌+◌, get_or, List, refl, sym, ap, ◌∙◌, subst}
 use Rattle.std.specs.List.Sorted.{IsPermutation, IsSorted, IsSortedByKey}
-use Rattle.std.specs.declared.cmp.Ordering.{Ordering}
-use Rattle.std.specs.declared.cmp.Ordering.TheVariants.{Less, Equal, Greater}
 use Rattle.std.specs.Ordering.{is_lt, nat_cmp, ordering_then}
 use Rattle.chart_model.specs.Cell.{CellValue}
 use Rattle.chart_model.specs.declared.drawing.Geom.{Geom}

@@ -1,11 +1,11 @@
 -- A cell has one drawing.
-use Rattle.std.proofs.Common.{◌≡◌, ℕ, ◌+◌, ◌<◌, ◌≤◌, Bool, true, false, cond, ◌&&◌, T, List, [], ◌∷◌, ◌++◌, length, get_or, suc, Option, Some, None, refl, sym, ap, ◌∙◌, subst, arith}
+use Rattle.std.proofs.Common.{◌≡◌, ℕ, ◌+◌, ◌<◌, ◌≤◌, Bool, true, false, cond, ◌&&◌, T, List, [], ◌∷◌, length, get_or, suc, Option, Some, None, refl, sym, ap, ◌∙◌, subst, arith}
 use Rattle.std.specs.Prelude.{IfSome}
 use Rattle.std.specs.List.{All, sum_by, flat_map}
-use Rattle.std.specs.List.Sorted.{IsPermutation, IsSorted}
+use Rattle.std.specs.List.Sorted.{IsSorted}
 use Rattle.std.specs.declared.cmp.Ordering.{Ordering}
 use Rattle.std.specs.declared.cmp.Ordering.TheVariants.{Less, Equal, Greater}
-use Rattle.std.specs.Ordering.{is_lt, is_eq, eq_by_cmp, nat_cmp, ordering_then, ordering_reverse}
+use Rattle.std.specs.Ordering.{is_lt, is_eq, eq_by_cmp, ordering_then, ordering_reverse}
 use Rattle.std.specs.Cmp.{IsTotalOrder, nat_cmp_total}
 use Rattle.std.specs.FinMap as map
 use Rattle.std.specs.FinMap.{nat_cmp-IsAntisymmetric, find, is_sorted}
@@ -23,7 +23,7 @@ use Rattle.chart_model.specs.declared.name.Name.{Name}
 use Rattle.lookup_table.specs.declared.line.TableLine.{TableLine}
 use Rattle.draw_list.specs.declared.drawing.Drawn.{Drawn}
 use Rattle.draw_list.specs.Block.{block_in}
-use Rattle.draw_list.specs.Drawing.{drawn_with, drawn_of, blocks_in, rank_of, drawn_cmp, IsDrawing}
+use Rattle.draw_list.specs.Drawing.{drawn_with, drawn_of, rank_of, drawn_cmp, IsDrawing}
 
 -- ---- sorted lists of the same elements
 

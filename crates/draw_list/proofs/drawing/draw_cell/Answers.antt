@@ -1,5 +1,4 @@
-use Rattle.std.proofs.Common.{refl, rules}
-use Rattle.std.specs.List.Sorted.{IsSortedByKey}
+use Rattle.std.proofs.Common.{rules}
 use Rattle.std.proofs.lemmas.List.Sorted.{answers_always}
 use Rattle.draw_list.specs.Drawing.{key_of}
 use Rattle.draw_list.proofs.Orders.{sorted_by_keys, drawing_by}
