@@ -1,5 +1,5 @@
 -- The depth areas under an object.
-use Rattle.std.specs.Prelude.{◌≡◌, ℤ, Bool, ◌&&◌, ◌||◌, ◌==◌, if◌then◌else◌, IsTrue, List, [], map, filter, Any}
+use Rattle.std.specs.Prelude.{ℤ, Bool, ◌&&◌, ◌||◌, ◌==◌, if◌then◌else◌, List, [], map, filter}
 use Rattle.std.specs.Prelude.{Option, Some, None, option_map}
 use Rattle.std.specs.List.{list_any, flat_map, filter_map, fold}
 use Rattle.std.specs.Int.{int_min}
@@ -9,7 +9,6 @@ use Rattle.chart_model.specs.declared.cell.Feature.{Feature}
 use Rattle.chart_model.specs.Cell.{CellValue}
 use Rattle.chart_model.specs.Codes.{AREA}
 use Rattle.plane_geometry.specs.declared.point.Pt.{Pt}
-use Rattle.plane_geometry.specs.EvenOdd.{IsInside}
 use Rattle.area_rings.specs.declared.shape.Shape.{Shape}
 use Rattle.area_rings.specs.declared.shape.Shape.TheVariants.{Points, Lines, Rings, Bare}
 use Rattle.area_rings.specs.Edge.{point_of}
@@ -29,15 +28,6 @@ points_in (Points coords) = map point_of coords
 points_in (Lines lines) = flat_map (λ line. line) lines
 points_in (Rings rings) = flat_map (λ ring. ring) rings
 points_in Bare = []
-
--- a depth area in or on which a point of the shape lies
-pub record LiesUnder (cell : CellValue) (shape : Shape) (feature : Feature) : Type 0 where
-  pub area : IsTrue (is_depth_area feature)
-  pub rings : List (List Pt)
-  pub traced : rings_of cell feature.pointers ≡ Some rings
-  pub holds : Any (λ p. IsInside p rings) (points_in shape)
-
--- ---- as a function
 
 -- the depth area that the feature of a name is, where it is one and has rings
 abbrev pub area_at : CellValue → Name × Feature → Option AreaValue

@@ -10,7 +10,7 @@ ghost use Rattle.depth_values.specs.Hazard.{IsLeast};
 ghost use Rattle.depth_values.specs.Digits.{cells_of, WritesDepth};
 
 /// The test that definitions cite says whether a point is inside rings by the even-odd rule.
-pub fn areas_lie_under()
+pub fn points_are_inside()
     ensures { (p : Pt) (rings : List (List Pt)) → IsTrue (is_inside p rings) ↔ IsInside p rings }
 {}
 

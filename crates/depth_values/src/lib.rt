@@ -20,5 +20,5 @@ pub use cells::CellList;
 pub use depth_area::{DepthArea, DepthAreas, depth_areas};
 pub use digits::{Digits, digit_cells};
 pub use hazard::{hazard_depth, hazard_depth_among};
-pub use laws::{areas_lie_under, digits_write_depths, least_is_least};
+pub use laws::{points_are_inside, digits_write_depths, least_is_least};
 pub use under::{areas_among, areas_under};

@@ -19,6 +19,7 @@ pub fn text_of(character: u8) -> &'static [u8]
         0 => b"",
         b'1' => b"1",
         b'2' => b"2",
+        b'5' => b"5",
         _ => b"\x7F",
     }
 }
@@ -210,7 +211,7 @@ fn feature_change(alloc: Global, row: &Row) -> Result<UpdateRecord, AllocError> 
         version: row.version,
         prim: prim_of(row.prim),
         grup: 2,
-        class: 42,
+        class: row.class,
         foid: foid_in(ruin, row.foid),
         attrs: attr_list(alloc, row.attrs)?,
         pointer_edit: control(row.pointer_edit),

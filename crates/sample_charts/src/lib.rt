@@ -1,7 +1,8 @@
 //! Sample charts, over which shapes, closure and changes are tested across crates.
 //!
-//! The tests hold what `area_rings`, `chart_closure`, `chart_difference` and `update_apply` answer on small charts
-//! against shapes, faults, names and changed records that were worked out by hand. None of these crates has tests of its
+//! The tests hold what `area_rings`, `chart_closure`, `chart_difference`, `depth_values`, `topology_cache` and
+//! `update_apply` answer on small charts against shapes, faults, names, depths and changed records that were worked out
+//! by hand. None of these crates has tests of its
 //! own, since each would be proved again for them; this crate is tests alone, and is proved once.
 //!
 //! A chart is rows of a few numbers (`row`), each the insertion of a record (`change`), which are made one after the

@@ -19,6 +19,8 @@ pub struct Row {
     /// Of a feature.
     pub prim: u8,
     /// Of a feature.
+    pub class: u16,
+    /// Of a feature.
     pub foid: Option<Foid>,
     /// Codes, each with the text it is set to: one character, or none where this is 0.
     pub attrs: &'static [(u16, u8)],
@@ -43,6 +45,7 @@ pub const BARE: Row = Row {
     ruin: 1,
     version: 1,
     prim: 255,
+    class: 42,
     foid: Some(FOID),
     attrs: &[],
     pointer_edit: None,

@@ -1,4 +1,6 @@
 mod changes;
+mod depths;
 mod differences;
 mod faults;
 mod shapes;
+mod users;
