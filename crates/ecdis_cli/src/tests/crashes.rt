@@ -61,11 +61,12 @@ const LINES: [(&str, &str, Option<&str>); 15] = [
 /// What is listed of an empty store.
 const NOTHING: &str = "ok cells 0\n";
 
-/// How many calls an opening makes, and how many a command that is accepted makes before its reply.
+/// How many calls an opening makes.
 const OPENING: u64 = 8;
 
 /// The sides that a store shows which is opened after one of a command's calls failed, or its reply, with each fill of
-/// the bytes that are uncertain: what was held before it, or after it.
+/// the bytes that are uncertain: what was held before it, or after it. A line that is not accepted has a reply alone, and
+/// shows what was held before it, as the first.
 const FAILED: [&str; 5] = ["bbb", "bbb", "bba", "baa", "aaa"];
 
 fn run_with<C: Ledger>(
@@ -139,6 +140,17 @@ fn stopped(
     Ok((status, sides(alloc, &desk, before, after)?))
 }
 
+/// How many calls a line makes: those of its command and of its reply, where there are such.
+fn calls_of(reply: &str, accepted: Option<&str>) -> usize {
+    if accepted.is_some() {
+        5
+    } else if reply.is_empty() {
+        0
+    } else {
+        1
+    }
+}
+
 #[test]
 fn a_crash_leaves_the_commands_that_were_acknowledged(rt: HostRuntime) -> Result<(), Fail> {
     let alloc = rt.alloc();
@@ -150,13 +162,8 @@ fn a_crash_leaves_the_commands_that_were_acknowledged(rt: HostRuntime) -> Result
     let mut calls = OPENING;
     let mut before = NOTHING;
     for (line, reply, accepted) in &LINES {
-        let wanted: &[&str] = match accepted {
-            Some(_) => &FAILED,
-            None if reply.is_empty() => &[],
-            None => &["bbb"],
-        };
         let after = accepted.unwrap_or(before);
-        for wanted in wanted {
+        for wanted in FAILED.iter().take(calls_of(reply, *accepted)) {
             calls = calls.saturating_add(1);
             let (status, sides) = stopped(alloc, calls, before, after)?;
             assert_eq!(rt; status, Status::DeskFault);
