@@ -267,7 +267,9 @@ fn other_words_do_nothing(rt: HostRuntime) -> Result<(), Fail> {
     let none = Vec::new(alloc);
     let mut more = words(alloc)?;
     more.push(String::from_str(alloc, "--shades=3")?)?;
-    for words in [none.as_slice(), &more.as_slice()[..3], more.as_slice()] {
+    let mut fewer = words(alloc)?;
+    let _ = fewer.pop();
+    for words in [none.as_slice(), fewer.as_slice(), more.as_slice()] {
         let outcome = outcome(alloc, words, &Case::of(b"x\n"))?;
         assert_eq!(rt; outcome.0, Status::Words);
         assert_eq!(rt; outcome.1.as_slice(), b"".as_slice());
