@@ -1,10 +1,10 @@
 -- Values that may be absent.
-use Rattle.std.specs.Prelude.{List, [], ◌∷◌, Option, Some, None}
+use Rattle.std.specs.Prelude.{List, [], ◌∷◌, Option, Some}
+use Rattle.std.specs.Option.{option_and_then}
 
 infixl 10 ◌>>=◌
 abbrev pub ◌>>=◌ : {A B : Type 0} → Option A → (A → Option B) → Option B
-(Some x) >>= f = f x
-None >>= f = None
+value >>= next = option_and_then next value
 
 -- what f gives of each of the items, where it gives something of each
 abbrev pub each : {A B : Type 0} → (A → Option B) → List A → Option (List B)

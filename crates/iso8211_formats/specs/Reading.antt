@@ -6,7 +6,7 @@ use Rattle.std.specs.List.{slice_split}
 use Rattle.std.specs.Char.{is_ascii_digit}
 use Rattle.std.specs.Str.{all_ascii_digits}
 use Rattle.std.specs.Str.Parse.{digits_value}
-use Rattle.std.specs.Option.{option_or}
+use Rattle.std.specs.Option.{option_and_then, option_or}
 use Rattle.iso8211_formats.specs.declared.format.Format.{Format}
 use Rattle.iso8211_formats.specs.declared.format.Format.TheVariants.{TextOpen, Text, Unsigned, Signed, Bits}
 use Rattle.iso8211_formats.specs.Layout.{Layout}
@@ -14,8 +14,7 @@ use Rattle.iso8211_formats.specs.Terminators.{field_terminator, unit_terminator}
 
 infixl 10 ◌>>=◌
 abbrev pub ◌>>=◌ : {A B : Type 0} → Option A → (A → Option B) → Option B
-None >>= f = None
-(Some x) >>= f = f x
+value >>= next = option_and_then next value
 
 abbrev pub is_empty : List ℕ → Bool
 is_empty [] = true
