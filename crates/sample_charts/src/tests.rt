@@ -1,4 +1,5 @@
 mod changes;
 mod differences;
+mod drawings;
 mod faults;
 mod shapes;

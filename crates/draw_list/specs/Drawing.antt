@@ -1,0 +1,49 @@
+-- The drawing of a cell.
+use Rattle.std.specs.Prelude.{ℕ, List, [], ◌∷◌, Option, Some, None}
+use Rattle.std.specs.List.{flat_map}
+use Rattle.std.specs.List.Sorted.{IsPermutation, IsSorted}
+use Rattle.std.specs.Ordering.{ordering_then, nat_cmp}
+use Rattle.std.specs.declared.cmp.Ordering.{Ordering}
+use Rattle.std.specs.FinMap as map
+use Rattle.chart_model.specs.Cell.{CellValue}
+use Rattle.chart_model.specs.declared.cell.Feature.{Feature}
+use Rattle.chart_model.specs.declared.drawing.Block.{Block}
+use Rattle.chart_model.specs.declared.drawing.Geom.{Geom}
+use Rattle.chart_model.specs.declared.drawing.Geom.TheVariants.{Area, Line, Point}
+use Rattle.chart_model.specs.declared.name.Name.{Name}
+use Rattle.lookup_table.specs.declared.line.TableLine.{TableLine}
+use Rattle.draw_list.specs.declared.drawing.Drawn.{Drawn}
+use Rattle.draw_list.specs.declared.drawing.DrawOrder.{DrawOrder}
+use Rattle.draw_list.specs.Block.{block_in}
+
+-- the feature's block under its number, where it is shown
+abbrev pub drawn_with : ℕ → Option Block → List Drawn
+drawn_with rcid None = []
+drawn_with rcid (Some block) = record { rcid = rcid; block = block } ∷ []
+
+abbrev pub drawn_of : List TableLine → ℕ → Name × Feature → List Drawn
+drawn_of table scale entry = drawn_with entry.0.rcid (block_in table scale entry.1)
+
+-- the blocks of all features of the cell that are shown
+abbrev pub blocks_in : CellValue → List TableLine → ℕ → List Drawn
+blocks_in cell table scale = flat_map (drawn_of table scale) (map.entries cell.features)
+
+-- areas are drawn before lines, and lines before points
+abbrev pub rank_of : Geom → ℕ
+rank_of Area = 0
+rank_of Line = 1
+rank_of Point = 2
+
+-- by priority, then by geometry, then by the feature's number
+abbrev pub drawn_cmp : Drawn → Drawn → Ordering
+drawn_cmp x y =
+    ordering_then (nat_cmp x.block.priority y.block.priority)
+    (ordering_then (nat_cmp (rank_of x.block.geom) (rank_of y.block.geom)) (nat_cmp x.rcid y.rcid))
+
+-- the same blocks, in that order
+pub record IsDrawing (cell : CellValue) (table : List TableLine) (scale : ℕ) (drawing : List Drawn) : Type 0 where
+  pub all : IsPermutation (blocks_in cell table scale) drawing
+  pub ordered : IsSorted drawn_cmp drawing
+
+abbrev pub key_of : Drawn → DrawOrder
+key_of drawn = record { priority = drawn.block.priority; geom = drawn.block.geom; rcid = drawn.rcid }

@@ -1,0 +1,84 @@
+//! The drawing of a cell.
+
+ghost use Rattle.std.specs.Prelude.{◌≡◌, ◌++◌, IfOk, OnOk};
+ghost use Rattle.draw_list.specs.Drawing.{IsDrawing, key_of, blocks_in, drawn_with};
+
+use crate::block::block_in;
+use chart_model::{Block, Cell, Geom, Sequence, Settings};
+use lookup_table::Table;
+use std::alloc::{AllocError, Global};
+
+/// What is drawn of one feature.
+#[derive(Debug, Drop)]
+pub struct Drawn {
+    /// The number of the feature.
+    pub rcid: u32,
+    pub block: Block,
+}
+
+/// What is drawn of the features of a cell, in the order of drawing.
+pub type DrawList = Sequence<Drawn>;
+
+/// What orders a block among others: its priority, its geometry and the number of its feature.
+#[derive(Clone, Copy, Debug, PartialEq, Eq, PartialOrd, Ord)]
+struct DrawOrder {
+    priority: u8,
+    geom: Geom,
+    rcid: u32,
+}
+
+/// What orders a block among others.
+fn order_of(drawn: &Drawn) -> DrawOrder
+    ensures { result ≡ key_of drawn.now }
+{
+    DrawOrder {
+        priority: drawn.block.priority,
+        geom: drawn.block.geom,
+        rcid: drawn.rcid,
+    }
+}
+
+/// Adds the block of the feature with a number, where it is shown.
+fn push_block(blocks: &mut Vec<Drawn>, rcid: u32, block: Option<Block>) -> Result<(), AllocError>
+    ensures { OnOk result (blocks.new.items ≡ blocks.old.items ++ drawn_with rcid block) }
+{
+    match block {
+        Some(block) => {
+            blocks.push(Drawn { rcid, block })?;
+            Ok(())
+        }
+        None => Ok(()),
+    }
+}
+
+/// The blocks of all features that are shown, in the order of their names.
+fn blocks_of(
+    alloc: Global,
+    cell: &Cell,
+    table: &Table,
+    settings: &Settings,
+) -> Result<Vec<Drawn>, AllocError>
+    ensures { IfOk result (λ blocks. blocks.items ≡ blocks_in cell.now table.now settings.now.scale) }
+{
+    let mut blocks = Vec::new(alloc);
+    for (name, feature) in cell.features.iter() {
+        let block = block_in(alloc, table, settings, feature)?;
+        push_block(&mut blocks, name.rcid, block)?;
+    }
+    Ok(blocks)
+}
+
+/// The drawing of a cell: the blocks of all features that are shown, by priority, then areas before lines before points,
+/// then by the features' numbers.
+pub fn draw_cell(
+    alloc: Global,
+    cell: &Cell,
+    table: &Table,
+    settings: &Settings,
+) -> Result<DrawList, AllocError>
+    ensures { IfOk result (λ drawing. IsDrawing cell.now table.now settings.now.scale drawing) }
+{
+    let mut blocks = blocks_of(alloc, cell, table, settings)?;
+    blocks.sort_by_key(|drawn| order_of(drawn))?;
+    Ok(DrawList::from_vec(blocks))
+}

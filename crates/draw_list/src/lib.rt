@@ -1,0 +1,19 @@
+//! The drawing of a cell by a lookup table.
+//!
+//! A feature with a geometry (a point, a line or an area) is shown, unless its attribute SCAMIN is a number below the
+//! denominator of the display scale. What is drawn of it is a block: the priority and the instructions of the table's
+//! line for it, each on the whole feature; or a question mark at priority 5, where the table has no line for it.
+//!
+//! The drawing is the blocks of all features that are shown, by priority; at one priority areas before lines before
+//! points; then by the features' numbers (RCID).
+#![tactic(auto)]
+
+mod block;
+mod drawing;
+mod laws;
+mod print;
+
+pub use block::block_of;
+pub use drawing::{DrawList, Drawn, draw_cell};
+pub use laws::drawings_are_one;
+pub use print::print_item;

@@ -1,0 +1,70 @@
+-- The parts of a line, one after the other.
+use Rattle.std.proofs.Common.{◌≡◌, ℕ, ◌+◌, ◌<◌, ◌≤◌, Bool, false, cond, eqb, List, [], ◌∷◌, length, Option, Some, None, Bor, refl, sym, ap, ◌∙◌, subst, arith}
+use Rattle.std.specs.Prelude.{IfSome, IfNone, codes}
+use Rattle.std.specs.Str.{bytes_eq}
+use Rattle.std.specs.List.{join_with_byte}
+use Rattle.std.proofs.lemmas.List.Splits.{join_with_byte-slice_split, length-slice_split}
+use Rattle.text_lines.specs.Lines.{parts_at}
+use Rattle.object_catalogue.specs.Acronym.{acronym_of}
+use Rattle.lookup_table.specs.declared.written.WrittenCondition.{WrittenCondition}
+use Rattle.lookup_table.specs.Reading.{each, instruction_of, test_of, condition_with, condition_in, condition_of, conditions_of, instructions_of, geom_of, priority_of, written_with, written_in, written_of}
+
+-- what a cut says where there is a rest
+pub cut_gives : (c : ℕ) (o : Option (Bor (List ℕ))) (rest : Bor (List ℕ)) (text first : List ℕ) → o ≡ Some rest
+    → IfSome o (λ r. parts_at c text ≡ first ∷ parts_at c r.now) → parts_at c text ≡ first ∷ parts_at c rest.now
+cut_gives c o rest text first e h = subst (λ (x : Option (Bor (List ℕ))). IfSome x (λ r. parts_at c text ≡ first ∷ parts_at c r.now)) e h
+
+-- all that stands behind
+two_sides : (acronym : List ℕ) (parts : List (List ℕ)) → 1 ≤ length parts → condition_in (acronym ∷ parts) ≡ condition_with (acronym_of acronym) (test_of (join_with_byte 61 parts))
+unfolding condition_in
+two_sides acronym [] h = absurd (omega (arith, h))
+two_sides acronym (first ∷ more) h = refl
+
+pub condition_cut : (text acronym rest : List ℕ) → parts_at 61 text ≡ acronym ∷ parts_at 61 rest → condition_of text ≡ condition_with (acronym_of acronym) (test_of rest)
+condition_cut text acronym rest e =
+    ap condition_in e
+    ∙ two_sides acronym (parts_at 61 rest) (omega (arith, length-slice_split (λ b. eqb b 61) rest))
+    ∙ ap (λ (l : List ℕ). condition_with (acronym_of acronym) (test_of l)) (join_with_byte-slice_split 61 rest)
+
+five_parts : (class geom priority conditions : List ℕ) (parts : List (List ℕ)) → 1 ≤ length parts
+    → written_in (class ∷ geom ∷ priority ∷ conditions ∷ parts)
+    ≡ written_with (acronym_of class) (geom_of geom) (priority_of priority) (conditions_of conditions) (instructions_of (join_with_byte 32 parts))
+unfolding written_in
+five_parts class geom priority conditions [] h = absurd (omega (arith, h))
+five_parts class geom priority conditions (first ∷ more) h = refl
+
+pub line_cut : (line class geom priority conditions rest : List ℕ) → parts_at 32 line ≡ class ∷ geom ∷ priority ∷ conditions ∷ parts_at 32 rest
+    → written_of line ≡ written_with (acronym_of class) (geom_of geom) (priority_of priority) (conditions_of conditions) (instructions_of rest)
+line_cut line class geom priority conditions rest e =
+    ap written_in e
+    ∙ five_parts class geom priority conditions (parts_at 32 rest) (omega (arith, length-slice_split (λ b. eqb b 32) rest))
+    ∙ ap (λ (l : List ℕ). written_with (acronym_of class) (geom_of geom) (priority_of priority) (conditions_of conditions) (instructions_of l)) (join_with_byte-slice_split 32 rest)
+
+-- what is left to read of joined parts
+abbrev pub parts_left : ℕ → Option (Bor (List ℕ)) → List (List ℕ)
+parts_left c None = []
+parts_left c (Some text) = parts_at c text.now
+
+abbrev pub left_to_read : Option (Bor (List ℕ)) → ℕ
+left_to_read None = 0
+left_to_read (Some text) = length text.now + 1
+
+-- a part is read
+pub parts_left-cut : (c : ℕ) (left : Option (Bor (List ℕ))) (text : Bor (List ℕ)) (part : List ℕ) (rest : Option (Bor (List ℕ))) → left ≡ Some text
+    → IfSome rest (λ r. parts_at c text.now ≡ part ∷ parts_at c r.now)
+    → IfNone rest (parts_at c text.now ≡ part ∷ [])
+    → parts_left c left ≡ part ∷ parts_left c rest
+parts_left-cut c left text part None e h k = ap (parts_left c) e ∙ k
+parts_left-cut c left text part (Some r) e h k = ap (parts_left c) e ∙ h
+
+-- and less is left
+pub left_to_read-cut : (left : Option (Bor (List ℕ))) (text : Bor (List ℕ)) (rest : Option (Bor (List ℕ))) → left ≡ Some text
+    → IfSome rest (λ r. length r.now < length text.now) → left_to_read rest < left_to_read left
+left_to_read-cut left text None e h = subst (λ (x : Option (Bor (List ℕ))). 0 < left_to_read x) (sym e) (omega arith)
+left_to_read-cut left text (Some r) e h = subst (λ (x : Option (Bor (List ℕ))). length r.now + 1 < left_to_read x) (sym e) (omega arith)
+
+pub conditions_by : (word : List ℕ) (o : Option (List WrittenCondition)) → bytes_eq word (codes "-") ≡ false → o ≡ each condition_of (parts_at 43 word) → o ≡ conditions_of word
+conditions_by word o other e = e ∙ sym (ap (λ (b : Bool). cond b (Some []) (each condition_of (parts_at 43 word))) other)
+
+pub instructions_by : (text : List ℕ) (o : Option (List (List ℕ))) → bytes_eq text (codes "-") ≡ false → o ≡ each instruction_of (parts_at 59 text) → o ≡ instructions_of text
+instructions_by text o other e = e ∙ sym (ap (λ (b : Bool). cond b (Some []) (each instruction_of (parts_at 59 text))) other)

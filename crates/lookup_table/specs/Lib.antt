@@ -1,0 +1,8 @@
+pub mod Written
+pub mod Reading
+pub mod Named
+pub mod Selection
+pub mod Index
+pub mod Places
+pub mod Lines
+pub mod Answers

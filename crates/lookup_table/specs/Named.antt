@@ -1,0 +1,56 @@
+-- The names and procedures of a line, looked up.
+use Rattle.std.specs.Prelude.{ℕ, Bool, ◌||◌, if◌then◌else◌, List, take, codes, Option, Some, None, is_none}
+use Rattle.std.specs.List.{list_any}
+use Rattle.std.specs.Str.{bytes_eq}
+use Rattle.object_catalogue.specs.Codes.{CatalogueValue, code_in}
+use Rattle.lookup_table.specs.declared.condition.Condition.{Condition}
+use Rattle.lookup_table.specs.declared.instruction.Instruction.{Instruction}
+use Rattle.lookup_table.specs.declared.instruction.Instruction.TheVariants.{Draw}
+use Rattle.lookup_table.specs.declared.line.TableLine.{TableLine}
+use Rattle.lookup_table.specs.declared.written.WrittenCondition.{WrittenCondition}
+use Rattle.lookup_table.specs.declared.written.WrittenLine.{WrittenLine}
+use Rattle.lookup_table.specs.Reading.{each}
+
+-- `CS` calls a procedure
+abbrev pub calls_procedure : List ℕ → Bool
+calls_procedure text = bytes_eq (take 2 text) (codes "CS")
+
+-- the instruction that a text writes; there is no procedure yet
+abbrev pub instruction_in : List ℕ → Option Instruction
+instruction_in text = if calls_procedure text then None else Some (Draw text)
+
+-- a condition by its attribute's code
+abbrev pub condition_with_code : WrittenCondition → Option ℕ → Option Condition
+condition_with_code condition None = None
+condition_with_code condition (Some code) = Some (record { attribute = code; test = condition.test })
+
+abbrev pub named_condition : CatalogueValue → WrittenCondition → Option Condition
+named_condition catalogue condition = condition_with_code condition (code_in catalogue.attributes condition.attribute)
+
+abbrev pub line_with : WrittenLine → Option ℕ → Option (List Condition) → Option (List Instruction) → Option TableLine
+line_with line None conditions instructions = None
+line_with line (Some class) None instructions = None
+line_with line (Some class) (Some conditions) None = None
+line_with line (Some class) (Some conditions) (Some instructions) = Some (record {
+  class = class;
+  geom = line.geom;
+  priority = line.priority;
+  conditions = conditions;
+  instructions = instructions;
+})
+
+-- the line with codes in place of acronyms, where all its names and procedures are there
+abbrev pub named : CatalogueValue → WrittenLine → Option TableLine
+named catalogue line =
+    line_with line (code_in catalogue.classes line.class)
+    (each (named_condition catalogue) line.conditions) (each instruction_in line.instructions)
+
+-- the class or an attribute isn't in the catalogue
+abbrev pub has_unknown_name : CatalogueValue → WrittenLine → Bool
+has_unknown_name catalogue line =
+    is_none (code_in catalogue.classes line.class)
+    || list_any (λ condition. is_none (code_in catalogue.attributes condition.attribute)) line.conditions
+
+-- an instruction calls a procedure that isn't there
+abbrev pub has_unknown_procedure : WrittenLine → Bool
+has_unknown_procedure line = list_any (λ text. is_none (instruction_in text)) line.instructions

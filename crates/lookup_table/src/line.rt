@@ -1,0 +1,17 @@
+//! A line of a table.
+
+use crate::condition::ConditionList;
+use crate::instruction::InstructionList;
+use chart_model::Geom;
+
+/// What a line of a table says: the instructions for objects of a class and a geometry of which the conditions hold.
+#[derive(Debug, Drop)]
+pub struct TableLine {
+    /// The code of the object class.
+    pub class: u16,
+    pub geom: Geom,
+    /// The display priority, 0 to 9: the greater is drawn later.
+    pub priority: u8,
+    pub conditions: ConditionList,
+    pub instructions: InstructionList,
+}

@@ -1,0 +1,5 @@
+pub mod Acronyms
+pub mod Pairs
+pub mod Lines
+pub mod Entries
+pub mod Progress
