@@ -1,3 +1,5 @@
 pub mod Shown
 pub mod Orders
 pub mod Unique
+pub mod Placed
+pub mod Printed

@@ -82,7 +82,7 @@ module _ {X : Type 0} (cmp : X → X → Ordering) (total : IsTotalOrder cmp) wh
       by Less e = absurd (true≢false (sym (ap is_lt e) ∙ h))
       by Greater e = absurd (true≢false (sym (ap is_lt (total.antisymm y x ∙ ap ordering_reverse e)) ∙ k))
 
-  sorted_tail : (x : X) (xs : List X) → IsSorted cmp (x ∷ xs) → IsSorted cmp xs
+  pub sorted_tail : (x : X) (xs : List X) → IsSorted cmp (x ∷ xs) → IsSorted cmp xs
   sorted_tail x xs sorted k d low high =
       let next : suc k + 1 ≡ suc (k + 1) = omega arith in
       subst (λ (n : ℕ). is_lt (cmp (get_or (x ∷ xs) n d) (get_or xs k d)) ≡ false) next (sorted (suc k) d (omega arith) (omega arith))
@@ -191,7 +191,7 @@ module _ (cell : CellValue) (table : List TableLine) (scale : ℕ) where
       some_is : {A : Type 0} (x y : A) → ◌≡◌ {A = Option A} (Some x) (Some y) → x ≡ y
       some_is x y e = cc
 
-drawn_total : IsTotalOrder drawn_cmp
+pub drawn_total : IsTotalOrder drawn_cmp
 drawn_total =
     then_total (on_total (λ (d : Drawn). d.block.priority) nat_cmp_total)
     (then_total (on_total (λ (d : Drawn). rank_of d.block.geom) nat_cmp_total) (on_total (λ (d : Drawn). d.rcid) nat_cmp_total))

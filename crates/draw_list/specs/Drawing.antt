@@ -1,8 +1,8 @@
 -- The drawing of a cell.
-use Rattle.std.specs.Prelude.{ℕ, List, [], ◌∷◌, Option, Some, None}
-use Rattle.std.specs.List.{flat_map}
+use Rattle.std.specs.Prelude.{ℕ, if◌then◌else◌, List, [], ◌∷◌, Option, Some, None}
+use Rattle.std.specs.List.{flat_map, fold}
 use Rattle.std.specs.List.Sorted.{IsPermutation, IsSorted}
-use Rattle.std.specs.Ordering.{ordering_then, nat_cmp}
+use Rattle.std.specs.Ordering.{ordering_then, nat_cmp, is_gt}
 use Rattle.std.specs.declared.cmp.Ordering.{Ordering}
 use Rattle.std.specs.FinMap as map
 use Rattle.chart_model.specs.Cell.{CellValue}
@@ -45,5 +45,18 @@ pub record IsDrawing (cell : CellValue) (table : List TableLine) (scale : ℕ) (
   pub all : IsPermutation (blocks_in cell table scale) drawing
   pub ordered : IsSorted drawn_cmp drawing
 
+-- ---- as a function
+
+-- a block put among others in order, before the first that it doesn't stand behind
+abbrev pub put_among : Drawn → List Drawn → List Drawn
+put_among drawn [] = drawn ∷ []
+put_among drawn (next ∷ rest) =
+    if is_gt (drawn_cmp drawn next) then next ∷ put_among drawn rest else drawn ∷ next ∷ rest
+
+-- the blocks of all features that are shown, each put among those before it
+abbrev pub drawing_of : CellValue → List TableLine → ℕ → List Drawn
+drawing_of cell table scale = fold (λ drawing drawn. put_among drawn drawing) [] (blocks_in cell table scale)
+
+-- what the code orders a block by
 abbrev pub key_of : Drawn → DrawOrder
 key_of drawn = record { priority = drawn.block.priority; geom = drawn.block.geom; rcid = drawn.rcid }

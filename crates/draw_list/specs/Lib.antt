@@ -1,3 +1,4 @@
 pub mod Block
 pub mod Drawing
+pub mod Lines
 pub mod Print

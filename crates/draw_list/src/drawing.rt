@@ -1,7 +1,8 @@
 //! The drawing of a cell.
 
 ghost use Rattle.std.specs.Prelude.{◌≡◌, ◌++◌, IfOk, OnOk};
-ghost use Rattle.draw_list.specs.Drawing.{IsDrawing, key_of, blocks_in, drawn_with};
+ghost use Rattle.chart_model.specs.Cell.{IsCell};
+ghost use Rattle.draw_list.specs.Drawing.{IsDrawing, drawing_of, key_of, blocks_in, drawn_with};
 
 use crate::block::block_in;
 use chart_model::{Block, Cell, Geom, Sequence, Settings};
@@ -58,7 +59,8 @@ fn blocks_of(
     table: &Table,
     settings: &Settings,
 ) -> Result<Vec<Drawn>, AllocError>
-    ensures { IfOk result (λ blocks. blocks.items ≡ blocks_in cell.now table.now settings.now.scale) }
+    ensures cell { IsCell cell.now }
+    ensures blocks { IfOk result (λ blocks. blocks.items ≡ blocks_in cell.now table.now settings.now.scale) }
 {
     let mut blocks = Vec::new(alloc);
     for (name, feature) in cell.features.iter() {
@@ -76,7 +78,8 @@ pub fn draw_cell(
     table: &Table,
     settings: &Settings,
 ) -> Result<DrawList, AllocError>
-    ensures { IfOk result (λ drawing. IsDrawing cell.now table.now settings.now.scale drawing) }
+    ensures drawing { IfOk result (λ drawing. IsDrawing cell.now table.now settings.now.scale drawing) }
+    ensures function { IfOk result (λ drawing. drawing ≡ drawing_of cell.now table.now settings.now.scale) }
 {
     let mut blocks = blocks_of(alloc, cell, table, settings)?;
     blocks.sort_by_key(|drawn| order_of(drawn))?;

@@ -11,9 +11,11 @@
 mod block;
 mod drawing;
 mod laws;
+mod lines;
 mod print;
 
 pub use block::block_of;
 pub use drawing::{DrawList, Drawn, draw_cell};
 pub use laws::drawings_are_one;
+pub use lines::print_drawing;
 pub use print::print_item;
