@@ -2,8 +2,8 @@
 
 use crate::charts::chart;
 use crate::row::{Row, feature};
-use chart_model::{Block, Cell, Geom, Item, ItemList, Name, Octets, Settings, Shades, Target};
-use draw_list::{block_of, draw_cell, print_item};
+use chart_model::{Block, Geom, Item, ItemList, Name, Octets, Settings, Shades, Target};
+use draw_list::{block_of, draw_cell, print_drawing, print_item};
 use lookup_table::{Table, read_table};
 use object_catalogue::read_objects;
 use std::alloc::Global;
@@ -28,13 +28,14 @@ static CHART: [Row; 6] = [
     feature!(1, 3, []),
 ];
 
-/// A table, the denominator of a display scale, and the lines of the drawing.
-type Case = (&'static [u8], u32, &'static [u8]);
+/// A table, the denominator of a display scale, and the number of the drawing's items and their lines.
+type Case = (&'static [u8], u32, u64, &'static [u8]);
 
 static CASES: [Case; 5] = [
     (
         b"DEPARE A 1 - AC(DEPVS)",
         1,
+        5,
         b"item 1 A 1 whole AC(DEPVS)
 item 1 A 2 whole AC(DEPVS)
 item 5 L 5 whole SY(QUESMRK1)
@@ -45,6 +46,7 @@ item 5 P 4 whole SY(QUESMRK1)
     (
         b"DEPARE A 1 - AC(DEPVS)\nDEPARE A 2 DRVAL1=2 AC(DEPDW)\n",
         2,
+        4,
         b"item 1 A 1 whole AC(DEPVS)
 item 2 A 2 whole AC(DEPDW)
 item 5 P 3 whole SY(QUESMRK1)
@@ -53,6 +55,7 @@ item 5 P 4 whole SY(QUESMRK1)
     ),
     (
         b"DEPARE A 1 - AC(DEPVS)",
+        3,
         3,
         b"item 1 A 1 whole AC(DEPVS)
 item 5 P 3 whole SY(QUESMRK1)
@@ -63,6 +66,7 @@ item 5 P 4 whole SY(QUESMRK1)
     (
         b"DEPARE P 1 - SY(B);SY(A)\nDEPARE A 1 - AC(DEPVS)\nDEPARE L 0 - -\n",
         1,
+        6,
         b"item 1 A 1 whole AC(DEPVS)
 item 1 A 2 whole AC(DEPVS)
 item 1 P 3 whole SY(B)
@@ -75,6 +79,7 @@ item 1 P 4 whole SY(A)
     (
         b"DEPARE A 9 SCAMIN=? AC(DEPMD)\nDEPARE P 7 DRVAL1=* -\n",
         4_294_967_295,
+        3,
         b"item 5 P 3 whole SY(QUESMRK1)
 item 5 P 4 whole SY(QUESMRK1)
 item 9 A 1 whole AC(DEPMD)
@@ -99,25 +104,15 @@ fn settings(scale: u32) -> Settings {
     }
 }
 
-/// The lines of a drawing.
-fn drawing(alloc: Global, cell: &Cell, table: &Table, scale: u32) -> Result<Octets, Fail> {
-    let drawn = draw_cell(alloc, cell, table, &settings(scale))?;
-    let mut lines = Octets::from_vec(Vec::new(alloc));
-    for one in drawn.as_slice() {
-        for item in one.block.items.as_slice() {
-            print_item(alloc, &mut lines, &one.block, one.rcid, item)?;
-        }
-    }
-    Ok(lines)
-}
-
 #[test]
 fn drawings(rt: HostRuntime) -> Result<(), Fail> {
     let cell = chart(rt.alloc(), &CHART)?;
-    for (text, scale, lines) in &CASES {
+    for (text, scale, count, lines) in &CASES {
         let table = table(rt.alloc(), text)?;
-        let drawn = drawing(rt.alloc(), &cell, &table, *scale)?;
-        assert!(rt; drawn.as_slice() == *lines);
+        let drawing = draw_cell(rt.alloc(), &cell, &table, &settings(*scale))?;
+        let (items, printed) = print_drawing(rt.alloc(), &drawing)?;
+        assert!(rt; items == *count);
+        assert!(rt; printed.as_slice() == *lines);
     }
     Ok(())
 }
