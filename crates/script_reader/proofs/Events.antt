@@ -13,9 +13,9 @@ use Rattle.text_scan.specs.Number.{value_of}
 use Rattle.script_reader.specs.Word.{IsWord, is_word}
 use Rattle.script_reader.specs.Number.{IsShortNumber, is_short_number}
 use Rattle.script_reader.specs.declared.event.Event.{Event}
-use Rattle.script_reader.specs.declared.event.Event.TheVariants.{Info, Load, Rollback, Drop, Cells}
+use Rattle.script_reader.specs.declared.event.Event.TheVariants.{Info, Load, Rollback, Drop, Cells, Draw}
 use Rattle.script_reader.specs.Line.{AskFor, NamesFile, Spells}
-use Rattle.script_reader.specs.Reading.{words_of, info_in, load_in, rollback_in, drop_in, event_alone, event_with_one, event_with_two, event_of}
+use Rattle.script_reader.specs.Reading.{words_of, info_in, load_in, rollback_in, drop_in, draw_in, event_alone, event_with_one, event_with_two, event_of}
 use Rattle.script_reader.proofs.WordTests.{KeysAreTested, Decides-word, Decides-short, no_short}
 use Rattle.script_reader.proofs.Parting.{visible_unparted, digits_unparted, tested_unparted, split_one, split_two, split_three}
 
@@ -52,6 +52,11 @@ found_drop tested verb word event v e =
     let t = taken (is_key word) (Drop word) event e in
     subst (λ (x : Event). AskFor x (verb ∷ word ∷ [])) t.1 (ap (λ (l : List ℕ). l ∷ word ∷ []) v, (tested word).0 t.0)
 
+found_draw : KeysAreTested → (verb word : List ℕ) (event : Event) → verb ≡ codes "draw" → draw_in word ≡ Some event → AskFor event (verb ∷ word ∷ [])
+found_draw tested verb word event v e =
+    let t = taken (is_key word) (Draw word) event e in
+    subst (λ (x : Event). AskFor x (verb ∷ word ∷ [])) t.1 (ap (λ (l : List ℕ). l ∷ word ∷ []) v, (tested word).0 t.0)
+
 found_rollback : KeysAreTested → (verb cell digits : List ℕ) (event : Event) → verb ≡ codes "rollback" → rollback_in cell digits ≡ Some event
     → AskFor event (verb ∷ cell ∷ digits ∷ [])
 found_rollback tested verb cell digits event v e =
@@ -77,9 +82,12 @@ found_with_one tested verb word event e =
       | inl h ↦ found_info verb word event (is_verb verb (codes "info") h.0) h.1
       | inr h ↦ elim (chosen (bytes_eq verb (codes "load")) (load_in word) _ (Some event) h.1) [
         | inl i ↦ found_load verb word event (is_verb verb (codes "load") i.0) i.1
-        | inr i ↦ elim (chosen (bytes_eq verb (codes "drop")) (drop_in word) None (Some event) i.1) [
+        | inr i ↦ elim (chosen (bytes_eq verb (codes "drop")) (drop_in word) _ (Some event) i.1) [
           | inl j ↦ found_drop tested verb word event (is_verb verb (codes "drop") j.0) j.1
-          | inr j ↦ absurd (let none = j.1 in cc)
+          | inr j ↦ elim (chosen (bytes_eq verb (codes "draw")) (draw_in word) None (Some event) j.1) [
+            | inl k ↦ found_draw tested verb word event (is_verb verb (codes "draw") k.0) k.1
+            | inr k ↦ absurd (let none = k.1 in cc)
+          ]
         ]
       ]
     ]
@@ -116,6 +124,7 @@ asked_again tested (Load name) words a = ap event_of a.0 ∙ rw ((Decides-word n
 asked_again tested (Rollback cell update) words a =
     ap event_of a.spoken ∙ rw ((tested cell).1 a.key, (Decides-short a.digits).1 a.short) (ap (λ (n : ℕ). Some (Rollback cell n)) (sym a.value))
 asked_again tested (Drop cell) words a = ap event_of a.0 ∙ rw ((tested cell).1 a.1) refl
+asked_again tested (Draw cell) words a = ap event_of a.0 ∙ rw ((tested cell).1 a.1) refl
 asked_again tested Cells words a = ap event_of a
 
 pub split_again : (event : Event) (words : List (List ℕ)) → AskFor event words → words_of (join_with_byte 32 words) ≡ words
@@ -132,6 +141,9 @@ split_again (Rollback cell update) words a =
 split_again (Drop cell) words a =
     ap (λ (w : List (List ℕ)). words_of (join_with_byte 32 w)) a.0
     ∙ split_two (codes "drop") cell (tested_unparted (codes "drop") refl) (visible_unparted cell a.1.visible) ∙ sym a.0
+split_again (Draw cell) words a =
+    ap (λ (w : List (List ℕ)). words_of (join_with_byte 32 w)) a.0
+    ∙ split_two (codes "draw") cell (tested_unparted (codes "draw") refl) (visible_unparted cell a.1.visible) ∙ sym a.0
 split_again Cells words a =
     ap (λ (w : List (List ℕ)). words_of (join_with_byte 32 w)) a ∙ split_one (codes "cells") (tested_unparted (codes "cells") refl) ∙ sym a
 
@@ -205,6 +217,8 @@ asked_short (Rollback cell update) words a =
     omega (arith, ap (λ (w : List (List ℕ)). length (join_with_byte 32 w)) a.spoken, length-append (codes "rollback") (32 ∷ (cell ++ 32 ∷ a.digits)), length-append cell (32 ∷ a.digits), a.key.short, a.short.1)
 asked_short (Drop cell) words a =
     omega (arith, ap (λ (w : List (List ℕ)). length (join_with_byte 32 w)) a.0, length-append (codes "drop") (32 ∷ cell), a.1.short)
+asked_short (Draw cell) words a =
+    omega (arith, ap (λ (w : List (List ℕ)). length (join_with_byte 32 w)) a.0, length-append (codes "draw") (32 ∷ cell), a.1.short)
 asked_short Cells words a = omega (arith, ap (λ (w : List (List ℕ)). length (join_with_byte 32 w)) a)
 
 pub spelled_short : (line : List ℕ) (event : Event) → Spells line event → length line ≤ 1024

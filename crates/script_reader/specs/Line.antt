@@ -6,7 +6,7 @@ use Rattle.text_scan.specs.Number.{value_of}
 use Rattle.script_reader.specs.Word.{IsWord}
 use Rattle.script_reader.specs.Number.{IsShortNumber}
 use Rattle.script_reader.specs.declared.event.Event.{Event}
-use Rattle.script_reader.specs.declared.event.Event.TheVariants.{Info, Load, Rollback, Drop, Cells}
+use Rattle.script_reader.specs.declared.event.Event.TheVariants.{Info, Load, Rollback, Drop, Cells, Draw}
 
 -- `rollback`, a cell and the digits of an update's number
 pub record AskForRollback (cell : List ℕ) (update : ℕ) (words : List (List ℕ)) : Type 0 where
@@ -23,6 +23,7 @@ AskFor (Load name) words = (words ≡ codes "load" ∷ name ∷ []) × IsWord na
 AskFor (Rollback cell update) words = AskForRollback cell update words
 AskFor (Drop cell) words = (words ≡ codes "drop" ∷ cell ∷ []) × IsKey cell
 AskFor Cells words = words ≡ codes "cells" ∷ []
+AskFor (Draw cell) words = (words ≡ codes "draw" ∷ cell ∷ []) × IsKey cell
 
 -- the events that name a file
 abbrev pub NamesFile : Event → Type 0
@@ -31,6 +32,7 @@ NamesFile (Load name) = ⊤
 NamesFile (Rollback cell update) = ⊥
 NamesFile (Drop cell) = ⊥
 NamesFile Cells = ⊥
+NamesFile (Draw cell) = ⊥
 
 -- the line is such words, parted by single spaces, with nothing before the first and nothing behind the last
 pub record Spells (line : List ℕ) (event : Event) : Type 0 where

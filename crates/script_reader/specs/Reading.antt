@@ -8,7 +8,7 @@ use Rattle.text_scan.specs.Number.{value_of}
 use Rattle.script_reader.specs.Word.{is_word}
 use Rattle.script_reader.specs.Number.{is_short_number}
 use Rattle.script_reader.specs.declared.event.Event.{Event}
-use Rattle.script_reader.specs.declared.event.Event.TheVariants.{Info, Load, Rollback, Drop, Cells}
+use Rattle.script_reader.specs.declared.event.Event.TheVariants.{Info, Load, Rollback, Drop, Cells, Draw}
 use Rattle.script_reader.specs.declared.fault.LineFault.{LineFault}
 use Rattle.script_reader.specs.Line.{NamesFile}
 use Rattle.script_reader.specs.declared.fault.LineFault.TheVariants.{BadLine, NoMemory}
@@ -31,6 +31,9 @@ rollback_in cell digits =
 abbrev pub drop_in : List ℕ → Option Event
 drop_in cell = if is_key cell then Some (Drop cell) else None
 
+abbrev pub draw_in : List ℕ → Option Event
+draw_in cell = if is_key cell then Some (Draw cell) else None
+
 -- a verb that takes no word, one word, or two
 abbrev pub event_alone : List ℕ → Option Event
 event_alone verb = if bytes_eq verb (codes "cells") then Some Cells else None
@@ -40,6 +43,7 @@ event_with_one verb word =
     if bytes_eq verb (codes "info") then info_in word
     else if bytes_eq verb (codes "load") then load_in word
     else if bytes_eq verb (codes "drop") then drop_in word
+    else if bytes_eq verb (codes "draw") then draw_in word
     else None
 
 abbrev pub event_with_two : List ℕ → List ℕ → List ℕ → Option Event

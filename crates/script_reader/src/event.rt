@@ -4,7 +4,7 @@ ghost use Rattle.std.specs.Prelude.{◌≡◌, IfOk, OnErr, Some};
 ghost use Rattle.script_reader.specs.declared.event.Event.{Event as EventValue};
 ghost use Rattle.script_reader.specs.declared.event.Event.TheVariants.{Info, Load};
 ghost use Rattle.script_reader.specs.Line.{NamesFile};
-ghost use Rattle.script_reader.specs.Reading.{info_in, load_in, rollback_in, drop_in};
+ghost use Rattle.script_reader.specs.Reading.{info_in, load_in, rollback_in, drop_in, draw_in};
 ghost use Rattle.script_reader.specs.Reading.{words_of, event_alone, event_with_one, event_with_two, event_of};
 
 use crate::word::Word;
@@ -25,6 +25,8 @@ pub enum Event {
     Drop(Key),
     /// The cells that are held are listed.
     Cells,
+    /// The cell is drawn.
+    Draw(Key),
 }
 
 /// What a verb alone asks for.
@@ -79,6 +81,15 @@ fn drop_of(cell: &[u8]) -> Option<Event>
     Some(Event::Drop(cell))
 }
 
+/// `draw` and a cell.
+fn draw_of(cell: &[u8]) -> Option<Event>
+    ensures { result ≡ draw_in cell.now }
+{
+    keys_are_tested();
+    let cell = Key::from_bytes(cell)?;
+    Some(Event::Draw(cell))
+}
+
 /// What a verb and one word ask for.
 fn event_with_one(alloc: Global, verb: &[u8], word: &[u8]) -> Result<Option<Event>, AllocError>
     ensures event { IfOk result (λ event. event ≡ event_with_one verb.now word.now) }
@@ -91,6 +102,8 @@ fn event_with_one(alloc: Global, verb: &[u8], word: &[u8]) -> Result<Option<Even
         load_of(alloc, word)
     } else if verb == b"drop".as_slice() {
         Ok(drop_of(word))
+    } else if verb == b"draw".as_slice() {
+        Ok(draw_of(word))
     } else {
         Ok(None)
     }

@@ -8,7 +8,8 @@
 //! - `load NAME`: the file is taken over, `ok load KEY EDITION UPDATE`, or `ok cancel KEY`;
 //! - `rollback CELL U`: the cell goes back to an update, `ok rollback KEY EDITION UPDATE`;
 //! - `drop CELL`: the cell is taken away, `ok drop KEY`;
-//! - `cells`: what is held, `ok cells COUNT` and a line for each cell.
+//! - `cells`: what is held, `ok cells COUNT` and a line for each cell;
+//! - `draw CELL`: the drawing of the cell, `ok draw KEY COUNT` and a line for each draw instruction.
 //!
 //! Nothing is replied to an empty line, nor to one that begins with `#`. Any other line is a bad line. A
 //! refusal is `no CODE`, and behind a space what it names, where it names anything.

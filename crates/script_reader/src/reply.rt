@@ -23,6 +23,8 @@ pub enum Reply {
     Drop(Key),
     /// So many cells are held, with the lines that follow, each ended by a line feed.
     Cells(u64, Octets),
+    /// The drawing of this cell has so many instructions, with the lines that follow, each ended by a line feed.
+    Draw(Key, u64, Octets),
     /// The line is refused: the refusal's code, and what it names, parted by single spaces.
     Refused(u8, Octets),
 }
@@ -98,6 +100,19 @@ fn print_cells(alloc: Global, count: u64, lines: &Octets) -> Result<Octets, Allo
     Ok(line)
 }
 
+/// The line of a cell and the number of instructions that draw it, and those that follow it.
+fn print_drawing(alloc: Global, key: &Key, count: u64, lines: &Octets) -> Result<Octets, AllocError>
+    ensures { IfOk result (λ line. line
+        ≡ line_of (codes "ok" ∷ codes "draw" ∷ key.now ∷ number count ∷ []) ++ lines.now) }
+{
+    let mut line = accepted(alloc, b"draw")?;
+    push_word(&mut line, key.as_slice())?;
+    push_number(alloc, &mut line, count)?;
+    end_line(&mut line)?;
+    line.extend_from_slice(lines.as_slice())?;
+    Ok(line)
+}
+
 /// The line of a refusal.
 fn print_refusal(alloc: Global, code: u8, values: &Octets) -> Result<Octets, AllocError>
     ensures { IfOk result (λ line. line ≡ line_of (codes "no" ∷ number code ∷ words_if values.now)) }
@@ -113,8 +128,8 @@ fn print_refusal(alloc: Global, code: u8, values: &Octets) -> Result<Octets, All
     Ok(line)
 }
 
-/// The bytes of the reply: its words, parted by single spaces, and a line feed; behind `ok cells` the
-/// lines that follow, as they are. Numbers are plain decimals.
+/// The bytes of the reply: its words, parted by single spaces, and a line feed; behind `ok cells` and
+/// `ok draw` the lines that follow, as they are. Numbers are plain decimals.
 #[tactic(auto, unfolding(crate::specs::Reply::printed))]
 pub fn print_reply(alloc: Global, reply: &Reply) -> Result<Octets, AllocError>
     ensures { IfOk result (λ bytes. bytes ≡ printed reply.now) }
@@ -130,6 +145,7 @@ pub fn print_reply(alloc: Global, reply: &Reply) -> Result<Octets, AllocError>
         }
         Reply::Drop(key) => print_cell(alloc, b"drop", key),
         Reply::Cells(count, lines) => print_cells(alloc, *count, lines),
+        Reply::Draw(key, count, lines) => print_drawing(alloc, key, *count, lines),
         Reply::Refused(code, values) => print_refusal(alloc, *code, values),
     }
 }

@@ -21,6 +21,11 @@ fn shown(alloc: Global, event: &Event) -> Result<Vec<u8>, AllocError> {
             Ok(text)
         }
         Event::Cells => Vec::from_slice(alloc, b"cells"),
+        Event::Draw(cell) => {
+            let mut text = Vec::from_slice(alloc, b"draw ")?;
+            text.extend_from_slice(cell.as_slice())?;
+            Ok(text)
+        }
     }
 }
 
@@ -45,7 +50,7 @@ fn with_letters(alloc: Global, front: &[u8], count: usize) -> Result<Vec<u8>, Al
 
 #[test]
 fn lines(rt: HostRuntime) -> Result<(), Fail> {
-    let cases: [(&[u8], &[u8]); 36] = [
+    let cases: [(&[u8], &[u8]); 40] = [
         (b"", b"nothing"),
         (b"#", b"nothing"),
         (b"# cells", b"nothing"),
@@ -64,6 +69,7 @@ fn lines(rt: HostRuntime) -> Result<(), Fail> {
             b"drop 12345678901234567890123456789012",
         ),
         (b"cells", b"cells"),
+        (b"draw AA5TEST1", b"draw AA5TEST1"),
         // no words, or not these
         (b" ", b"bad 7"),
         (b"\r", b"bad 7"),
@@ -81,6 +87,9 @@ fn lines(rt: HostRuntime) -> Result<(), Fail> {
         (b"load\tT", b"bad 7"),
         (b"load T\xE9", b"bad 7"),
         (b"drop 123456789012345678901234567890123", b"bad 7"),
+        (b"draw", b"bad 7"),
+        (b"draw X 1", b"bad 7"),
+        (b"Draw X", b"bad 7"),
         (b"rollback X", b"bad 7"),
         (b"rollback X 1234567890", b"bad 7"),
         (b"rollback X +1", b"bad 7"),
@@ -123,7 +132,8 @@ fn replies(rt: HostRuntime) -> Result<(), Fail> {
     let lines = Octets::from_vec(Vec::from_slice(alloc, b"cell AA5TEST1 1 0 1 2\n")?);
     let values = Octets::from_vec(Vec::from_slice(alloc, b"AA5TEST1 7")?);
     let none = Octets::from_vec(Vec::new(alloc));
-    let cases: [(Reply, &[u8]); 8] = [
+    let items = Octets::from_vec(Vec::from_slice(alloc, b"item 5 P 3 whole SY(QUESMRK1)\n")?);
+    let cases: [(Reply, &[u8]); 9] = [
         (
             Reply::Info(key, 1, 2, 18_446_744_073_709_551_615),
             b"ok info AA5TEST1 1 2 18446744073709551615\n",
@@ -138,6 +148,10 @@ fn replies(rt: HostRuntime) -> Result<(), Fail> {
         (
             Reply::Cells(1, lines),
             b"ok cells 1\ncell AA5TEST1 1 0 1 2\n",
+        ),
+        (
+            Reply::Draw(key, 1, items),
+            b"ok draw AA5TEST1 1\nitem 5 P 3 whole SY(QUESMRK1)\n",
         ),
         (Reply::Refused(74, values), b"no 74 AA5TEST1 7\n"),
         (Reply::Refused(72, none), b"no 72\n"),
