@@ -1,6 +1,7 @@
 -- What turns follow from.
 use Rattle.std.proofs.Common.{◌≡◌, ℕ, true, false, cond, List, Option, Some, None, Result, Ok, Err, refl, sym, ◌∙◌, ap, subst, arith}
-use Rattle.chart_model.specs.Answers.{◌>>=◌, or_fault_as}
+use Rattle.chart_model.specs.Answers.{◌>>=◌, or_fault, or_fault_as}
+use Rattle.chart_model.specs.Cell.{CellValue}
 use Rattle.chart_model.specs.State.{StateValue}
 use Rattle.chart_model.specs.declared.command.Command.{Command}
 use Rattle.chart_model.specs.declared.command.Command.TheVariants as commands
@@ -20,12 +21,13 @@ use Rattle.script_reader.specs.declared.reply.Reply.TheVariants as replies
 use Rattle.session_core.specs.declared.general.General.{General}
 use Rattle.session_core.specs.declared.refusal.Refusal.{Refusal}
 use Rattle.session_core.specs.declared.refusal.Refusal.TheVariants.{Store}
+use Rattle.session_core.specs.Draw.{chart_of, draw_of, drawing_by, reply_with}
 use Rattle.session_core.specs.Fetch.{Fetches, file_in}
 use Rattle.session_core.specs.General.{general_in}
 use Rattle.session_core.specs.Info.{info_of}
 use Rattle.session_core.specs.Model.{Model, model_with}
 use Rattle.session_core.specs.Refusal.{store_code}
-use Rattle.session_core.specs.Turn.{decided, drop_reply, informed, load_reply, loaded, rollback_reply, turn_of}
+use Rattle.session_core.specs.Turn.{decided, drop_reply, informed, load_reply, loaded, replied, rollback_reply, turn_of}
 
 -- ---- commands
 
@@ -50,11 +52,11 @@ module _ (model : Model) (own : Command) (reply : Outcome → Reply) where
 
   decided-some : (r : Result Outcome of_store.Refusal) (command : Command) → accepted model.state model.room own ≡ r
       → (decided model own reply r).command ≡ Some command
-      → (decided model own reply r).model ≡ model_with model.room command (state_with model.state command)
+      → (decided model own reply r).model ≡ model_with model command (state_with model.state command)
   decided-some (Ok done) command is e =
       let same : own ≡ command = let f : Some own ≡ Some command = e in cc in
-      ap (model_with model.room own) (accepted-leaves model.state model.room own done is)
-      ∙ ap (λ (given : Command). model_with model.room given (state_with model.state given)) same
+      ap (model_with model own) (accepted-leaves model.state model.room own done is)
+      ∙ ap (λ (given : Command). model_with model given (state_with model.state given)) same
   decided-some (Err refusal) command is e = absurd (let f : ◌≡◌ {A = Option Command} None (Some command) = e in cc)
 
   decided-live : ((state : StateValue) (command : Command) → AreLive state.cells → AreLive (state_with state command).cells)
@@ -75,6 +77,14 @@ informed-none : (model : Model) (r : Result General Refusal) → (informed model
 informed-none model (Ok general) = refl
 informed-none model (Err refusal) = refl
 
+replied-same : (model : Model) (r : Result Reply Refusal) → (replied model r).model ≡ model
+replied-same model (Ok reply) = refl
+replied-same model (Err refusal) = refl
+
+replied-none : (model : Model) (r : Result Reply Refusal) → (replied model r).command ≡ None
+replied-none model (Ok reply) = refl
+replied-none model (Err refusal) = refl
+
 nothing-some : {X : Type 0} (o : Option Command) (command : Command) → o ≡ None → o ≡ Some command → X
 nothing-some o command none some = absurd (let f : ◌≡◌ {A = Option Command} None (Some command) = sym none ∙ some in cc)
 
@@ -86,7 +96,7 @@ loaded-none model (Ok file) e =
 loaded-none model (Err refusal) e = refl
 
 loaded-some : (model : Model) (file : Result (List ℕ) Refusal) (command : Command) → (loaded model file).command ≡ Some command
-    → (loaded model file).model ≡ model_with model.room command (state_with model.state command)
+    → (loaded model file).model ≡ model_with model command (state_with model.state command)
 loaded-some model (Ok file) command e =
     decided-some model (commands.Load file) load_reply (accepted model.state model.room (commands.Load file)) command refl e
 loaded-some model (Err refusal) command e = nothing-some None command refl e
@@ -110,10 +120,11 @@ turn-none fetches model (asks.Rollback key update) e =
 turn-none fetches model (asks.Drop key) e =
     decided-none model (commands.Drop key) drop_reply (accepted model.state model.room (commands.Drop key)) e
 turn-none fetches model asks.Cells e = refl
+turn-none fetches model (asks.Draw key) e = replied-same model (draw_of model.portrayal model.state.cells key)
 
 pub turn-some : (fetches : Fetches) (model : Model) (event : Event) (command : Command)
     → (turn_of fetches model event).command ≡ Some command
-    → (turn_of fetches model event).model ≡ model_with model.room command (state_with model.state command)
+    → (turn_of fetches model event).model ≡ model_with model command (state_with model.state command)
 unfolding turn_of
 turn-some fetches model (asks.Info name) command e =
     nothing-some (informed model (info_of name (fetches name))).command command (informed-none model (info_of name (fetches name))) e
@@ -123,6 +134,9 @@ turn-some fetches model (asks.Rollback key update) command e =
 turn-some fetches model (asks.Drop key) command e =
     decided-some model (commands.Drop key) drop_reply (accepted model.state model.room (commands.Drop key)) command refl e
 turn-some fetches model asks.Cells command e = nothing-some None command refl e
+turn-some fetches model (asks.Draw key) command e =
+    let reply = draw_of model.portrayal model.state.cells key in
+    nothing-some (replied model reply).command command (replied-none model reply) e
 
 pub turn-live : More → (fetches : Fetches) (model : Model) (event : Event) → AreLive model.state.cells
     → AreLive (turn_of fetches model event).model.state.cells
@@ -135,6 +149,9 @@ turn-live more fetches model (asks.Rollback key update) live =
 turn-live more fetches model (asks.Drop key) live =
     decided-live model (commands.Drop key) drop_reply more (accepted model.state model.room (commands.Drop key)) refl live
 turn-live more fetches model asks.Cells live = live
+turn-live more fetches model (asks.Draw key) live =
+    let same = replied-same model (draw_of model.portrayal model.state.cells key) in
+    subst (λ (m : Model). AreLive m.state.cells) (sym same) live
 
 -- ---- the mark of a failed fetch
 
@@ -213,6 +230,17 @@ informed-failed model name (Some (Bytes file)) values e =
 informed-failed model name (Some Absent) values e = absurd (let f : 71 ≡ 72 = code_is e in omega arith)
 informed-failed model name (Some Long) values e = absurd (let f : 60 ≡ 72 = code_is e in omega arith)
 
+drawn-apart : (model : Model) (key values : List ℕ) → Is72 values (replied model (draw_of model.portrayal model.state.cells key)).reply → ⊥
+unfolding draw_of
+drawn-apart model key values e =
+    elim (chart_of model.state.cells key) as (λ o. Is72 values (replied model (drawn_by o)).reply → ⊥) [
+      | None ↦ λ f. store-apart (refuses.NoCell key) (code_is f)
+      | Some chart ↦ λ f. cc
+    ] e
+  where
+    drawn_by : Option CellValue → Result Reply Refusal
+    drawn_by o = or_fault (Store (refuses.NoCell key)) o >>= λ chart. Ok (reply_with key (drawing_by model.portrayal chart))
+
 pub turn-failed : (fetches : Fetches) (model : Model) (event : Event) (values : List ℕ)
     → (turn_of fetches model event).reply ≡ replies.Refused 72 values → (name : List ℕ) × (fetches name ≡ None)
 unfolding turn_of
@@ -223,3 +251,4 @@ turn-failed fetches model (asks.Rollback key update) values e =
 turn-failed fetches model (asks.Drop key) values e =
     absurd (decided-apart model (commands.Drop key) drop_reply values (λ done f. cc) (accepted model.state model.room (commands.Drop key)) e)
 turn-failed fetches model asks.Cells values e = absurd cc
+turn-failed fetches model (asks.Draw key) values e = absurd (drawn-apart model key values e)

@@ -19,12 +19,13 @@ use Rattle.session_core.specs.declared.fault.EventFault.TheVariants.{Refused, De
 use Rattle.session_core.specs.declared.general.General.{General}
 use Rattle.session_core.specs.declared.refusal.Refusal.{Refusal}
 use Rattle.session_core.specs.Answers.{Gives}
+use Rattle.session_core.specs.Draw.{draw_of}
 use Rattle.session_core.specs.Fetch.{Fetches, file_in}
 use Rattle.session_core.specs.Info.{info_of}
 use Rattle.session_core.specs.Listing.{listing}
 use Rattle.session_core.specs.Model.{Model}
 use Rattle.session_core.specs.Session.{GivesEvent, Turned}
-use Rattle.session_core.specs.Turn.{Turn, commanded, drop_reply, informed, load_reply, loaded, rollback_reply, turn_of}
+use Rattle.session_core.specs.Turn.{Turn, commanded, drop_reply, informed, load_reply, loaded, replied, rollback_reply, turn_of}
 use Rattle.session_core.proofs.Fetching.{passed-is}
 
 -- the desk was not called
@@ -54,6 +55,14 @@ loaded-fails : (before : Model) (fault : EventFault) (wanted : Result (List ℕ)
 loaded-fails before (Refused refusal) wanted h = (ap (loaded before) h, refl)
 loaded-fails before DeskFault wanted h = refl
 loaded-fails before NoMemory wanted h = refl
+
+replied-gives : (before : Model) (r : Result Reply EventFault) (wanted : Result Reply Refusal) → Gives {A = Reply} r wanted
+    → GivesEvent r before before (replied before wanted)
+replied-gives before (Ok reply) wanted h =
+    (ap (λ (w : Result Reply Refusal). (replied before w).reply) h, ap (λ (w : Result Reply Refusal). (replied before w).model) h)
+replied-gives before (Err (Refused refusal)) wanted h = (ap (replied before) h, refl)
+replied-gives before (Err DeskFault) wanted h = refl
+replied-gives before (Err NoMemory) wanted h = refl
 
 module _ (A : Fetches → Type 0) (L : (Images → List ℕ → Type 0) → Type 0) (said : List ℕ) (event : Event) (before : Model) where
   asked : (IsGiven : Turn → Type 0) (own : Event) → event ≡ own → Turned A L said own before IsGiven → Turned A L said event before IsGiven
@@ -140,6 +149,20 @@ module _ (A : Fetches → Type 0) (L : (Images → List ℕ → Type 0) → Type
   drop-turns fetches key r now is answers given leaves =
       asked (GivesEvent r before now) (asks.Drop key) is
       (record { fetches = fetches; answers = answers; gives = given; leaves = leaves })
+
+  pub draw-gives : (fetches : Fetches) (cells : HoldingsByKey) (key : List ℕ) (r : Result Reply EventFault) → event ≡ asks.Draw key → A fetches
+      → cells ≡ before.state.cells → Gives {A = Reply} r (draw_of before.portrayal cells key)
+      → ((after : StateValue) → L (StandsForEither said before.state after))
+      → Turned A L said event before (GivesEvent r before before)
+  unfolding turn_of
+  draw-gives fetches cells key r is answers same given leaves =
+      asked (GivesEvent r before before) (asks.Draw key) is (record {
+        fetches = fetches;
+        answers = answers;
+        gives = replied-gives before r (draw_of before.portrayal before.state.cells key)
+            (subst (λ (held : HoldingsByKey). Gives {A = Reply} r (draw_of before.portrayal held key)) same given);
+        leaves = leaves (replied before (draw_of before.portrayal before.state.cells key)).model.state;
+      })
 
   pub cells-fail : (fetches : Fetches) (r : Result Reply EventFault) → event ≡ asks.Cells → A fetches
       → IsErrAnd r (λ passed. passed ≡ NoMemory) → ((after : StateValue) → L (StandsForEither said before.state after))

@@ -6,5 +6,6 @@ pub mod Values
 pub mod Refusal
 pub mod Answers
 pub mod Model
+pub mod Draw
 pub mod Turn
 pub mod Session

@@ -14,19 +14,24 @@ use Rattle.session_core.specs.declared.fault.EventFault.TheVariants.{Refused, De
 use Rattle.session_core.specs.declared.fault.TurnFault.{TurnFault}
 use Rattle.session_core.specs.declared.session.Session.{Session}
 use Rattle.session_core.specs.Fetch.{Fetches}
-use Rattle.session_core.specs.Model.{Model}
+use Rattle.session_core.specs.Model.{Model, Portrayal, portrayal_with}
 use Rattle.session_core.specs.Turn.{Turn, refused, turn_of}
 
 -- its store
 abbrev pub store_of : Session → Store
 store_of session = session.store
 
-abbrev pub model_by : Store → Model
-model_by store = record { state = state_of store; room = room_of store }
+-- by what it draws cells
+abbrev pub portrayal_of : Session → Portrayal
+portrayal_of session = portrayal_with session.table session.settings
 
 -- what its replies depend on
 abbrev pub model_of : Session → Model
-model_of session = model_by (store_of session)
+model_of session = record {
+  state = state_of (store_of session);
+  room = room_of (store_of session);
+  portrayal = portrayal_of session;
+}
 
 -- the answer and the model after it are those of the turn; where there is none, what is held is as it was
 abbrev pub GivesTurn : Result Reply TurnFault → Model → Model → Turn → Type 0

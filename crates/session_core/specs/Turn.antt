@@ -13,6 +13,7 @@ use Rattle.script_reader.specs.declared.reply.Reply.TheVariants as replies
 use Rattle.session_core.specs.declared.general.General.{General}
 use Rattle.session_core.specs.declared.refusal.Refusal.{Refusal}
 use Rattle.session_core.specs.declared.refusal.Refusal.TheVariants.{Store}
+use Rattle.session_core.specs.Draw.{draw_of}
 use Rattle.session_core.specs.Fetch.{Fetches, file_in}
 use Rattle.session_core.specs.Info.{info_of}
 use Rattle.session_core.specs.Listing.{listing}
@@ -33,6 +34,11 @@ answered model reply = record { reply = reply; command = None; model = model }
 abbrev pub refused : Model → Refusal → Turn
 refused model refusal = answered model (reply_of refusal)
 
+-- a question that may be refused
+abbrev pub replied : Model → Result Reply Refusal → Turn
+replied model (Ok reply) = answered model reply
+replied model (Err refusal) = refused model refusal
+
 abbrev pub informed : Model → Result General Refusal → Turn
 informed model (Ok general) =
     answered model (replies.Info general.key general.edition general.update general.records)
@@ -41,7 +47,7 @@ informed model (Err refusal) = refused model refusal
 -- a command is accepted, or refused
 abbrev pub decided : Model → Command → (Outcome → Reply) → Result Outcome of_store.Refusal → Turn
 decided model command reply (Ok done) =
-    record { reply = reply done; command = Some command; model = model_with model.room command done.state }
+    record { reply = reply done; command = Some command; model = model_with model command done.state }
 decided model command reply (Err refusal) = refused model (Store refusal)
 
 abbrev pub commanded : Model → Command → (Outcome → Reply) → Turn
@@ -73,3 +79,4 @@ turn_of fetches model (asks.Rollback key update) = commanded model (commands.Rol
 turn_of fetches model (asks.Drop key) = commanded model (commands.Drop key) drop_reply
 turn_of fetches model asks.Cells =
     answered model (replies.Cells (map.len model.state.cells) (listing model.state.cells))
+turn_of fetches model (asks.Draw key) = replied model (draw_of model.portrayal model.state.cells key)

@@ -21,7 +21,7 @@ pub fn turns_follow_their_commands()
         (turn_of fetches model event).command ≡ None → (turn_of fetches model event).model ≡ model }
     ensures some { (fetches : Fetches) (model : Model) (event : Event) (command : Command) →
         (turn_of fetches model event).command ≡ Some command →
-        (turn_of fetches model event).model ≡ model_with model.room command (state_with model.state command) }
+        (turn_of fetches model event).model ≡ model_with model command (state_with model.state command) }
     ensures live { (fetches : Fetches) (model : Model) (event : Event) →
         AreLive model.state.cells → AreLive (turn_of fetches model event).model.state.cells }
     ensures failed { (fetches : Fetches) (model : Model) (event : Event) (values : List ℕ) →

@@ -1,11 +1,12 @@
 //! One turn of a session: an event of the script is carried out, and its reply told.
 //!
-//! What is replied to an event depends on what is held, on the room in the journal, and on what the shelf
-//! answers to its fetch; what it leaves is the same, or what the one command leaves that it stands for. A
+//! What is replied to an event depends on what is held, on the room in the journal, on the table and the settings by
+//! which cells are drawn, and on what the shelf answers to its fetch; what it leaves is the same, or what the one command leaves that it stands for. A
 //! refusal is a reply.
 #![tactic(auto)]
 
 mod cells;
+mod draw;
 mod fault;
 mod fetch;
 mod general;

@@ -6,12 +6,14 @@ ghost use Rattle.chart_store.specs.Submitted.{accepted_with};
 ghost use Rattle.session_core.specs.Turn.{load_reply};
 
 use crate::cells::list;
+use crate::draw::draw;
 use crate::fault::{EventFault, TurnFault};
 use crate::fetch::fetch;
 use crate::info::inform;
-use chart_model::Command;
+use chart_model::{Command, Settings};
 use chart_ports::{Desk, Shelf, Steps};
 use chart_store::{Accepted, Store, kept_stores_are_read};
+use lookup_table::Table;
 use script_reader::{Event, Reply};
 use std::alloc::{AllocError, Global};
 use std::sync::ledger::Ledger;
@@ -27,10 +29,13 @@ fn load_reply(done: &Accepted) -> Reply
     }
 }
 
-/// What a run of events goes on with: the store. The shelf and the desk are handed in at each turn.
+/// What a run of events goes on with: the store, and the table and the settings by which cells are drawn. The shelf and
+/// the desk are handed in at each turn.
 #[derive(Debug, Drop)]
 pub struct Session {
     store: Store,
+    table: Table,
+    settings: Settings,
 }
 
 impl Session {
@@ -44,16 +49,27 @@ impl Session {
     ghost use Rattle.session_core.specs.declared.fault.EventFault.TheVariants.{DeskFault as EventFailed};
     ghost use Rattle.session_core.specs.declared.fault.TurnFault.TheVariants.{DeskFault};
     ghost use Rattle.session_core.specs.Fetch.{AreFetched};
-    ghost use Rattle.session_core.specs.Session.{GivesEvent, GivesTurn, Turned, model_of, reply_by, store_of};
+    ghost use Rattle.session_core.specs.Session.{GivesEvent, GivesTurn, Turned, model_of, portrayal_of, reply_by, store_of};
+    ghost use Rattle.session_core.specs.Model.{portrayal_with};
     ghost use Rattle.session_core.specs.Turn.{commanded};
 
-    /// A session over a store that was just opened.
-    pub fn new(_alloc: Global, store: Store) -> Result<Session, AllocError>
+    /// A session over a store that was just opened, which draws cells by a table and by what the mariner set.
+    pub fn new(
+        _alloc: Global,
+        store: Store,
+        table: Table,
+        settings: Settings,
+    ) -> Result<Session, AllocError>
         requires sound { IsTrue (is_sound store) }
         requires fresh { count_of store ≡ 0 }
         ensures store { IfOk result (λ session. store_of session ≡ store) }
+        ensures portrayal { IfOk result (λ session. portrayal_of session ≡ portrayal_with table settings) }
     {
-        Ok(Session { store })
+        Ok(Session {
+            store,
+            table,
+            settings,
+        })
     }
 
     /// Carries out a command. With any reply to what was accepted this is the turn of the command.
@@ -139,6 +155,10 @@ impl Session {
             Event::Cells => {
                 let cells = &self.store.state().cells;
                 Ok(Reply::Cells(cells.len() as u64, list(alloc, cells)?))
+            }
+            Event::Draw(key) => {
+                let cells = &self.store.state().cells;
+                draw(alloc, key, cells, &self.table, &self.settings)
             }
         }
     }

@@ -6,9 +6,11 @@ ghost use Rattle.chart_store.specs.Store.{IsKept, count_of, is_sound};
 ghost use Rattle.session_core.specs.Session.{store_of};
 
 use crate::{Refusal, Session, TurnFault, turns_follow_their_commands};
-use chart_model::{Foid, Key, Name};
+use chart_model::{Foid, Key, Name, Settings, Shades};
 use chart_ports::{FailingCalls, FileBytes, MemoryDesk, MemoryShelf, Steps};
 use chart_store::{Refusal as StoreRefusal, open_store};
+use lookup_table::{Table, read_table};
+use object_catalogue::read_objects;
 use script_reader::{Word, print_reply, read_line};
 use std::alloc::{AllocError, Global};
 use std::marker::Brand;
@@ -53,6 +55,28 @@ n\x01\0\0\0\x02\0\x03\x1e\
 /// The record of an update that cancels the cell.
 const CANCELLATION: &[u8] = b"00063 D   0900034   23 4DSID29000\x1e\
 AA5TEST1.002\x1f0\x1f2\x1f20240202\x02&\x02\x1e";
+
+/// What the mariner set.
+const SETTINGS: Settings = Settings {
+    safety_contour: 3_000,
+    safety_depth: 3_000,
+    shallow: 200,
+    deep: 3_000,
+    shades: Shades::Four,
+    pattern: false,
+    scale: 1,
+};
+
+/// A table with one line, for points of the class of the base file's feature.
+fn table(alloc: Global) -> Result<Table, AllocError> {
+    let Ok(catalogue) = read_objects(alloc, b"O 42 DEPARE\n") else {
+        return Err(AllocError);
+    };
+    let Ok(table) = read_table(alloc, b"DEPARE P 4 - SY(A);SY(B)\n", &catalogue) else {
+        return Err(AllocError);
+    };
+    Ok(table)
+}
 
 /// The calls of this number fail: numbers from 1, or 0 for none.
 fn failing(alloc: Global, number: u64) -> Result<FailingCalls, AllocError> {
@@ -127,7 +151,7 @@ fn replies_with<C: Ledger>(
     let mut desk = MemoryDesk::new(alloc, failing(alloc, call)?);
     match open_store(alloc, &mut desk, &mut steps) {
         Ok(store) => {
-            let session = Session::new(alloc, store)?;
+            let session = Session::new(alloc, store, table(alloc)?, SETTINGS)?;
             replies(alloc, session, &mut shelf, &mut desk, &mut steps, lines)
         }
         Err(_) => Vec::from_slice(alloc, b"not opened"),
@@ -146,6 +170,8 @@ fn turns(rt: HostRuntime) -> Result<(), Fail> {
         b"cells",
         b"load T",
         b"cells",
+        b"draw AA5TEST1",
+        b"draw ZZ",
         b"rollback AA5TEST1 7",
         b"drop ZZ",
         b"load X",
@@ -153,6 +179,7 @@ fn turns(rt: HostRuntime) -> Result<(), Fail> {
         b"load U",
         b"load CANCEL",
         b"cells",
+        b"draw AA5TEST1",
         b"rollback AA5TEST1 1",
         b"cells",
         b"drop AA5TEST1",
@@ -165,8 +192,8 @@ fn turns(rt: HostRuntime) -> Result<(), Fail> {
             0,
             0,
             b"ok info AA5TEST1 1 0 4\nok cells 0\nok load AA5TEST1 1 0\nok cells 1\ncell AA5TEST1 1 0 1 2\n\
-no 74 AA5TEST1 7\nno 73 ZZ\nno 71 X\nno 71 X\nok load AA5TEST1 1 1\nok cancel AA5TEST1\n\
-ok cells 1\ncell AA5TEST1 1 1 3 cancelled\nok rollback AA5TEST1 1 1\nok cells 1\ncell AA5TEST1 1 1 2 2\n\
+ok draw AA5TEST1 2\nitem 4 P 1 whole SY(A)\nitem 4 P 1 whole SY(B)\nno 73 ZZ\nno 74 AA5TEST1 7\nno 73 ZZ\nno 71 X\nno 71 X\nok load AA5TEST1 1 1\nok cancel AA5TEST1\n\
+ok cells 1\ncell AA5TEST1 1 1 3 cancelled\nno 73 AA5TEST1\nok rollback AA5TEST1 1 1\nok cells 1\ncell AA5TEST1 1 1 2 2\n\
 ok drop AA5TEST1\nok cells 0\n",
         ),
         (twice, 1, 0, b"no 72\nok info AA5TEST1 1 0 4\n"),

@@ -1,0 +1,45 @@
+//! The line `draw`.
+
+ghost use Rattle.std.specs.Prelude.{◌≡◌, ◌≢◌, Err};
+ghost use Rattle.chart_model.specs.Cell.{CellValue};
+ghost use Rattle.std.specs.Option.{option_copied};
+ghost use Rattle.session_core.specs.declared.fault.EventFault.TheVariants.{DeskFault};
+ghost use Rattle.session_core.specs.Answers.{Gives};
+ghost use Rattle.session_core.specs.Draw.{chart_of, draw_of};
+ghost use Rattle.session_core.specs.Model.{portrayal_with};
+
+use crate::fault::EventFault;
+use crate::refusal::Refusal;
+use chart_model::{Cell, HoldingMap, Key, Settings};
+use chart_store::Refusal as StoreRefusal;
+use draw_list::{draw_cell, print_drawing};
+use lookup_table::Table;
+use script_reader::Reply;
+use std::alloc::Global;
+
+/// The chart of a cell, where the cell is held and not cancelled.
+fn chart_of<'a>(cells: &'a HoldingMap, key: Key) -> Option<&'a Cell>
+    ensures { option_copied result ≡ chart_of cells.now key }
+{
+    cells.get(key)?.chart.as_ref()
+}
+
+/// The drawing of the cell of this key, as a reply.
+#[tactic(auto, unfolding(crate::specs::Draw::draw_of))]
+pub fn draw(
+    alloc: Global,
+    key: Key,
+    cells: &HoldingMap,
+    table: &Table,
+    settings: &Settings,
+) -> Result<Reply, EventFault>
+    ensures given { Gives result (draw_of (portrayal_with table.now settings.now) cells.now key) }
+    ensures desk { result ≢ Err DeskFault }
+{
+    let Some(chart) = chart_of(cells, key) else {
+        return Err(EventFault::Refused(Refusal::Store(StoreRefusal::NoCell(key))));
+    };
+    let drawing = draw_cell(alloc, chart, table, settings)?;
+    let (count, lines) = print_drawing(alloc, &drawing)?;
+    Ok(Reply::Draw(key, count, lines))
+}
