@@ -31,7 +31,7 @@ fn load_reply(done: &Accepted) -> Reply
 
 /// What a run of events goes on with: the store, and the table and the settings by which cells are drawn. The shelf and
 /// the desk are handed in at each turn.
-#[derive(Debug, Drop)]
+#[derive(Drop)]
 pub struct Session {
     store: Store,
     table: Table,
