@@ -9,7 +9,7 @@ HERE = os.path.dirname(os.path.abspath(__file__))
 FILES = os.path.join(HERE, "cases", "cells_and_updates", "files")
 WORDS = ["--catalogue", "catalogue", "--table", "table"]
 CATALOGUE = b"O 42 DEPARE\nO 129 SOUNDG\nO 159 WRECKS\nA 87 DRVAL1\nA 88 DRVAL2\nA 179 VALSOU\n"
-TABLE = b"DEPARE A 1 - CS(DEPARE01)\nWRECKS P 4 - CS(WRECKS02)\nSOUNDG P 6 - CS(SOUNDG02)\n"
+TABLE = b"DEPARE A 1 - AC(DEPVS)\nWRECKS P 4 - SY(WRECKS01)\nSOUNDG P 6 - -\n"
 CELLS = 6
 
 

@@ -43,7 +43,7 @@ Rests = (fetches : Fetches) (model : Model) (event : Event) → (turn_of fetches
 -- a turn with one leaves what it leaves
 abbrev pub Follows : Type 0
 Follows = (fetches : Fetches) (model : Model) (event : Event) (command : Command) → (turn_of fetches model event).command ≡ Some command
-    → (turn_of fetches model event).model ≡ model_with model.room command (state_with model.state command)
+    → (turn_of fetches model event).model ≡ model_with model command (state_with model.state command)
 
 abbrev pub Speaks : Type 0
 Speaks = (reply : Reply) → 0 < length (printed reply)

@@ -10,7 +10,7 @@ use Rattle.script_reader.specs.Reading.{event_in}
 use Rattle.script_reader.specs.declared.event.Event.{Event}
 use Rattle.script_reader.specs.declared.fault.LineFault.{LineFault}
 use Rattle.script_reader.specs.declared.reply.Reply.{Reply}
-use Rattle.script_reader.specs.declared.reply.Reply.TheVariants.{Info, Load, Cancel, Rollback, Drop, Cells, Refused}
+use Rattle.script_reader.specs.declared.reply.Reply.TheVariants.{Info, Load, Cancel, Rollback, Drop, Cells, Draw, Refused}
 use Rattle.session_core.specs.Fetch.{Fetches}
 use Rattle.session_core.specs.Model.{Model}
 use Rattle.session_core.specs.Turn.{turn_of}
@@ -35,6 +35,7 @@ told-failure (Cancel key) h = absurd (let e : false ≡ true = h in cc)
 told-failure (Rollback key edition update) h = absurd (let e : false ≡ true = h in cc)
 told-failure (Drop key) h = absurd (let e : false ≡ true = h in cc)
 told-failure (Cells count lines) h = absurd (let e : false ≡ true = h in cc)
+told-failure (Draw key count lines) h = absurd (let e : false ≡ true = h in cc)
 
 -- a step says so only where a fetch failed
 failed-by : TellsFailure → (fetches : Fetches) (model : Model) (number : ℕ) (asked : Result (Option Event) LineFault)

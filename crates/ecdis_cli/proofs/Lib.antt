@@ -7,3 +7,5 @@ mod Steps
 mod Runs
 mod Answering
 mod Opening
+mod Tables
+mod Early

@@ -1,6 +1,6 @@
 -- The run over a store that was opened, or that wasn't.
-use Rattle.std.proofs.Common.{◌≡◌, ◌≢◌, ℕ, ◌<◌, ◌≤◌, ◌⊎◌, Bool, false, List, [], ◌∷◌, ◌++◌, length, refl, sym, ◌∙◌, ap, subst, arith, inl, inr, ⊎_elim}
-use Rattle.std.specs.Prelude.{Option, Some, None, Result, Ok, Err}
+use Rattle.std.proofs.Common.{◌≡◌, ◌≢◌, ℕ, ◌<◌, ◌≤◌, ◌⊎◌, Bool, true, false, List, [], ◌∷◌, ◌++◌, length, refl, sym, ◌∙◌, ap, subst, arith, inl, inr, ⊎_elim}
+use Rattle.std.specs.Prelude.{IsTrue, Option, Some, None, Result, Ok, Err}
 use Rattle.std.specs.Str.Lines.{lines}
 use Rattle.std.proofs.lemmas.List.{length-replicate}
 use Rattle.std.proofs.lemmas.List.Elements.{All-nil}
@@ -10,13 +10,18 @@ use Rattle.chart_ports.specs.Moments.{LeavesOnly, MayBeLeft, images_of}
 use Rattle.chart_ports.specs.declared.images.Images.{Images}
 use Rattle.chart_ports.proofs.Moments.{and_then, started, weaker}
 use Rattle.chart_store.specs.Images.{Place, Reading, StandFor, read_of}
-use Rattle.chart_store.specs.Store.{LeavesBefore, LeavesReading}
+use Rattle.chart_store.specs.Store.{LeavesBefore, LeavesReading, room_of, state_of}
+use Rattle.chart_store.specs.declared.store.Store.{Store}
 use Rattle.session_core.specs.Fetch.{Files, Fetches, fetches_of}
-use Rattle.session_core.specs.Model.{Model}
+use Rattle.session_core.specs.Model.{Model, Portrayal}
+use Rattle.session_core.specs.Session.{model_of, portrayal_of, store_of}
+use Rattle.session_core.specs.declared.session.Session.{Session}
 use Rattle.chart_store.specs.declared.open_fault.OpenFault.{OpenFault}
 use Rattle.chart_store.specs.declared.open_fault.OpenFault.TheVariants as of_opening
 use Rattle.ecdis_cli.specs.declared.run.status.Status.{Status}
 use Rattle.ecdis_cli.specs.declared.run.status.Status.TheVariants as status
+use Rattle.ecdis_cli.specs.Progress.{Leaving}
+use Rattle.ecdis_cli.specs.Status.{is_early}
 use Rattle.ecdis_cli.specs.Stop.{status_of_opening}
 use Rattle.ecdis_cli.specs.Crash.{LeavesPrefix}
 use Rattle.ecdis_cli.specs.Run.{Outside, Ran, model_at, outside_of}
@@ -25,7 +30,7 @@ use Rattle.ecdis_cli.specs.Step.{Step}
 use Rattle.ecdis_cli.proofs.Crashes.{prefix-extended, prefix-none}
 use Rattle.ecdis_cli.proofs.Failures.{TellsFailure}
 use Rattle.ecdis_cli.proofs.Runs.{Covers, IsOther, covers-none, other-says, padding, padding-told}
-use Rattle.ecdis_cli.proofs.Taking.{front-none, rose-none}
+use Rattle.ecdis_cli.proofs.Taking.{answers-same, front-none, rose-none}
 
 -- files that read stand for what they read as
 abbrev pub ReadStands : Type 0
@@ -35,12 +40,21 @@ ok-same : (a b : Reading) → ◌≡◌ {A = Result Reading Place} (Ok a) (Ok b)
 ok-same a b e = cc
 
 -- what is read at the opening, as the model of what was opened
-pub opened-model : (found : Result Reading Place) (opening : Reading) (state : StateValue) (used : ℕ) → found ≡ Ok opening
-    → found ≡ Ok (record { state = state; used = used }) → record { state = state; room = record { used = used; other = None } } ≡ model_at opening
-opened-model found opening state used e f = ap model_at (ok-same (record { state = state; used = used }) opening (sym f ∙ e))
+pub opened-model : (portrayal : Portrayal) (found : Result Reading Place) (opening : Reading) (state : StateValue) (used : ℕ) → found ≡ Ok opening
+    → found ≡ Ok (record { state = state; used = used })
+    → record { state = state; room = record { used = used; other = None }; portrayal = portrayal } ≡ model_at portrayal opening
+opened-model portrayal found opening state used e f = ap (model_at portrayal) (ok-same (record { state = state; used = used }) opening (sym f ∙ e))
+
+-- the model of a session over a store
+pub session-model : (session : Session) (store : Store) (portrayal : Portrayal) → store_of session ≡ store
+    → portrayal_of session ≡ portrayal
+    → model_of session ≡ record { state = state_of store; room = room_of store; portrayal = portrayal }
+session-model session store portrayal same drawn =
+    ap (λ (s : Store). record { state = state_of s; room = room_of s; portrayal = portrayal_of session }) same
+    ∙ ap (λ (p : Portrayal). record { state = state_of store; room = room_of store; portrayal = p }) drawn
 
 module _ {D : Type 0} (clock : D → ℕ) (might : D → ℕ → Images → List ℕ → Type 0) (reads : ReadStands)
-    (contents : ℕ → List ℕ) (may_leave : ℕ → List ℕ → Type 0) (said : List ℕ) (opening : Reading)
+    (contents : ℕ → List ℕ) (may_leave : ℕ → List ℕ → Type 0) (said : List ℕ) (portrayal : Portrayal) (opening : Reading)
     (read : read_of (images_of contents) ≡ Ok opening) where
   -- the moments of an opening
   opening-crash : (d0 d1 : D) (steps : List Step) → LeavesOnly clock might d0 d1 (LeavesReading contents may_leave said)
@@ -54,32 +68,33 @@ module _ {D : Type 0} (clock : D → ℕ) (might : D → ℕ → Images → List
       (prefix-none opening.state said so_far images x.silent (reads images opening.state opening.used (same ∙ read))))) x.either) run
 
   -- a run that ends there
-  pub ran-unopened : TellsFailure → (tells : Bool) (files : Files) (d0 d1 : D) (status : Status) (Left : Images → Type 0) (left said' : List ℕ) (faults : ℕ)
-      → IsOther status → said' ≡ said → LeavesOnly clock might d0 d1 (LeavesReading contents may_leave said)
-      → Ran tells files (model_at opening) status (LeavesOnly clock might d0 d1) (LeavesBefore may_leave said) Left (outside_of left said faults) (outside_of left said' faults)
-  ran-unopened law tells files d0 d1 status Left left said' faults other silent run =
+  pub ran-unopened : TellsFailure → (tells : Bool) (files : Files) (d0 d1 : D) (status : Status) (Left : Images → Type 0) (left said' : List ℕ) (faults faults' : ℕ)
+      → IsOther status → said' ≡ said → faults ≤ faults' → LeavesOnly clock might d0 d1 (LeavesReading contents may_leave said)
+      → Ran tells files (model_at portrayal opening) status (LeavesOnly clock might d0 d1) (LeavesBefore may_leave said) Left
+      (outside_of left said faults) (outside_of left said' faults')
+  ran-unopened law tells files d0 d1 status Left left said' faults faults' other silent later run =
       let before : Outside = outside_of left said faults in
-      let covers : Covers files (model_at opening) left [] [] = covers-none law files (model_at opening) left in
+      let covers : Covers files (model_at portrayal opening) left [] [] = covers-none law files (model_at portrayal opening) left in
       record {
         answers = padding files left;
         told = padding-told tells files left;
         enough = omega (arith, length-replicate (length (lines left)) (fetches_of files false));
-        says = other-says files (model_at opening) status before left said' faults [] [] other covers (front-none said [] said' silent);
-        failed = subst (λ (k : ℕ). RoseBy k faults faults) (sym (ap failures_in covers.whole ∙ covers.mild)) (rose-none faults faults (omega arith));
-        crash = opening-crash d0 d1 (steps_of (model_at opening) left (padding files left)) run;
+        says = other-says files (model_at portrayal opening) status before left said' faults' [] [] other covers (front-none said [] said' silent);
+        failed = subst (λ (k : ℕ). RoseBy k faults faults') (sym (ap failures_in covers.whole ∙ covers.mild)) (rose-none faults faults' later);
+        crash = opening-crash d0 d1 (steps_of (model_at portrayal opening) left (padding files left)) run;
         end = λ e. absurd (other.not_done e);
       }
 
   -- a run of the script behind it
   pub ran-opened : (tells : Bool) (files : Files) (d0 d1 d2 : D) (status : Status) (Left : Images → Type 0) (left said' : List ℕ) (faults : ℕ) (now : Outside) (model : Model)
-      → said' ≡ said → model ≡ model_at opening → LeavesOnly clock might d0 d1 (LeavesReading contents may_leave said)
+      → said' ≡ said → model ≡ model_at portrayal opening → LeavesOnly clock might d0 d1 (LeavesReading contents may_leave said)
       → Ran tells files model status (LeavesOnly clock might d1 d2) (λ images so_far. ⊥) Left (outside_of left said' faults) now
-      → Ran tells files (model_at opening) status (LeavesOnly clock might d0 d2) (LeavesBefore may_leave said) Left (outside_of left said faults) now
+      → Ran tells files (model_at portrayal opening) status (LeavesOnly clock might d0 d2) (LeavesBefore may_leave said) Left (outside_of left said faults) now
   ran-opened tells files d0 d1 d2 status Left left said' faults now model silent is run ran =
-      let x : Ran tells files (model_at opening) status (LeavesOnly clock might d1 d2) (λ images so_far. ⊥) Left (outside_of left said faults) now
+      let x : Ran tells files (model_at portrayal opening) status (LeavesOnly clock might d1 d2) (λ images so_far. ⊥) Left (outside_of left said faults) now
       = subst (λ (m : Model). Ran tells files m status (LeavesOnly clock might d1 d2) (λ images so_far. ⊥) Left (outside_of left said faults) now) is
       (subst (λ (l : List ℕ). Ran tells files model status (LeavesOnly clock might d1 d2) (λ images so_far. ⊥) Left (outside_of left l faults) now) silent ran) in
-      let steps : List Step = steps_of (model_at opening) left x.answers in
+      let steps : List Step = steps_of (model_at portrayal opening) left x.answers in
       let P : Images → List ℕ → Type 0 = λ images so_far. LeavesBefore may_leave said images so_far ⊎ LeavesPrefix opening.state steps said images so_far in
       record {
         answers = x.answers;
@@ -100,6 +115,31 @@ pub reading-none : {D : Type 0} (clock : D → ℕ) (might : D → ℕ → Image
 reading-none clock might desk contents may_leave said only_now =
     started clock might desk (LeavesReading contents may_leave said)
     (λ images so_far here. let now = only_now images so_far here in record { silent = now.1; either = inl now.0 })
+
+-- a count that rose later rose
+pub rose-later : (much a b c : ℕ) → a ≤ b → RoseBy much b c → RoseBy much a c
+rose-later much a b c h (inl x) = inl (omega arith)
+rose-later much a b c h (inr x) = inr x
+
+-- a run behind fetches that were made before
+pub ran-later : (tells : Bool) (files files' : Files) (model : Model) (status : Status) (Leaves : Leaving) (LeavesElse : Images → List ℕ → Type 0)
+    (Left : Images → Type 0) (left said : List ℕ) (faults faults' : ℕ) (now : Outside) → (IsTrue tells → files' ≡ files) → faults ≤ faults'
+    → Ran tells files' model status Leaves LeavesElse Left (outside_of left said faults') now
+    → Ran tells files model status Leaves LeavesElse Left (outside_of left said faults) now
+ran-later tells files files' model status Leaves LeavesElse Left left said faults faults' now same later x = record {
+  answers = x.answers;
+  told = answers-same tells files files' x.answers same x.told;
+  enough = x.enough;
+  says = record {
+    all = x.says.all;
+    front = x.says.front;
+    at_fault = λ e. let y = x.says.at_fault e in record { taken = y.taken; split = y.split; said = y.said };
+    at_limit = x.says.at_limit;
+  };
+  failed = rose-later (failures_in (steps_of model left x.answers)) faults faults' now.faults later x.failed;
+  crash = x.crash;
+  end = x.end;
+}
 
 -- ---- statuses
 
@@ -130,11 +170,6 @@ opening-status (of_opening.Foreign bank at) result e = record {
 }
 opening-status of_opening.NoMemory result e = subst IsOther (sym e) other-status
 
--- a count that rose later rose
-pub rose-later : (a b c : ℕ) → a ≤ b → Rose b c → Rose a c
-rose-later a b c h (inl x) = inl (omega arith)
-rose-later a b c h (inr x) = inr x
-
 -- ---- where nothing fails
 
 pub steady : (before now : ℕ) → IsSteady before now → Rose before now → ⊥
@@ -143,17 +178,21 @@ steady before now h (inr x) = omega (arith, h.below)
 
 -- a run is done, or there is no memory
 pub complete : (found : Result Reading Place) (opening : Reading) (result : Status) (script : List ℕ) (limit s0 s1 d0 d1 : ℕ) → found ≡ Ok opening
-    → result ≢ status.Words → ((bank at : ℕ) → result ≡ status.Foreign bank at → found ≡ Err (record { bank = bank; at = at }))
+    → is_early result ≡ false → ((bank at : ℕ) → result ≡ status.Foreign bank at → found ≡ Err (record { bank = bank; at = at }))
     → (result ≡ status.ScriptFault → Rose s0 s1) → (result ≡ status.ScriptLong → limit < length script) → (result ≡ status.DeskFault → Rose d0 d1)
-    → length script ≤ limit → IsSteady s0 s1 → IsSteady d0 d1 → (result ≡ status.Done) ⊎ (result ≡ status.NoMemory)
+    → length script ≤ limit → IsSteady s0 s1 → IsSteady d0 d1
+    → (result ≡ status.Done) ⊎ ((result ≡ status.ShelfFault) ⊎ (result ≡ status.NoMemory))
 complete found opening status.Done script limit s0 s1 d0 d1 reads words foreign fault long desk short source said = inl refl
-complete found opening status.Words script limit s0 s1 d0 d1 reads words foreign fault long desk short source said = absurd (words refl)
+complete found opening status.Words script limit s0 s1 d0 d1 reads words foreign fault long desk short source said = absurd (let e : true ≡ false = words in cc)
+complete found opening (status.Tables which fault) script limit s0 s1 d0 d1 reads words foreign failed long desk short source said =
+    absurd (let e : true ≡ false = words in cc)
 complete found opening (status.Foreign bank at) script limit s0 s1 d0 d1 reads words foreign fault long desk short source said =
     absurd (let e : Ok opening ≡ Err (record { bank = bank; at = at }) = sym reads ∙ foreign bank at refl in cc)
 complete found opening status.ScriptFault script limit s0 s1 d0 d1 reads words foreign fault long desk short source said = absurd (steady s0 s1 source (fault refl))
 complete found opening status.ScriptLong script limit s0 s1 d0 d1 reads words foreign fault long desk short source said = absurd (let over : limit < length script = long refl in omega arith)
 complete found opening status.DeskFault script limit s0 s1 d0 d1 reads words foreign fault long desk short source said = absurd (steady d0 d1 said (desk refl))
-complete found opening status.NoMemory script limit s0 s1 d0 d1 reads words foreign fault long desk short source said = inr refl
+complete found opening status.NoMemory script limit s0 s1 d0 d1 reads words foreign fault long desk short source said = inr (inr refl)
+complete found opening status.ShelfFault script limit s0 s1 d0 d1 reads words foreign fault long desk short source said = absurd (let e : true ≡ false = words in cc)
 
 -- the words were refused
 pub refused-words : {A : Type 0} (found : Option A) (x : A) → found ≡ Some x → found ≡ None → {X : Type 0} → X

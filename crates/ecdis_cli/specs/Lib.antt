@@ -9,4 +9,8 @@ pub mod Replied
 pub mod Standing
 pub mod Run
 pub mod Status
+pub mod TablesFault
+pub mod Tables
+pub mod FileStop
+pub mod Portrayal
 pub mod Stop

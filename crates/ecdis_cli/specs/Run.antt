@@ -7,7 +7,7 @@ use Rattle.chart_ports.specs.declared.images.Images.{Images}
 use Rattle.chart_store.specs.Images.{Reading, read_of}
 use Rattle.chart_store.specs.Store.{LeavesBefore}
 use Rattle.session_core.specs.Fetch.{Files, Fetches}
-use Rattle.session_core.specs.Model.{Model}
+use Rattle.session_core.specs.Model.{Model, Portrayal}
 use Rattle.ecdis_cli.specs.declared.run.status.Status.{Status}
 use Rattle.ecdis_cli.specs.declared.run.status.Status.TheVariants.{Done, ScriptFault, ScriptLong}
 use Rattle.ecdis_cli.specs.Crash.{LeavesPrefix}
@@ -27,8 +27,9 @@ abbrev pub outside_of : List ℕ → List ℕ → ℕ → Outside
 outside_of left said faults = record { left = left; said = said; faults = faults }
 
 -- what is read of files at the opening, as a model
-abbrev pub model_at : Reading → Model
-model_at opening = record { state = opening.state; room = record { used = opening.used; other = None } }
+abbrev pub model_at : Portrayal → Reading → Model
+model_at portrayal opening =
+    record { state = opening.state; room = record { used = opening.used; other = None }; portrayal = portrayal }
 
 -- what is read of files that keep a model
 abbrev pub reading_of : Model → Reading

@@ -1,24 +1,34 @@
 //! All that the program does.
 
 mod answer;
+mod file_stop;
 mod line;
 mod opened;
 mod reader;
 mod rounds;
 pub mod status;
 mod stop;
+mod tables;
+pub mod tables_fault;
 
-ghost use Rattle.std.specs.Prelude.{◌≡◌, ◌≢◌, ◌+◌, ◌<◌, ◌≤◌, ◌⊎◌, ◌↔◌, [], List, ℕ, IsTrue, length, map, string_bytes, None, Ok, Err, IsSome};
+ghost use Rattle.std.specs.Prelude.{◌≡◌, ◌+◌, ◌<◌, ◌≤◌, ◌⊎◌, [], List, ℕ, IsTrue, length, map, string_bytes, Some, None, Ok, Err};
 ghost use Rattle.chart_ports.specs.Count.{IsSteady, Rose, RoseBy};
 ghost use Rattle.chart_ports.specs.Moments.{LeavesOnly, MayBeLeft, images_of};
 ghost use Rattle.chart_store.specs.Images.{Reading, read_of};
 ghost use Rattle.chart_store.specs.Store.{LeavesBefore};
-ghost use Rattle.command_words.specs.Reading.{words_of};
+ghost use Rattle.command_words.specs.Reading.{WordsValue, words_of};
+ghost use Rattle.lookup_table.specs.declared.line.TableLine.{TableLine as LineValue};
+ghost use Rattle.session_core.specs.Model.{Portrayal};
 ghost use Rattle.ecdis_cli.specs.Limits.{SCRIPT_LIMIT};
+ghost use Rattle.ecdis_cli.specs.Portrayal.{IsPortrayal};
 ghost use Rattle.ecdis_cli.specs.Run.{Ran, model_at, outside_of};
+ghost use Rattle.ecdis_cli.specs.Status.{is_early};
+ghost use Rattle.ecdis_cli.specs.Tables.{TablesEnd, table_in};
+ghost use Rattle.ecdis_cli.specs.declared.run.tables_fault.TablesFault.{TablesFault as FaultValue};
 
 use crate::run::opened::run_opened;
 use crate::run::status::Status;
+use crate::run::tables::fetch_tables;
 use chart_ports::{Desk, Shelf, Source, Steps};
 use chart_store::files_that_stand_are_read;
 use command_words::{WordsFault, read_words};
@@ -26,11 +36,11 @@ use session_core::turns_follow_their_commands;
 use std::alloc::Global;
 use std::sync::ledger::Ledger;
 
-/// Runs the program: it opens the store on the desk, and answers the script line by line. Each reply is said before the
-/// next line is run.
+/// Runs the program: it reads the catalogue and the table that the words name, opens the store on the desk, and answers
+/// the script line by line. Each reply is said before the next line is run.
 ///
-/// `words` are those of the command line, the program's name first. The files that lines name are those of the shelf.
-/// `steps` counts the data records that are decoded.
+/// `words` are those of the command line, the program's name first. The files that words and lines name are those of the
+/// shelf. `steps` counts the data records that are decoded.
 pub fn run_ecdis<S: Source, L: Shelf, D: Desk, C: Ledger>(
     alloc: Global,
     words: &[String],
@@ -45,13 +55,26 @@ pub fn run_ecdis<S: Source, L: Shelf, D: Desk, C: Ledger>(
     ensures untouched { words_of (map string_bytes words.now) ≡ None →
         (script.new ≡ script.old) × (shelf.new ≡ shelf.old) × (desk.new ≡ desk.old) }
 
+    // A catalogue or a table that isn't there, is too long or has a fault ends it too, and no other does: nothing of the
+    // script is read and nothing is written or said, here and wherever the words or a fetch of these files end it.
+    ensures tables { (which : ℕ) (fault : FaultValue) → IsTrue L.tells → result ≡ Status.Tables which fault →
+        (said : WordsValue) × (words_of (map string_bytes words.now) ≡ Some said)
+        × (table_in (L.files shelf.old) said ≡ Err (record { which = which; fault = fault })) }
+    ensures refused_tables { (said : WordsValue) (end : TablesEnd) → IsTrue L.tells →
+        words_of (map string_bytes words.now) ≡ Some said → table_in (L.files shelf.old) said ≡ Err end →
+        (result ≡ Status.Tables end.which end.fault) ⊎ ((result ≡ Status.ShelfFault) ⊎ (result ≡ Status.NoMemory)) }
+    ensures untabled { IsTrue (is_early result) → (script.new ≡ script.old) × (desk.new ≡ desk.old) }
+
     // From files that read as what is held, the output is the replies to the script's lines, all of them where the run
     // is done and else a front. At every moment a crash leaves files that stand for what the first accepted commands
     // leave: as many as have a reply that was begun, or one more; or the files as one might have left them at the start.
-    // At the end of a run that is done it leaves what all of them leave.
+    // At the end of a run that is done it leaves what all of them leave. Cells are drawn by the table that was read and
+    // by the settings of the words.
     ensures ran { IsTrue S.tells → IsTrue D.tells → (opening : Reading) →
         read_of (images_of (D.contents desk.old)) ≡ Ok opening →
-        Ran L.tells (L.files shelf.old) (model_at opening) result
+        (portrayal : Portrayal)
+        × IsPortrayal L.tells (L.files shelf.old) (words_of (map string_bytes words.now)) portrayal
+        × Ran L.tells (L.files shelf.old) (model_at portrayal opening) result
         (λ P. LeavesOnly D.clock D.might desk.old desk.new P) (LeavesBefore (D.may_leave desk.old) (D.said desk.old))
         (MayBeLeft (D.may_leave desk.new))
         (outside_of (S.left script.old) (D.said desk.old) (L.faults shelf.old))
@@ -69,23 +92,29 @@ pub fn run_ecdis<S: Source, L: Shelf, D: Desk, C: Ledger>(
         RoseBy (SCRIPT_LIMIT + 1) (S.given script.old) (S.given script.new) }
     ensures script_over { IsTrue S.tells → result ≡ Status.ScriptLong → SCRIPT_LIMIT < length (S.left script.old) }
     ensures desk_failed { result ≡ Status.DeskFault → Rose (D.faults desk.old) (D.faults desk.new) }
+    ensures shelf_failed { result ≡ Status.ShelfFault → Rose (L.faults shelf.old) (L.faults shelf.new) }
     ensures script_later { S.faults script.old ≤ S.faults script.new }
     ensures shelf_later { L.faults shelf.old ≤ L.faults shelf.new }
     ensures desk_later { D.faults desk.old ≤ D.faults desk.new }
 
-    // Where none of these holds, the run is done, unless memory runs out.
-    ensures complete { IsSome (words_of (map string_bytes words.now)) → IsTrue S.tells → IsTrue D.tells → (opening : Reading) →
-        read_of (images_of (D.contents desk.old)) ≡ Ok opening → length (S.left script.old) ≤ SCRIPT_LIMIT →
+    // Where none of these holds, the run is done, unless memory runs out or a fetch of the catalogue or the table fails.
+    ensures complete { (said : WordsValue) (lines : List LineValue) (opening : Reading) →
+        IsTrue S.tells → IsTrue L.tells → IsTrue D.tells → words_of (map string_bytes words.now) ≡ Some said →
+        table_in (L.files shelf.old) said ≡ Ok lines → read_of (images_of (D.contents desk.old)) ≡ Ok opening →
+        length (S.left script.old) ≤ SCRIPT_LIMIT →
         IsSteady (S.faults script.old) (S.faults script.new) → IsSteady (D.faults desk.old) (D.faults desk.new) →
-        (result ≡ Status.Done) ⊎ (result ≡ Status.NoMemory) }
+        (result ≡ Status.Done) ⊎ ((result ≡ Status.ShelfFault) ⊎ (result ≡ Status.NoMemory)) }
 {
     files_that_stand_are_read();
     turns_follow_their_commands();
-    match read_words(alloc, words) {
+    let words = match read_words(alloc, words) {
+        Ok(words) => words,
         Err(WordsFault::Refused) => return Status::Words,
         Err(WordsFault::NoMemory) => return Status::NoMemory,
-        // The catalogue and the table are not asked for yet.
-        Ok(_) => {}
-    }
-    run_opened(alloc, script, shelf, desk, steps)
+    };
+    let table = match fetch_tables(alloc, &words, shelf) {
+        Ok(table) => table,
+        Err(status) => return status,
+    };
+    run_opened(alloc, table, words.settings, script, shelf, desk, steps)
 }

@@ -3,11 +3,13 @@
 mod crashes;
 mod files;
 mod loads;
+mod tables;
 
 ghost use Rattle.std.specs.Prelude.{◌≡◌, ◌<◌};
 
 use crate::run::run_ecdis;
 use crate::run::status::Status;
+use crate::run::tables_fault::TablesFault;
 use chart_ports::{FailingCalls, FileBytes, MemoryDesk, MemoryShelf, MemorySource, Steps};
 use std::alloc::{AllocError, Global};
 use std::marker::Brand;
@@ -22,15 +24,23 @@ RCNM!RCID!EXPP!INTU!DSNM!EDTN!UPDN!UADT!ISDT!STED!PRSP!PSDN!PRED!PROF!AGEN!COMT\
 00091 D     00036   3404DSID0550000\x1E\
 \x0A\x01\0\0\0\x01\x05AA5TEST1.000\x1F1\x1F0\x1F202401012024010103.1\x01\x1F2.0\x1F\x01\x26\x02\x1F\x1E";
 
+/// The object catalogue and the lookup table.
+const CATALOGUE: &[u8] = b"O 42 DEPARE\nA 87 DRVAL1\n";
+
+const TABLE: &[u8] = b"DEPARE A 1 - AC(DEPVS)\n";
+
 /// A script, and which calls fail: numbers from 1, or 0 for none.
 #[derive(Clone, Copy, Debug)]
 struct Case<'a> {
+    catalogue: Option<&'a [u8]>,
+    table: Option<&'a [u8]>,
     script: &'a [u8],
     /// Whether the source gives one byte a pull.
     slow: bool,
     /// Whether the shelf has eight of the longest files too.
     large: bool,
     pull: u64,
+    /// A call of the shelf: the catalogue and the table are the first two.
     fetch: u64,
     /// A call of the desk: the opening makes eight.
     desk: u64,
@@ -39,6 +49,8 @@ struct Case<'a> {
 impl<'a> Case<'a> {
     fn of(script: &'a [u8]) -> Case<'a> {
         Case {
+            catalogue: Some(CATALOGUE),
+            table: Some(TABLE),
             script,
             slow: false,
             large: false,
@@ -73,9 +85,15 @@ fn put(
 }
 
 /// A shelf with the cell, the cell with a fault in its descriptor's labels or in its edition number,
-/// its data descriptive record alone, an empty file, and files that can be loaded.
+/// its data descriptive record alone, an empty file, and files that can be loaded; and the catalogue and the table.
 fn shelf(alloc: Global, case: &Case) -> Result<MemoryShelf, AllocError> {
     let mut shelf = MemoryShelf::new(alloc, failing(alloc, case.fetch)?);
+    if let Some(bytes) = case.catalogue {
+        put(alloc, &mut shelf, "catalogue", bytes.to_vec(alloc)?)?;
+    }
+    if let Some(bytes) = case.table {
+        put(alloc, &mut shelf, "table", bytes.to_vec(alloc)?)?;
+    }
     put(alloc, &mut shelf, "AA5TEST1.000", CELL.to_vec(alloc)?)?;
     put(alloc, &mut shelf, "LABELS", changed(alloc, 79, b'?')?)?;
     put(alloc, &mut shelf, "EDITION", changed(alloc, 257, b'x')?)?;
@@ -218,15 +236,18 @@ fn ends_where_a_device_fails(rt: HostRuntime) -> Result<(), Fail> {
         slow: true,
         ..whole
     };
-    let cases: [(Case, Status, &[u8]); 9] = [
-        // The shelf fails once, and the run goes on.
+    let cases: [(Case, Status, &[u8]); 11] = [
+        // The shelf fails at the catalogue, and at the table.
+        (Case { fetch: 1, ..whole }, Status::ShelfFault, b""),
+        (Case { fetch: 2, ..whole }, Status::ShelfFault, b""),
+        // The shelf fails once behind them, and the run goes on.
         (
-            Case { fetch: 1, ..whole },
+            Case { fetch: 3, ..whole },
             Status::Done,
             b"no 72\nno 71 NONE\nno 70 3\n",
         ),
         (
-            Case { fetch: 2, ..whole },
+            Case { fetch: 4, ..whole },
             Status::Done,
             b"ok info AA5TEST1 1 0 1\nno 72\nno 70 3\n",
         ),
@@ -298,11 +319,42 @@ fn statuses_have_numbers_and_lines(rt: HostRuntime) -> Result<(), Fail> {
     let cases = [
         (Status::Done, 0, ""),
         (Status::Words, 1, "ecdis: words"),
+        (
+            Status::Tables(0, TablesFault::Absent),
+            2,
+            "ecdis: tables 0 absent",
+        ),
+        (
+            Status::Tables(1, TablesFault::Long),
+            2,
+            "ecdis: tables 1 long",
+        ),
+        (
+            Status::Tables(0, TablesFault::BadLine(2)),
+            2,
+            "ecdis: tables 0 2",
+        ),
+        (
+            Status::Tables(0, TablesFault::Twice(10)),
+            2,
+            "ecdis: tables 0 10",
+        ),
+        (
+            Status::Tables(1, TablesFault::UnknownName(1)),
+            2,
+            "ecdis: tables 1 1",
+        ),
+        (
+            Status::Tables(1, TablesFault::UnknownProcedure(3)),
+            2,
+            "ecdis: tables 1 3",
+        ),
         (Status::Foreign(1, 8), 3, "ecdis: foreign 1 8"),
         (Status::ScriptFault, 4, "ecdis: script fault"),
         (Status::ScriptLong, 5, "ecdis: script long"),
         (Status::DeskFault, 6, "ecdis: desk fault"),
         (Status::NoMemory, 7, "ecdis: no memory"),
+        (Status::ShelfFault, 8, "ecdis: shelf fault"),
     ];
     for (status, number, line) in cases {
         assert_eq!(rt; status.number(), number);

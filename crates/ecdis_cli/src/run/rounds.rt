@@ -1,10 +1,11 @@
 //! The run of a script.
 
-ghost use Rattle.std.specs.Prelude.{◌≡◌, ◌≢◌, ◌+◌, ◌<◌, ◌≤◌, [], ℕ, IsTrue, length};
+ghost use Rattle.std.specs.Prelude.{◌≡◌, ◌≢◌, ◌+◌, ◌<◌, ◌≤◌, [], ℕ, IsTrue, false, length};
 ghost use Rattle.chart_ports.specs.Count.{Rose, RoseBy};
 ghost use Rattle.chart_ports.specs.Moments.{LeavesOnly, MayBeLeft};
 ghost use Rattle.session_core.specs.Session.{model_of};
 ghost use Rattle.ecdis_cli.specs.Run.{Ran, outside_of};
+ghost use Rattle.ecdis_cli.specs.Status.{is_early};
 ghost use Rattle.ecdis_cli.specs.World.{IsReady};
 
 use crate::run::reader::Reader;
@@ -34,7 +35,8 @@ pub fn run_script<S: Source, L: Shelf, D: Desk, C: Ledger>(
         (λ P. LeavesOnly D.clock D.might desk.old desk.new P) (λ images so_far. ⊥) (MayBeLeft (D.may_leave desk.new))
         (outside_of (S.left script.old) (D.said desk.old) (L.faults shelf.old))
         (outside_of (S.left script.new) (D.said desk.new) (L.faults shelf.new)) }
-    ensures begun { (result ≢ Status.Words) × ((bank at : ℕ) → result ≢ Status.Foreign bank at) }
+    ensures begun { is_early result ≡ false }
+    ensures opened { (bank at : ℕ) → result ≢ Status.Foreign bank at }
     ensures done { result ≡ Status.Done → IsTrue (S.is_at_end script.new) }
     ensures read { IsTrue S.tells → result ≡ Status.Done → S.left script.new ≡ [] }
     ensures short { IsTrue S.tells → result ≡ Status.Done → length (S.left script.old) ≤ SCRIPT_LIMIT }

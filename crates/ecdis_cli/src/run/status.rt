@@ -1,10 +1,13 @@
 //! How a run ends.
 
 ghost use Rattle.std.specs.Prelude.{◌≡◌};
+ghost use Rattle.ecdis_cli.specs.FileStop.{status_of_file};
 ghost use Rattle.ecdis_cli.specs.Status.{number_of};
 ghost use Rattle.ecdis_cli.specs.Stop.{status_of, status_of_opening};
 
+use crate::run::file_stop::FileStop;
 use crate::run::stop::Stop;
+use crate::run::tables_fault::TablesFault;
 use chart_store::OpenFault;
 use std::fmt;
 
@@ -15,6 +18,8 @@ pub enum Status {
     Done,
     /// The words are not those of the program.
     Words,
+    /// The file of this number, 0 for the object catalogue and 1 for the lookup table, has this fault.
+    Tables(u8, TablesFault),
     /// The files of the store are none: their first fault is in the file of this number, at this place, counted from 0.
     Foreign(u8, u64),
     /// The script could not be read on.
@@ -25,6 +30,8 @@ pub enum Status {
     DeskFault,
     /// There was no memory.
     NoMemory,
+    /// The shelf failed while the catalogue or the table was fetched.
+    ShelfFault,
 }
 
 impl Status {
@@ -35,6 +42,17 @@ impl Status {
         match stop {
             Stop::DeskFault => Status::DeskFault,
             Stop::NoMemory => Status::NoMemory,
+        }
+    }
+
+    /// How the run ends whose catalogue, or table, is not taken: the file of this number, 0 or 1.
+    pub fn of_file(which: u8, stop: FileStop) -> Status
+        ensures { result ≡ status_of_file which stop }
+    {
+        match stop {
+            FileStop::Fault(fault) => Status::Tables(which, fault),
+            FileStop::ShelfFault => Status::ShelfFault,
+            FileStop::NoMemory => Status::NoMemory,
         }
     }
 
@@ -56,11 +74,13 @@ impl Status {
         match self {
             Status::Done => 0,
             Status::Words => 1,
+            Status::Tables(..) => 2,
             Status::Foreign(..) => 3,
             Status::ScriptFault => 4,
             Status::ScriptLong => 5,
             Status::DeskFault => 6,
             Status::NoMemory => 7,
+            Status::ShelfFault => 8,
         }
     }
 }
@@ -76,11 +96,13 @@ impl fmt::Display for Status {
         match self {
             Status::Done => f.write_str(""),
             Status::Words => f.write_str("ecdis: words"),
+            Status::Tables(which, fault) => write!(f, "ecdis: tables {which} {fault}"),
             Status::Foreign(bank, at) => write!(f, "ecdis: foreign {bank} {at}"),
             Status::ScriptFault => f.write_str("ecdis: script fault"),
             Status::ScriptLong => f.write_str("ecdis: script long"),
             Status::DeskFault => f.write_str("ecdis: desk fault"),
             Status::NoMemory => f.write_str("ecdis: no memory"),
+            Status::ShelfFault => f.write_str("ecdis: shelf fault"),
         }
     }
 }

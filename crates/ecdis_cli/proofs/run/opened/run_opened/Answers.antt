@@ -5,34 +5,34 @@ use Rattle.chart_ports.specs.Count.{Rose}
 use Rattle.chart_ports.specs.Moments.{MayBeLeft}
 use Rattle.chart_store.specs.Store.{IsKept, count_of, is_sound}
 use Rattle.chart_store.specs.declared.store.Store.{Store}
-use Rattle.session_core.specs.Session.{model_by, model_of, store_of}
+use Rattle.session_core.specs.Session.{model_of, store_of}
 use Rattle.ecdis_cli.specs.Run.{outside_of}
-use Rattle.ecdis_cli.proofs.Opening.{opened-model, opening-status, other-status, ran-opened, ran-unopened, rose-later}
+use Rattle.ecdis_cli.proofs.Opening.{opened-model, opening-status, other-status, ran-opened, ran-unopened, rose-later, session-model}
 use Rattle.ecdis_cli.proofs.run.opened.run_opened.Goals as goal
 
 pub returns-in-Err-clause-ran : goal.returns-in-Err-clause-ran
 returns-in-Err-clause-ran g c = λ s d opening read.
     let old = c.args.desk.now in
-    ran-unopened g.D.Desk.clock g.D.Desk.might c.files_that_stand_are_read.ensures.reads (g.D.Desk.contents old) (g.D.Desk.may_leave old) (g.D.Desk.said old) opening read
+    ran-unopened g.D.Desk.clock g.D.Desk.might c.files_that_stand_are_read.ensures.reads (g.D.Desk.contents old) (g.D.Desk.may_leave old) (g.D.Desk.said old) _ opening read
     c.turns_follow_their_commands.ensures.failed _ _ old c.open_store.new.desk c.of_opening.result (MayBeLeft (g.D.Desk.may_leave c.open_store.new.desk))
-    (g.S.Source.left c.args.script.now) _ (g.L.Shelf.faults c.args.shelf.now)
-    (opening-status c.in-Err.fault c.of_opening.result c.of_opening.ensures) (c.open_store.ensures.said d) (c.open_store.ensures.moments d)
+    (g.S.Source.left c.args.script.now) _ (g.L.Shelf.faults c.args.shelf.now) _
+    (opening-status c.in-Err.fault c.of_opening.result c.of_opening.ensures) (c.open_store.ensures.said d) (omega arith) (c.open_store.ensures.moments d)
 
 pub returns-in_default-clause-ran : goal.returns-in_default-clause-ran
 returns-in_default-clause-ran g c = λ s d opening read.
     let old = c.args.desk.now in
-    ran-unopened g.D.Desk.clock g.D.Desk.might c.files_that_stand_are_read.ensures.reads (g.D.Desk.contents old) (g.D.Desk.may_leave old) (g.D.Desk.said old) opening read
+    ran-unopened g.D.Desk.clock g.D.Desk.might c.files_that_stand_are_read.ensures.reads (g.D.Desk.contents old) (g.D.Desk.may_leave old) (g.D.Desk.said old) _ opening read
     c.turns_follow_their_commands.ensures.failed _ _ old c.open_store.new.desk _ (MayBeLeft (g.D.Desk.may_leave c.open_store.new.desk))
-    (g.S.Source.left c.args.script.now) _ (g.L.Shelf.faults c.args.shelf.now)
-    other-status (c.open_store.ensures.said d) (c.open_store.ensures.moments d)
+    (g.S.Source.left c.args.script.now) _ (g.L.Shelf.faults c.args.shelf.now) _
+    other-status (c.open_store.ensures.said d) (omega arith) (c.open_store.ensures.moments d)
 
 pub returns-in_default-vec-clause-ran : goal.returns-in_default-vec-clause-ran
 returns-in_default-vec-clause-ran g c = λ s d opening read.
     let old = c.args.desk.now in
-    ran-unopened g.D.Desk.clock g.D.Desk.might c.files_that_stand_are_read.ensures.reads (g.D.Desk.contents old) (g.D.Desk.may_leave old) (g.D.Desk.said old) opening read
+    ran-unopened g.D.Desk.clock g.D.Desk.might c.files_that_stand_are_read.ensures.reads (g.D.Desk.contents old) (g.D.Desk.may_leave old) (g.D.Desk.said old) _ opening read
     c.turns_follow_their_commands.ensures.failed _ _ old c.open_store.new.desk _ (MayBeLeft (g.D.Desk.may_leave c.open_store.new.desk))
-    (g.S.Source.left c.args.script.now) _ (g.L.Shelf.faults c.args.shelf.now)
-    other-status (c.open_store.ensures.said d) (c.open_store.ensures.moments d)
+    (g.S.Source.left c.args.script.now) _ (g.L.Shelf.faults c.args.shelf.now) _
+    other-status (c.open_store.ensures.said d) (omega arith) (c.open_store.ensures.moments d)
 
 pub run_script-requires-clause-ready : goal.run_script-requires-clause-ready
 run_script-requires-clause-ready g c =
@@ -47,12 +47,15 @@ pub returns-clause-ran : goal.returns-clause-ran
 returns-clause-ran g c = λ s d opening read.
     let old = c.args.desk.now in
     let same : store_of c.in-Ok-new.session ≡ c.in-Ok.store = c.in-Ok-new.ensures.store in
-    ran-opened g.D.Desk.clock g.D.Desk.might c.files_that_stand_are_read.ensures.reads (g.D.Desk.contents old) (g.D.Desk.may_leave old) (g.D.Desk.said old) opening read
+    ran-opened g.D.Desk.clock g.D.Desk.might c.files_that_stand_are_read.ensures.reads (g.D.Desk.contents old) (g.D.Desk.may_leave old) (g.D.Desk.said old) _ opening read
     _ _ old c.open_store.new.desk c.run_script.new.desk c.run_script.result (MayBeLeft (g.D.Desk.may_leave c.run_script.new.desk))
     (g.S.Source.left c.args.script.now) _ (g.L.Shelf.faults c.args.shelf.now) _ (model_of c.in-Ok-new.session)
     (c.open_store.ensures.said d)
-    (ap model_by same ∙ opened-model _ opening _ _ read (c.in-Ok.ensures.state d))
+    (session-model c.in-Ok-new.session _ _ same c.in-Ok-new.ensures.portrayal ∙ opened-model _ _ opening _ _ read (c.in-Ok.ensures.state d))
     (c.open_store.ensures.moments d) (c.run_script.ensures.ran s d)
 
 pub returns-clause-desk_failed : goal.returns-clause-desk_failed
-returns-clause-desk_failed g c = λ is. rose-later _ _ _ c.open_store.ensures.cause.later (c.run_script.ensures.desk_failed is)
+returns-clause-desk_failed g c = λ is. rose-later _ _ _ _ c.open_store.ensures.cause.later (c.run_script.ensures.desk_failed is)
+
+pub returns-clause-foreign : goal.returns-clause-foreign
+returns-clause-foreign g c = λ bank at d is. absurd (c.run_script.ensures.opened bank at is)

@@ -1,5 +1,6 @@
 -- A byte of a line is kept, or changes nothing.
 use Rattle.std.proofs.Common.{ℕ, ◌≡◌, ◌∷◌, [], ◌++◌, length, cond, ltb, eqb, false, sym, ap, subst, rules}
+use Rattle.std.proofs.lemmas.Bool.{eqb-true}
 use Rattle.chart_ports.specs.Moments.{LeavesOnly}
 use Rattle.session_core.specs.Session.{model_of}
 use Rattle.session_core.specs.declared.session.Session.{Session}
@@ -42,3 +43,13 @@ returns-else-byte-eq10-clause-err g c = λ d.
     (λ images left. c.kept_stores_are_read.ensures.stands desk _ images (c.requires.ready.kept d) left) in
     OnErr-from c.keep.result _ (Stopped-start _ _ (LeavesOnly g.D.Desk.clock g.D.Desk.might desk desk) before _ (world_of c.keep.new.self.session said faults) crash
     (ap (λ (s : Session). world_of s said faults) c.keep.ensures.session))
+
+pub returns-then-byte-eq10-clause-ok : goal.returns-then-byte-eq10-clause-ok
+returns-then-byte-eq10-clause-ok g c = λ d.
+    let is : c.args.byte ≡ 10 = eqb-true c.args.byte 10 (search (rules, c.if-byte-eq10.true)) in
+    rw is (c.end_line.ensures.ok d)
+
+pub returns-then-byte-eq10-clause-err : goal.returns-then-byte-eq10-clause-err
+returns-then-byte-eq10-clause-err g c = λ d.
+    let is : c.args.byte ≡ 10 = eqb-true c.args.byte 10 (search (rules, c.if-byte-eq10.true)) in
+    rw is (c.end_line.ensures.err d)
