@@ -1,11 +1,15 @@
 -- The names and procedures of a line, looked up.
-use Rattle.std.specs.Prelude.{ℕ, Bool, ◌||◌, if◌then◌else◌, List, take, codes, Option, Some, None, is_none}
+use Rattle.std.specs.Prelude.{ℕ, Bool, ◌||◌, if◌then◌else◌, List, [], ◌∷◌, ◌++◌, take, codes}
+use Rattle.std.specs.Prelude.{Option, Some, None, is_none, option_map}
 use Rattle.std.specs.List.{list_any}
 use Rattle.std.specs.Str.{bytes_eq}
+use Rattle.chart_model.specs.Answers.{when, first_of}
 use Rattle.object_catalogue.specs.Codes.{CatalogueValue, code_in}
 use Rattle.lookup_table.specs.declared.condition.Condition.{Condition}
 use Rattle.lookup_table.specs.declared.instruction.Instruction.{Instruction}
-use Rattle.lookup_table.specs.declared.instruction.Instruction.TheVariants.{Draw}
+use Rattle.lookup_table.specs.declared.instruction.Instruction.TheVariants.{Draw, Call}
+use Rattle.lookup_table.specs.declared.instruction.Procedure.{Procedure}
+use Rattle.lookup_table.specs.declared.instruction.Procedure.TheVariants.{Depare01, Depcnt02, Soundg02, Obstrn04, Wrecks02}
 use Rattle.lookup_table.specs.declared.line.TableLine.{TableLine}
 use Rattle.lookup_table.specs.declared.written.WrittenCondition.{WrittenCondition}
 use Rattle.lookup_table.specs.declared.written.WrittenLine.{WrittenLine}
@@ -15,9 +19,25 @@ use Rattle.lookup_table.specs.Reading.{each}
 abbrev pub calls_procedure : List ℕ → Bool
 calls_procedure text = bytes_eq (take 2 text) (codes "CS")
 
--- the instruction that a text writes; there is no procedure yet
+-- the text calls the procedure of that name
+abbrev pub calls : List ℕ → List ℕ → Bool
+calls name text = bytes_eq text (codes "CS(" ++ (name ++ codes ")"))
+
+-- the procedure that a text calls, where there is one of that name
+abbrev pub procedure_of : List ℕ → Option Procedure
+procedure_of text =
+    first_of (
+    when (calls (codes "DEPARE01") text) Depare01
+    ∷ when (calls (codes "DEPCNT02") text) Depcnt02
+    ∷ when (calls (codes "SOUNDG02") text) Soundg02
+    ∷ when (calls (codes "OBSTRN04") text) Obstrn04
+    ∷ when (calls (codes "WRECKS02") text) Wrecks02
+    ∷ []
+    )
+
+-- the instruction that a text writes
 abbrev pub instruction_in : List ℕ → Option Instruction
-instruction_in text = if calls_procedure text then None else Some (Draw text)
+instruction_in text = if calls_procedure text then option_map Call (procedure_of text) else Some (Draw text)
 
 -- a condition by its attribute's code
 abbrev pub condition_with_code : WrittenCondition → Option ℕ → Option Condition

@@ -1,26 +1,58 @@
 //! What a line of a table draws.
 
 ghost use Rattle.std.specs.Prelude.{◌≡◌};
-ghost use Rattle.lookup_table.specs.Named.{instruction_in};
+ghost use Rattle.lookup_table.specs.Named.{procedure_of, instruction_in};
 
 use chart_model::{Octets, Sequence};
+
+/// A conditional procedure: what it draws depends on the object and on what lies around it.
+#[derive(Clone, Copy, Debug, PartialEq, Eq)]
+pub enum Procedure {
+    /// Depth areas.
+    Depare01,
+    /// Depth contours.
+    Depcnt02,
+    /// Soundings.
+    Soundg02,
+    /// Obstructions and underwater rocks.
+    Obstrn04,
+    /// Wrecks.
+    Wrecks02,
+}
 
 /// What is drawn of an object.
 #[derive(Debug, Drop)]
 pub enum Instruction {
     /// An instruction as it is written, as `SY(BOYLAT13)`.
     Draw(Octets),
+    /// What a procedure makes of the object, as `CS(DEPARE01)`.
+    Call(Procedure),
 }
 
 /// Instructions in order.
 pub type InstructionList = Sequence<Instruction>;
 
-/// The instruction that a text writes; none where it names a procedure that there isn't. There are none yet.
+/// The procedure that a text calls, where there is one of that name.
+fn procedure_of(text: &[u8]) -> Option<Procedure>
+    ensures { result ≡ procedure_of text.now }
+{
+    match text {
+        b"CS(DEPARE01)" => Some(Procedure::Depare01),
+        b"CS(DEPCNT02)" => Some(Procedure::Depcnt02),
+        b"CS(SOUNDG02)" => Some(Procedure::Soundg02),
+        b"CS(OBSTRN04)" => Some(Procedure::Obstrn04),
+        b"CS(WRECKS02)" => Some(Procedure::Wrecks02),
+        _ => None,
+    }
+}
+
+/// The instruction that a text writes; none where it calls a procedure that there isn't.
 pub fn read_instruction(text: Octets) -> Option<Instruction>
     ensures { result ≡ instruction_in text }
 {
-    if text.as_slice().starts_with(b"CS") {
-        return None;
+    if !text.as_slice().starts_with(b"CS") {
+        return Some(Instruction::Draw(text));
     }
-    Some(Instruction::Draw(text))
+    let procedure = procedure_of(text.as_slice())?;
+    Some(Instruction::Call(procedure))
 }

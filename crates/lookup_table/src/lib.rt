@@ -10,12 +10,12 @@
 //!   value is this text; `=?`, the attribute is there and empty; or `=*`, it is there and not empty. TEXT is one or
 //!   more bytes from 0x21 to 0x7E without `+`;
 //! - INSTRUCTIONS, the rest of the line, is `-` for none, or instructions joined by `;`. An instruction is two capital
-//!   letters and a text in parentheses, of bytes from 0x20 to 0x7E without `(`, `)` and `;`. `CS(..)` names a conditional
-//!   procedure.
+//!   letters and a text in parentheses, of bytes from 0x20 to 0x7E without `(`, `)` and `;`. `CS(..)` calls a conditional
+//!   procedure: DEPARE01, DEPCNT02, SOUNDG02, OBSTRN04 or WRECKS02.
 //!
 //! Any other line is bad, and so is each line behind the 10,000th, whatever it holds. The acronyms stand in the object
-//! catalogue. There are no procedures yet, so that every `CS(..)` is unknown. Of the first line with a fault the first is
-//! answered: that it is bad, that a name is unknown, that a procedure is.
+//! catalogue. Of the first line with a fault the first is answered: that it is bad, that a name is unknown, that a procedure
+//! is.
 #![tactic(auto)]
 
 mod condition;
@@ -33,7 +33,7 @@ mod written;
 
 pub use condition::{Condition, ConditionList, Test};
 pub use fault::TableFault;
-pub use instruction::{Instruction, InstructionList};
+pub use instruction::{Instruction, InstructionList, Procedure};
 pub use laws::tables_are_read;
 pub use line::TableLine;
 pub use read::read_table;

@@ -1,0 +1,3 @@
+pub mod Coords
+pub mod Found
+pub mod Unsafe

@@ -1,0 +1,13 @@
+use Rattle.std.proofs.Common.{rules, ap, ◌∙◌, List}
+use Rattle.std.specs.List.{list_any}
+use Rattle.chart_model.specs.declared.name.Name.{Name}
+use Rattle.depth_symbology.specs.DepthArea.{is_unsafe_at}
+use Rattle.depth_symbology.proofs.Unsafe.{unsafe_users}
+use Rattle.depth_symbology.proofs.depth_area.borders_unsafe.Goals as goal
+
+pub returns : goal.returns
+returns c =
+    let among =
+    ap (λ (names : List Name). list_any (is_unsafe_at c.args.cell.now c.args.contour) names) c.edge_users.ensures
+    ∙ unsafe_users c.args.cell.now c.args.users.now c.args.contour c.args.edge c.requires in
+    search rules

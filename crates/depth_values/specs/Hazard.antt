@@ -1,0 +1,85 @@
+-- The depth over a wreck, a rock or an obstruction, in centimetres.
+use Rattle.std.specs.Prelude.{ℕ, ℤ, pos, negsuc, ◌≤ℤ◌, unsigned_abs, nat_le, Bool, false, ◌&&◌, ◌||◌, ◌==◌, if◌then◌else◌}
+use Rattle.std.specs.Prelude.{List, [], ◌∷◌, All, codes, Option, Some, None, option_and_then, unwrap_or}
+use Rattle.std.specs.List.{Contains}
+use Rattle.chart_model.specs.declared.cell.Feature.{Feature}
+use Rattle.chart_model.specs.Answers.{first_of, when}
+use Rattle.chart_model.specs.Cell.{CellValue}
+use Rattle.area_rings.specs.declared.shape.Shape.{Shape}
+use Rattle.area_rings.specs.Shape.{shape_of}
+use Rattle.depth_values.specs.Codes.{OBSTRN, WRECKS, CATOBS, CATWRK, EXPSOU, VALSOU, WATLEV}
+use Rattle.depth_values.specs.Attributes.{depth_at, has_value}
+use Rattle.depth_values.specs.DepthArea.{AreaValue}
+use Rattle.depth_values.specs.Under.{areas_of, least_among, is_safe_among}
+
+-- one of the numbers, and none is less
+pub record IsLeast (numbers : List ℤ) (n : ℤ) : Type 0 where
+  pub among : Contains numbers n
+  pub none_less : All (λ other. n ≤ℤ other) numbers
+
+-- a depth that a sounding can have: up to 9,999,999 either way
+abbrev pub known : ℤ → Option ℤ
+known depth = if nat_le (unsigned_abs depth) 9999999 then Some depth else None
+
+-- value of sounding
+abbrev pub sounding_of : Feature → Option ℤ
+sounding_of feature = option_and_then known (depth_at feature VALSOU)
+
+-- water level effect
+abbrev pub has_watlev : List ℕ → Feature → Bool
+has_watlev value feature = has_value feature WATLEV value
+
+-- exposition of sounding
+abbrev pub has_expsou : List ℕ → Feature → Bool
+has_expsou value feature = has_value feature EXPSOU value
+
+-- a wreck of a category
+abbrev pub is_wreck : List ℕ → Feature → Bool
+is_wreck category feature = (feature.class == WRECKS) && has_value feature CATWRK category
+
+-- an obstruction of a category
+abbrev pub is_obstruction : List ℕ → Feature → Bool
+is_obstruction category feature = (feature.class == OBSTRN) && has_value feature CATOBS category
+
+-- always under water, and not less deep than the depths around it: within their range, or deeper
+abbrev pub lies_at_bottom : Feature → Bool
+lies_at_bottom feature =
+    has_watlev (codes "3") feature && (has_expsou (codes "1") feature || has_expsou (codes "3") feature)
+
+-- the least d1 of those areas that are under the feature
+abbrev pub depth_among : List AreaValue → CellValue → Feature → Option ℤ
+depth_among areas cell feature = option_and_then (least_among areas) (shape_of cell feature)
+
+-- the least d1 of the depth areas under the feature, where it lies at their bottom
+abbrev pub depth_under : CellValue → Feature → Option ℤ
+depth_under cell feature = if lies_at_bottom feature then depth_among (areas_of cell) cell feature else None
+
+-- what is taken of a hazard of no known depth, by its categories and then by the water level
+abbrev pub assumed : Feature → List (Option ℤ)
+assumed feature =
+    when (is_wreck (codes "1") feature) (pos 2010)
+    ∷ when (is_wreck (codes "2") feature) (pos 0)
+    ∷ when (is_wreck (codes "4") feature || is_wreck (codes "5") feature) (negsuc 1499)
+    ∷ when (is_obstruction (codes "6") feature) (pos 1)
+    ∷ when (has_watlev (codes "3") feature) (pos 1)
+    ∷ when (has_watlev (codes "5") feature) (pos 0)
+    ∷ []
+
+-- and of all others: they dry 15 metres
+abbrev pub assumed_depth : Feature → ℤ
+assumed_depth feature = unwrap_or (first_of (assumed feature)) (negsuc 1499)
+
+-- the first of these that there is: its own depth, that of the areas under it, an assumed one
+abbrev pub hazard_depth : CellValue → Feature → ℤ
+hazard_depth cell feature =
+    unwrap_or (first_of (sounding_of feature ∷ depth_under cell feature ∷ assumed feature)) (negsuc 1499)
+
+-- ---- a safe area under a feature
+
+abbrev pub is_safe_at : List AreaValue → ℤ → Option Shape → Bool
+is_safe_at areas contour None = false
+is_safe_at areas contour (Some shape) = is_safe_among areas contour shape
+
+-- a depth area or a dredged area of the cell that is safe is under the feature
+abbrev pub lies_in_safe_area : CellValue → ℤ → Feature → Bool
+lies_in_safe_area cell contour feature = is_safe_at (areas_of cell) contour (shape_of cell feature)

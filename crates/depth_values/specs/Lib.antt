@@ -1,0 +1,11 @@
+pub mod Codes
+pub mod Attributes
+pub mod Area
+pub mod Inside
+pub mod Bounds
+pub mod DepthArea
+pub mod Under
+pub mod Safety
+pub mod Hazard
+pub mod Digits
+pub mod DigitItems

@@ -1,0 +1,115 @@
+//! The depth areas of a chart.
+
+ghost use Rattle.std.specs.Prelude.{◌≡◌, IfOk};
+ghost use Rattle.depth_values.specs.Under.{is_depth_area, area_at, areas_of};
+
+use crate::area::area_depths;
+use crate::bounds::{Bounds, bounds_of};
+use crate::codes::{DEPARE, DRGARE};
+use area_rings::{RingList, rings};
+use chart_model::codes::AREA;
+use chart_model::{Cell, Feature, Name, Sequence};
+use plane_geometry::{Pt, inside_even_odd};
+use std::alloc::{AllocError, Global};
+use std::marker::Model;
+
+/// A depth area or a dredged area: its name, the least of its depths and its rings.
+#[derive(Debug, Drop)]
+pub struct DepthArea {
+    name: Name,
+    d1: i32,
+    rings: RingList,
+    bounds: Bounds,
+}
+
+impl Model for DepthArea {
+    ghost use Rattle.depth_values.specs.DepthArea.{AreaValue};
+    ghost use Rattle.depth_values.specs.Bounds.{RingsIn};
+
+    ghost Value = { AreaValue };
+
+    ghost view = { λ area. record { name = area.name; d1 = area.d1; rings = area.rings } };
+
+    ghost invariant = { λ area. RingsIn area.bounds area.rings };
+}
+
+/// The depth areas of a chart, in the order of their names.
+pub type DepthAreas = Sequence<DepthArea>;
+
+impl DepthArea {
+    ghost use Rattle.std.specs.Prelude.{◌≡◌};
+    ghost use Rattle.std.specs.List.{list_any};
+    ghost use Rattle.depth_values.specs.Inside.{is_inside};
+
+    /// The name of the feature.
+    pub fn name(&self) -> Name
+        ensures { result ≡ self.now.name }
+    {
+        self.name
+    }
+
+    /// The least depth of the area, in centimetres.
+    pub fn d1(&self) -> i32
+        ensures { result ≡ self.now.d1 }
+    {
+        self.d1
+    }
+
+    /// Whether a point lies in or on the area. The box round the area is asked first.
+    fn holds(&self, p: Pt) -> bool
+        ensures { result ≡ is_inside p self.now.rings }
+    {
+        self.bounds.holds(p) && inside_even_odd(p, self.rings.as_slice())
+    }
+
+    /// Whether one of the points lies in or on the area. It takes no memory.
+    pub(crate) fn holds_any(&self, points: &[Pt]) -> bool
+        ensures { result ≡ list_any (λ p. is_inside p self.now.rings) points.now }
+    {
+        points.iter().any(|p| self.holds(*p))
+    }
+}
+
+/// Whether the feature is a depth area or a dredged area.
+pub(crate) fn is_depth_area(feature: &Feature) -> bool
+    ensures { result ≡ is_depth_area feature.now }
+{
+    feature.prim == AREA && (feature.class == DEPARE || feature.class == DRGARE)
+}
+
+/// The depth area that a feature is; `None` where it is none or has no rings.
+fn depth_area(
+    alloc: Global,
+    cell: &Cell,
+    name: Name,
+    feature: &Feature,
+) -> Result<Option<DepthArea>, AllocError>
+    ensures { IfOk result (λ area. area ≡ area_at cell.now (name, feature.now)) }
+{
+    if !is_depth_area(feature) {
+        return Ok(None);
+    }
+    let Some(rings) = rings(alloc, cell, feature)? else {
+        return Ok(None);
+    };
+    let bounds = bounds_of(rings.as_slice());
+    Ok(Some(DepthArea {
+        name,
+        d1: area_depths(feature).d1,
+        rings,
+        bounds,
+    }))
+}
+
+/// The depth areas and dredged areas of a chart, in the order of their names.
+pub fn depth_areas(alloc: Global, cell: &Cell) -> Result<DepthAreas, AllocError>
+    ensures { IfOk result (λ areas. areas ≡ areas_of cell.now) }
+{
+    let mut areas = Sequence::new(alloc);
+    for (name, feature) in cell.features.iter() {
+        if let Some(area) = depth_area(alloc, cell, *name, feature)? {
+            areas.push(area)?;
+        }
+    }
+    Ok(areas)
+}

@@ -1,0 +1,156 @@
+//! The depth over a wreck, a rock or an obstruction.
+
+ghost use Rattle.std.specs.Prelude.{◌≡◌, IfOk, IfSome};
+ghost use Rattle.chart_model.specs.Record.{IsWithin};
+ghost use Rattle.depth_values.specs.Under.{areas_of};
+ghost use Rattle.depth_values.specs.Hazard.{sounding_of, is_wreck, is_obstruction, lies_at_bottom};
+ghost use Rattle.depth_values.specs.Hazard.{depth_among, depth_under, assumed_depth, hazard_depth, lies_in_safe_area};
+
+use crate::attributes::{depth_at, has_value};
+use crate::codes::{CATOBS, CATWRK, EXPSOU, OBSTRN, VALSOU, WATLEV, WRECKS};
+use crate::depth_area::{DepthArea, depth_areas};
+use crate::under::{is_safe_among, least_among};
+use area_rings::feature_shape;
+use chart_model::{Cell, Feature};
+use std::alloc::{AllocError, Global};
+
+/// The greatest depth that a sounding can have, in centimetres, and the least above the water.
+const DEEPEST: u32 = 9_999_999;
+
+/// The depth of a hazard of which nothing is known: it dries 15 metres.
+const DRIES: i32 = -1_500;
+
+/// VALSOU in centimetres; `None` where it is unknown: absent, empty, no depth, or more than 9,999,999 either way. It takes
+/// no memory.
+pub fn sounding(feature: &Feature) -> Option<i32>
+    ensures depth { result ≡ sounding_of feature.now }
+    ensures within { IfSome result (IsWithin 9999999) }
+{
+    let depth = depth_at(feature, VALSOU)?;
+    if depth.unsigned_abs() <= DEEPEST {
+        Some(depth)
+    } else {
+        None
+    }
+}
+
+/// Whether the feature is a wreck of a category.
+fn is_wreck(feature: &Feature, category: &[u8]) -> bool
+    ensures { result ≡ is_wreck category.now feature.now }
+{
+    feature.class == WRECKS && has_value(feature, CATWRK, category)
+}
+
+/// Whether the feature is an obstruction of a category.
+fn is_obstruction(feature: &Feature, category: &[u8]) -> bool
+    ensures { result ≡ is_obstruction category.now feature.now }
+{
+    feature.class == OBSTRN && has_value(feature, CATOBS, category)
+}
+
+/// Whether the hazard is always under water, and not less deep than the depths around it.
+fn lies_at_bottom(feature: &Feature) -> bool
+    ensures { result ≡ lies_at_bottom feature.now }
+{
+    has_value(feature, WATLEV, b"3")
+        && (has_value(feature, EXPSOU, b"1") || has_value(feature, EXPSOU, b"3"))
+}
+
+/// The depth that is taken of a hazard of no known depth, in centimetres.
+fn assumed_depth(feature: &Feature) -> i32
+    ensures { result ≡ assumed_depth feature.now }
+{
+    if is_wreck(feature, b"1") {
+        2_010
+    } else if is_wreck(feature, b"2") {
+        0
+    } else if is_wreck(feature, b"4") || is_wreck(feature, b"5") {
+        DRIES
+    } else if is_obstruction(feature, b"6") || has_value(feature, WATLEV, b"3") {
+        1
+    } else if has_value(feature, WATLEV, b"5") {
+        0
+    } else {
+        DRIES
+    }
+}
+
+/// The least depth of those areas that are under the feature; `None` where there is none.
+fn depth_among(
+    alloc: Global,
+    areas: &[DepthArea],
+    cell: &Cell,
+    feature: &Feature,
+) -> Result<Option<i32>, AllocError>
+    ensures { IfOk result (λ depth. depth ≡ depth_among areas.now cell.now feature.now) }
+{
+    match feature_shape(alloc, cell, feature)? {
+        Some(shape) => least_among(alloc, areas, &shape),
+        None => Ok(None),
+    }
+}
+
+/// The least depth of the depth areas under a feature that lies at their bottom.
+fn depth_under(alloc: Global, cell: &Cell, feature: &Feature) -> Result<Option<i32>, AllocError>
+    ensures { IfOk result (λ depth. depth ≡ depth_under cell.now feature.now) }
+{
+    if !lies_at_bottom(feature) {
+        return Ok(None);
+    }
+    let areas = depth_areas(alloc, cell)?;
+    depth_among(alloc, areas.as_slice(), cell, feature)
+}
+
+/// The depth over a hazard in centimetres: its own, that is VALSOU; or, where it is always under water and not less
+/// deep than the depths around it, the least of the depth areas under it; or else what its category or the water
+/// level make of it, which where nothing is known is that it dries 15 metres.
+pub fn hazard_depth(alloc: Global, cell: &Cell, feature: &Feature) -> Result<i32, AllocError>
+    ensures { IfOk result (λ depth. depth ≡ hazard_depth cell.now feature.now) }
+{
+    if let Some(depth) = sounding(feature) {
+        return Ok(depth);
+    }
+    match depth_under(alloc, cell, feature)? {
+        Some(depth) => Ok(depth),
+        None => Ok(assumed_depth(feature)),
+    }
+}
+
+/// The same by the depth areas of the cell, which a drawing makes once.
+pub fn hazard_depth_among(
+    alloc: Global,
+    areas: &[DepthArea],
+    cell: &Cell,
+    feature: &Feature,
+) -> Result<i32, AllocError>
+    requires { areas.now ≡ areas_of cell.now }
+    ensures { IfOk result (λ depth. depth ≡ hazard_depth cell.now feature.now) }
+{
+    if let Some(depth) = sounding(feature) {
+        return Ok(depth);
+    }
+    if lies_at_bottom(feature)
+        && let Some(depth) = depth_among(alloc, areas, cell, feature)?
+    {
+        return Ok(depth);
+    }
+    Ok(assumed_depth(feature))
+}
+
+/// Whether a safe area is under the feature: a depth area or a dredged area that is nowhere less deep than the safety
+/// contour, in centimetres, and in or on which a point of the feature's shape lies.
+pub fn lies_in_safe_area(
+    alloc: Global,
+    areas: &[DepthArea],
+    cell: &Cell,
+    safety_contour: i32,
+    feature: &Feature,
+) -> Result<bool, AllocError>
+    requires { areas.now ≡ areas_of cell.now }
+    ensures { IfOk result (λ safe. safe ≡ lies_in_safe_area cell.now safety_contour feature.now) }
+{
+    match feature_shape(alloc, cell, feature)? {
+        Some(shape) => is_safe_among(alloc, areas, safety_contour, &shape),
+        None => Ok(false),
+    }
+}

@@ -1,0 +1,29 @@
+//! The depths of a chart's objects, as its drawing and its route checks take them.
+//!
+//! All depths are whole centimetres. The rules are this project's own, in the manner of IHO S-52, and are those
+//! of no edition of it.
+#![tactic(auto)]
+
+mod area;
+mod attributes;
+mod bounds;
+mod cells;
+pub mod codes;
+mod depth_area;
+mod digit_items;
+mod digits;
+mod hazard;
+mod laws;
+mod safety;
+mod under;
+
+pub use area::{Depths, area_depths};
+pub use attributes::{depth_at, has_value};
+pub use cells::CellList;
+pub use depth_area::{DepthArea, DepthAreas, depth_areas};
+pub use digit_items::push_digits;
+pub use digits::{Digits, digit_cells};
+pub use hazard::{hazard_depth, hazard_depth_among, lies_in_safe_area, sounding};
+pub use laws::{digits_write_depths, least_is_least, points_are_inside};
+pub use safety::{is_safe_area, is_unsafe_area};
+pub use under::{areas_among, areas_under};

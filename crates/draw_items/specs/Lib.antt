@@ -1,0 +1,3 @@
+pub mod Items
+pub mod Edges
+pub mod Style

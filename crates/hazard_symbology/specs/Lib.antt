@@ -1,0 +1,4 @@
+pub mod Symbol
+pub mod Point
+pub mod Edges
+pub mod Hazard

@@ -1,0 +1,77 @@
+//! The procedures for hazards.
+
+ghost use Rattle.std.specs.Prelude.{◌≡◌, ◌++◌, OnOk, IfOk};
+ghost use Rattle.depth_values.specs.Under.{areas_of};
+ghost use Rattle.hazard_symbology.specs.Hazard.{hazard_items, hazard_items_at};
+
+use crate::edges::{push_area, push_line};
+use crate::point::push_point;
+use chart_model::codes::{AREA, LINE, POINT};
+use chart_model::{Cell, Feature, ItemList, Name, Settings};
+use depth_values::{DepthArea, depth_areas, hazard_depth_among};
+use std::alloc::{AllocError, Global};
+
+/// Adds what is drawn of a hazard, by its geometry and its depth: a hazard no deeper than the safety contour is a danger.
+/// Nothing is drawn of what has no geometry. It needs the depth areas of the cell.
+pub fn push_hazard(
+    alloc: Global,
+    items: &mut ItemList,
+    areas: &[DepthArea],
+    cell: &Cell,
+    settings: &Settings,
+    feature: &Feature,
+) -> Result<(), AllocError>
+    requires { areas.now ≡ areas_of cell.now }
+    ensures { OnOk result (items.new ≡ items.old ++ hazard_items cell.now settings.now feature.now) }
+{
+    let depth = hazard_depth_among(alloc, areas, cell, feature)?;
+    let is_danger = depth <= settings.safety_contour;
+    match feature.prim {
+        POINT => push_point(alloc, items, areas, cell, settings, feature, depth),
+        LINE => push_line(alloc, items, feature, is_danger),
+        AREA => push_area(alloc, items, feature, is_danger),
+        _ => Ok(()),
+    }
+}
+
+/// What is drawn of the hazard with a name. Nothing is drawn where the cell has no such feature.
+fn hazard_at(
+    alloc: Global,
+    cell: &Cell,
+    settings: &Settings,
+    name: Name,
+) -> Result<ItemList, AllocError>
+    ensures { IfOk result (λ items. items ≡ hazard_items_at cell.now settings.now name) }
+{
+    let mut items = ItemList::new(alloc);
+    if let Some(feature) = cell.features.get(name) {
+        let areas = depth_areas(alloc, cell)?;
+        push_hazard(alloc, &mut items, areas.as_slice(), cell, settings, feature)?;
+    }
+    Ok(items)
+}
+
+/// What is drawn of the obstruction or underwater rock with a name, as `push_hazard` has it. Nothing is drawn where the
+/// cell has no such feature.
+pub fn obstrn04(
+    alloc: Global,
+    cell: &Cell,
+    settings: &Settings,
+    name: Name,
+) -> Result<ItemList, AllocError>
+    ensures { IfOk result (λ items. items ≡ hazard_items_at cell.now settings.now name) }
+{
+    hazard_at(alloc, cell, settings, name)
+}
+
+/// What is drawn of the wreck with a name, as `push_hazard` has it. Nothing is drawn where the cell has no such feature.
+pub fn wrecks02(
+    alloc: Global,
+    cell: &Cell,
+    settings: &Settings,
+    name: Name,
+) -> Result<ItemList, AllocError>
+    ensures { IfOk result (λ items. items ≡ hazard_items_at cell.now settings.now name) }
+{
+    hazard_at(alloc, cell, settings, name)
+}

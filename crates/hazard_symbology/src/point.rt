@@ -1,0 +1,98 @@
+//! Hazards at points.
+
+ghost use Rattle.std.specs.Prelude.{◌≡◌, ◌++◌, OnOk, IfOk};
+ghost use Rattle.chart_model.specs.Record.{IsWithin};
+ghost use Rattle.depth_values.specs.Under.{areas_of};
+ghost use Rattle.depth_values.specs.Hazard.{hazard_depth, sounding_of};
+ghost use Rattle.hazard_symbology.specs.Point.{danger_symbol, depth_items, is_isolated, items_by, point_items};
+
+use crate::symbol::symbol_of;
+use chart_model::{Cell, Feature, ItemList, Settings, Target};
+use depth_values::{DepthArea, lies_in_safe_area, push_digits, sounding};
+use draw_items::push_item;
+use std::alloc::{AllocError, Global};
+
+/// The symbol of a hazard of a known depth: that of a danger up to the safety depth, or of a deeper one.
+fn danger_symbol(depth: i32, safety_depth: i32) -> &'static [u8]
+    ensures { result.now ≡ danger_symbol depth safety_depth }
+{
+    if depth <= safety_depth {
+        b"SY(DANGER01)"
+    } else {
+        b"SY(DANGER02)"
+    }
+}
+
+/// Adds the symbol of a hazard of a known depth, and the digits of the depth.
+fn push_depth(
+    alloc: Global,
+    items: &mut ItemList,
+    depth: i32,
+    safety_depth: i32,
+) -> Result<(), AllocError>
+    requires { IsWithin 9999999 depth }
+    ensures { OnOk result (items.new ≡ items.old ++ depth_items depth safety_depth) }
+{
+    push_item(
+        alloc,
+        items,
+        Target::Whole,
+        danger_symbol(depth, safety_depth),
+    )?;
+    push_digits(alloc, items, Target::Whole, depth, safety_depth)
+}
+
+/// Whether a hazard of this depth is an isolated danger: no deeper than the safety contour, in water that is safe.
+fn is_isolated(
+    alloc: Global,
+    areas: &[DepthArea],
+    cell: &Cell,
+    safety_contour: i32,
+    feature: &Feature,
+    depth: i32,
+) -> Result<bool, AllocError>
+    requires { areas.now ≡ areas_of cell.now }
+    ensures { IfOk result (λ isolated. isolated ≡ is_isolated cell.now safety_contour feature.now depth) }
+{
+    if safety_contour < depth {
+        return Ok(false);
+    }
+    lies_in_safe_area(alloc, areas, cell, safety_contour, feature)
+}
+
+/// Adds the symbol and the digits of a hazard's own depth, where that is known, or else the symbol of its class.
+fn push_by_depth(
+    alloc: Global,
+    items: &mut ItemList,
+    settings: &Settings,
+    feature: &Feature,
+) -> Result<(), AllocError>
+    ensures { OnOk result
+        (items.new ≡ items.old ++ items_by settings.now feature.now (sounding_of feature.now)) }
+{
+    match sounding(feature) {
+        Some(depth) => push_depth(alloc, items, depth, settings.safety_depth),
+        None => push_item(alloc, items, Target::Whole, symbol_of(feature)),
+    }
+}
+
+/// Adds what is drawn of a hazard of this depth at a point: the mark of an isolated danger alone; or else the symbol and
+/// the digits of its own depth, where that is known; or else the symbol of its class.
+pub fn push_point(
+    alloc: Global,
+    items: &mut ItemList,
+    areas: &[DepthArea],
+    cell: &Cell,
+    settings: &Settings,
+    feature: &Feature,
+    depth: i32,
+) -> Result<(), AllocError>
+    requires areas { areas.now ≡ areas_of cell.now }
+    requires depth { depth ≡ hazard_depth cell.now feature.now }
+    ensures { OnOk result (items.new ≡ items.old ++ point_items cell.now settings.now feature.now) }
+{
+    if is_isolated(alloc, areas, cell, settings.safety_contour, feature, depth)? {
+        return push_item(alloc, items, Target::Whole, b"SY(ISODGR01)");
+    }
+    push_by_depth(alloc, items, settings, feature)
+}

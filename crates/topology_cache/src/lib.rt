@@ -1,0 +1,11 @@
+//! The features that point to each edge of a chart, found in one pass over its features.
+//!
+//! A depth area's boundary is a safety contour where the area on the other side of it is unsafe, and an edge
+//! doesn't name the areas that it bounds. So a drawing asks for the features that point to an edge, for many
+//! edges.
+#![tactic(auto)]
+
+mod added;
+mod users;
+
+pub use users::{Users, users_of};
