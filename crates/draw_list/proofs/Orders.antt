@@ -5,6 +5,7 @@ use Rattle.std.specs.Ordering.{is_lt, nat_cmp, ordering_then}
 use Rattle.chart_model.specs.Cell.{CellValue}
 use Rattle.chart_model.specs.declared.drawing.Geom.{Geom}
 use Rattle.chart_model.specs.declared.drawing.Geom.TheVariants.{Area, Line, Point}
+use Rattle.chart_model.specs.declared.settings.Settings.{Settings}
 use Rattle.lookup_table.specs.declared.line.TableLine.{TableLine}
 use Rattle.draw_list.specs.declared.drawing.Drawn.{Drawn}
 use Rattle.draw_list.specs.contracts.drawing.DrawOrderOrd.TheImpl.{ghosts}
@@ -31,9 +32,9 @@ same_order x y = by_parts x.block.priority y.block.priority x.block.geom y.block
 pub sorted_by_keys : (xs : List Drawn) → IsSortedByKey key_of ghosts.cmp xs → IsSorted drawn_cmp xs
 sorted_by_keys xs sorted k d low high = ap is_lt (sym (same_order (get_or xs (k + 1) d) (get_or xs k d))) ∙ sorted k d low high
 
-pub drawing_by : (cell : CellValue) (table : List TableLine) (scale : ℕ) (blocks sorted drawing : List Drawn) → blocks ≡ blocks_in cell table scale → drawing ≡ sorted
-    → IsPermutation blocks sorted → IsSorted drawn_cmp sorted → IsDrawing cell table scale drawing
-drawing_by cell table scale blocks sorted drawing made taken permuted ordered = record {
-  all = subst (λ (l : List Drawn). IsPermutation (blocks_in cell table scale) l) (sym taken) (subst (λ (l : List Drawn). IsPermutation l sorted) made permuted);
+pub drawing_by : (cell : CellValue) (table : List TableLine) (settings : Settings) (blocks sorted drawing : List Drawn) → blocks ≡ blocks_in cell table settings → drawing ≡ sorted
+    → IsPermutation blocks sorted → IsSorted drawn_cmp sorted → IsDrawing cell table settings drawing
+drawing_by cell table settings blocks sorted drawing made taken permuted ordered = record {
+  all = subst (λ (l : List Drawn). IsPermutation (blocks_in cell table settings) l) (sym taken) (subst (λ (l : List Drawn). IsPermutation l sorted) made permuted);
   ordered = subst (IsSorted drawn_cmp) (sym taken) ordered;
 }

@@ -9,6 +9,7 @@ use Rattle.std.proofs.lemmas.Bool.{true≢false}
 use Rattle.std.proofs.lemmas.List.{append-nil}
 use Rattle.std.proofs.lemmas.List.Sorted.{IsPermutation-refl, IsPermutation-trans, IsPermutation-cons, IsPermutation-middle, IsPermutation-append_left}
 use Rattle.chart_model.specs.Cell.{CellValue, IsCell}
+use Rattle.chart_model.specs.declared.settings.Settings.{Settings}
 use Rattle.lookup_table.specs.declared.line.TableLine.{TableLine}
 use Rattle.draw_list.specs.declared.drawing.Drawn.{Drawn}
 use Rattle.draw_list.specs.Drawing.{drawn_cmp, put_among, blocks_in, drawing_of, IsDrawing}
@@ -92,12 +93,12 @@ placed-permutation drawing (x ∷ xs) =
     (IsPermutation-append_left xs (x ∷ drawing) (put_among x drawing) (put-permutation x drawing))
     (placed-permutation (put_among x drawing) xs))
 
-pub drawing_there : (cell : CellValue) (table : List TableLine) (scale : ℕ) → IsDrawing cell table scale (drawing_of cell table scale)
-drawing_there cell table scale = record {
-  all = placed-permutation [] (blocks_in cell table scale);
-  ordered = placed-sorted [] (blocks_in cell table scale) (λ k d low high. absurd (omega (arith, high)));
+pub drawing_there : (cell : CellValue) (table : List TableLine) (settings : Settings) → IsDrawing cell table settings (drawing_of cell table settings)
+drawing_there cell table settings = record {
+  all = placed-permutation [] (blocks_in cell table settings);
+  ordered = placed-sorted [] (blocks_in cell table settings) (λ k d low high. absurd (omega (arith, high)));
 }
 
 -- so any drawing is that one
-pub drawing_is : (cell : CellValue) (table : List TableLine) (scale : ℕ) (drawing : List Drawn) → IsCell cell → IsDrawing cell table scale drawing → drawing ≡ drawing_of cell table scale
-drawing_is cell table scale drawing is there = one_drawing cell table scale drawing (drawing_of cell table scale) is there (drawing_there cell table scale)
+pub drawing_is : (cell : CellValue) (table : List TableLine) (settings : Settings) (drawing : List Drawn) → IsCell cell → IsDrawing cell table settings drawing → drawing ≡ drawing_of cell table settings
+drawing_is cell table settings drawing is there = one_drawing cell table settings drawing (drawing_of cell table settings) is there (drawing_there cell table settings)

@@ -13,6 +13,7 @@ use Rattle.chart_model.specs.declared.drawing.Block.{Block}
 use Rattle.chart_model.specs.declared.drawing.Geom.{Geom}
 use Rattle.chart_model.specs.declared.drawing.Geom.TheVariants.{Area, Line, Point}
 use Rattle.chart_model.specs.declared.name.Name.{Name}
+use Rattle.chart_model.specs.declared.settings.Settings.{Settings}
 use Rattle.text_scan.specs.Number.{IsNumber, value_of, number_of}
 use Rattle.lookup_table.specs.declared.line.TableLine.{TableLine}
 use Rattle.draw_list.specs.Block.{IsShown, geom_of, is_below, is_hidden, block_with, line_for, block_as, block_in}
@@ -75,42 +76,43 @@ fits-shown spelled attrs scale fits = by (map.get attrs 133) refl
 
 -- ---- blocks
 
-block_there : (table : List TableLine) (scale : ℕ) (feature : Feature) (geom : Geom) (b : Bool) → is_hidden feature.attrs scale ≡ b
-    → IsSome (block_as table scale feature (Some geom)) → b ≡ false
-block_there table scale feature geom true h some =
-    absurd (true≢false (sym (subst (λ (b : Bool). IsSome (cond b None (Some (block_with geom (line_for table feature geom))))) h some)))
-block_there table scale feature geom false h some = refl
+block_there : (cell : CellValue) (table : List TableLine) (settings : Settings) (feature : Feature) (geom : Geom) (b : Bool) → is_hidden feature.attrs settings.scale ≡ b
+    → IsSome (block_as cell table settings feature (Some geom)) → b ≡ false
+block_there cell table settings feature geom true h some =
+    absurd (true≢false (sym (subst (λ (b : Bool). IsSome (cond b None (Some (block_with cell settings feature geom (line_for table feature geom))))) h some)))
+block_there cell table settings feature geom false h some = refl
 
-block_made : (table : List TableLine) (scale : ℕ) (feature : Feature) (geom : Geom) → is_hidden feature.attrs scale ≡ false → IsSome (block_as table scale feature (Some geom))
-block_made table scale feature geom h =
-    subst (λ (b : Bool). IsSome (cond b None (Some (block_with geom (line_for table feature geom))))) (sym h) refl
+block_made : (cell : CellValue) (table : List TableLine) (settings : Settings) (feature : Feature) (geom : Geom) → is_hidden feature.attrs settings.scale ≡ false
+    → IsSome (block_as cell table settings feature (Some geom))
+block_made cell table settings feature geom h =
+    subst (λ (b : Bool). IsSome (cond b None (Some (block_with cell settings feature geom (line_for table feature geom))))) (sym h) refl
 
-shown-to : NumbersAreSpelled → (cell : CellValue) (table : List TableLine) (scale : ℕ) (name : Name) (feature : Feature) → map.get cell.features name ≡ Some feature
-    → IsSome (block_in table scale feature) → IsShown cell scale name
-shown-to spelled cell table scale name feature there some = by (geom_cases feature.prim)
+shown-to : NumbersAreSpelled → (cell : CellValue) (table : List TableLine) (settings : Settings) (name : Name) (feature : Feature)
+    → map.get cell.features name ≡ Some feature → IsSome (block_in cell table settings feature) → IsShown cell settings.scale name
+shown-to spelled cell table settings name feature there some = by (geom_cases feature.prim)
   where
-    by : HasGeom feature.prim → IsShown cell scale name
+    by : HasGeom feature.prim → IsShown cell settings.scale name
     by (inl g) =
-        let here = subst (λ (o : Option Geom). IsSome (block_as table scale feature o)) g.1.0 some in
+        let here = subst (λ (o : Option Geom). IsSome (block_as cell table settings feature o)) g.1.0 some in
         record {
           feature = feature;
           there = there;
           primitive = g.1.1;
-          scamin = shown-fits spelled feature.attrs scale (block_there table scale feature g.0 (is_hidden feature.attrs scale) refl here);
+          scamin = shown-fits spelled feature.attrs settings.scale (block_there cell table settings feature g.0 (is_hidden feature.attrs settings.scale) refl here);
         }
-    by (inr g) = absurd (true≢false (sym (subst (λ (o : Option Geom). IsSome (block_as table scale feature o)) g.0 some)))
+    by (inr g) = absurd (true≢false (sym (subst (λ (o : Option Geom). IsSome (block_as cell table settings feature o)) g.0 some)))
 
-shown-from : NumbersAreSpelled → (cell : CellValue) (table : List TableLine) (scale : ℕ) (name : Name) (feature : Feature) → map.get cell.features name ≡ Some feature
-    → IsShown cell scale name → IsSome (block_in table scale feature)
-shown-from spelled cell table scale name feature there s = by (geom_cases feature.prim)
+shown-from : NumbersAreSpelled → (cell : CellValue) (table : List TableLine) (settings : Settings) (name : Name) (feature : Feature) → map.get cell.features name ≡ Some feature
+    → IsShown cell settings.scale name → IsSome (block_in cell table settings feature)
+shown-from spelled cell table settings name feature there s = by (geom_cases feature.prim)
   where
     same : s.feature ≡ feature
     same = let e = sym s.there ∙ there in cc
 
-    by : HasGeom feature.prim → IsSome (block_in table scale feature)
+    by : HasGeom feature.prim → IsSome (block_in cell table settings feature)
     by (inl g) =
-        subst (λ (o : Option Geom). IsSome (block_as table scale feature o)) (sym g.1.0)
-        (block_made table scale feature g.0 (fits-shown spelled feature.attrs scale (subst (λ (f : Feature). FitsScale f.attrs scale) same s.scamin)))
+        subst (λ (o : Option Geom). IsSome (block_as cell table settings feature o)) (sym g.1.0)
+        (block_made cell table settings feature g.0 (fits-shown spelled feature.attrs settings.scale (subst (λ (f : Feature). FitsScale f.attrs settings.scale) same s.scamin)))
     by (inr g) = absurd (g.1 (subst (λ (f : Feature). IsInRange 1 3 f.prim) same s.primitive))
 
 -- an answer that is what was wanted
@@ -118,8 +120,8 @@ each_ok : (r : Result (Option Block) AllocError) (wanted : Option Block) (P : Op
 each_ok (Ok b) wanted P e p = subst P (sym e) p
 each_ok (Err e) wanted P h p = tt
 
-pub shown_by : NumbersAreSpelled → (cell : CellValue) (table : List TableLine) (scale : ℕ) (name : Name) (feature : Feature) (r : Result (Option Block) AllocError)
-    → map.get cell.features name ≡ Some feature → IfOk r (λ block. block ≡ block_in table scale feature) → IfOk r (λ block. IsSome block ↔ IsShown cell scale name)
-shown_by spelled cell table scale name feature r there made =
-    each_ok r (block_in table scale feature) (λ block. IsSome block ↔ IsShown cell scale name) made
-    (shown-to spelled cell table scale name feature there, shown-from spelled cell table scale name feature there)
+pub shown_by : NumbersAreSpelled → (cell : CellValue) (table : List TableLine) (settings : Settings) (name : Name) (feature : Feature) (r : Result (Option Block) AllocError)
+    → map.get cell.features name ≡ Some feature → IfOk r (λ block. block ≡ block_in cell table settings feature) → IfOk r (λ block. IsSome block ↔ IsShown cell settings.scale name)
+shown_by spelled cell table settings name feature r there made =
+    each_ok r (block_in cell table settings feature) (λ block. IsSome block ↔ IsShown cell settings.scale name) made
+    (shown-to spelled cell table settings name feature there, shown-from spelled cell table settings name feature there)

@@ -20,6 +20,7 @@ use Rattle.chart_model.specs.Names.{name_cmp}
 use Rattle.chart_model.specs.declared.cell.Feature.{Feature}
 use Rattle.chart_model.specs.declared.drawing.Block.{Block}
 use Rattle.chart_model.specs.declared.name.Name.{Name}
+use Rattle.chart_model.specs.declared.settings.Settings.{Settings}
 use Rattle.lookup_table.specs.declared.line.TableLine.{TableLine}
 use Rattle.draw_list.specs.declared.drawing.Drawn.{Drawn}
 use Rattle.draw_list.specs.Block.{block_in}
@@ -139,7 +140,7 @@ module _ (total : IsTotalOrder name_cmp) where
 
 -- ---- drawings
 
-module _ (cell : CellValue) (table : List TableLine) (scale : ℕ) where
+module _ (cell : CellValue) (table : List TableLine) (settings : Settings) where
   -- the block of a feature of the cell, under its number
   pub record IsOf (drawn : Drawn) : Type 0 where
     pub name : Name
@@ -147,10 +148,10 @@ module _ (cell : CellValue) (table : List TableLine) (scale : ℕ) where
     pub there : map.get cell.features name ≡ Some feature
     pub kind : name.rcnm ≡ 100
     pub number : drawn.rcid ≡ name.rcid
-    pub block : block_in table scale feature ≡ Some drawn.block
+    pub block : block_in cell table settings feature ≡ Some drawn.block
 
   drawn_each : (name : Name) (feature : Feature) → map.get cell.features name ≡ Some feature → name.rcnm ≡ 100
-      → (o : Option Block) → block_in table scale feature ≡ o → All IsOf (drawn_with name.rcid o)
+      → (o : Option Block) → block_in cell table settings feature ≡ o → All IsOf (drawn_with name.rcid o)
   drawn_each name feature there kind None e = All-nil IsOf
   drawn_each name feature there kind (Some block) e =
       All-cons IsOf (record { rcid = name.rcid; block = block }) [] (record {
@@ -165,12 +166,12 @@ module _ (cell : CellValue) (table : List TableLine) (scale : ℕ) where
   named : IsCell cell → (name : Name) (feature : Feature) → map.get cell.features name ≡ Some feature → name.rcnm ≡ 100
   named is name feature there = (subst (λ (o : Option Feature). IfSome o (IsFeature name)) there (is.features name)).named
 
-  all_drawn : IsCell cell → (es : List (Name × Feature)) → All (λ e. map.get cell.features e.0 ≡ Some e.1) es → All IsOf (flat_map (drawn_of table scale) es)
+  all_drawn : IsCell cell → (es : List (Name × Feature)) → All (λ e. map.get cell.features e.0 ≡ Some e.1) es → All IsOf (flat_map (drawn_of cell table settings) es)
   all_drawn is [] h = All-nil IsOf
   all_drawn is (e ∷ es) h =
       let there = All-head (λ e. map.get cell.features e.0 ≡ Some e.1) e es h in
-      All-append IsOf (drawn_of table scale e) (flat_map (drawn_of table scale) es)
-      (drawn_each e.0 e.1 there (named is e.0 e.1 there) (block_in table scale e.1) refl)
+      All-append IsOf (drawn_of cell table settings e) (flat_map (drawn_of cell table settings) es)
+      (drawn_each e.0 e.1 there (named is e.0 e.1 there) (block_in cell table settings e.1) refl)
       (all_drawn is es (All-tail (λ e. map.get cell.features e.0 ≡ Some e.1) e es h))
 
   both_tie : (r s : Ordering) → ordering_then r s ≡ Equal → (r ≡ Equal) × (s ≡ Equal)
@@ -185,7 +186,7 @@ module _ (cell : CellValue) (table : List TableLine) (scale : ℕ) where
       let rcids : p.name.rcid ≡ q.name.rcid = sym p.number ∙ numbers ∙ q.number in
       let names : p.name ≡ q.name = λ i. record { rcnm = kinds i; rcid = rcids i } in
       let features : p.feature ≡ q.feature = some_is _ _ (sym p.there ∙ ap (map.get cell.features) names ∙ q.there) in
-      let blocks : u.block ≡ v.block = some_is _ _ (sym p.block ∙ ap (block_in table scale) features ∙ q.block) in
+      let blocks : u.block ≡ v.block = some_is _ _ (sym p.block ∙ ap (block_in cell table settings) features ∙ q.block) in
       λ i. record { rcid = numbers i; block = blocks i }
     where
       some_is : {A : Type 0} (x y : A) → ◌≡◌ {A = Option A} (Some x) (Some y) → x ≡ y
@@ -196,15 +197,15 @@ drawn_total =
     then_total (on_total (λ (d : Drawn). d.block.priority) nat_cmp_total)
     (then_total (on_total (λ (d : Drawn). rank_of d.block.geom) nat_cmp_total) (on_total (λ (d : Drawn). d.rcid) nat_cmp_total))
 
-pub one_drawing : (cell : CellValue) (table : List TableLine) (scale : ℕ) (a b : List Drawn) → IsCell cell → IsDrawing cell table scale a → IsDrawing cell table scale b → a ≡ b
-one_drawing cell table scale a b is x y =
+pub one_drawing : (cell : CellValue) (table : List TableLine) (settings : Settings) (a b : List Drawn) → IsCell cell → IsDrawing cell table settings a → IsDrawing cell table settings b → a ≡ b
+one_drawing cell table settings a b is x y =
     let entries = map.entries cell.features in
     let found = found_each name_total entries (map.entries_sorted cell.features) in
     let there : All (λ e. map.get cell.features e.0 ≡ Some e.1) entries = λ k d h. map.get-entries cell.features _ ∙ found k d h in
-    let each = all_drawn cell table scale is entries there in
-    sorted_once drawn_cmp drawn_total (IsOf cell table scale) (same_drawn cell table scale) a b
+    let each = all_drawn cell table settings is entries there in
+    sorted_once drawn_cmp drawn_total (IsOf cell table settings) (same_drawn cell table settings) a b
     (λ f. sum_by-IsPermutation f _ _ x.all ∙ sym (sum_by-IsPermutation f _ _ y.all))
-    (All-permutation (IsOf cell table scale) _ _ x.all each) (All-permutation (IsOf cell table scale) _ _ y.all each)
+    (All-permutation (IsOf cell table settings) _ _ x.all each) (All-permutation (IsOf cell table settings) _ _ y.all each)
     x.ordered y.ordered
   where
     name_total : IsTotalOrder name_cmp

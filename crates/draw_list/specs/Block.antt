@@ -1,7 +1,7 @@
 -- What is drawn of a feature.
 use Rattle.std.specs.Prelude.{◌≡◌, ℕ, ◌≤◌, nat_lt, ◌==◌, Bool, false, if◌then◌else◌, List, [], ◌∷◌, codes, slice_get}
 use Rattle.std.specs.Prelude.{Option, Some, None, option_and_then}
-use Rattle.std.specs.Prelude as list
+use Rattle.std.specs.List.{flat_map}
 use Rattle.std.specs.Int.{IsInRange}
 use Rattle.std.specs.FinMap as map
 use Rattle.chart_model.specs.Attrs.{Attrs}
@@ -12,13 +12,13 @@ use Rattle.chart_model.specs.declared.drawing.Block.{Block}
 use Rattle.chart_model.specs.declared.drawing.Geom.{Geom}
 use Rattle.chart_model.specs.declared.drawing.Geom.TheVariants.{Area, Line, Point}
 use Rattle.chart_model.specs.declared.drawing.Item.{Item}
-use Rattle.chart_model.specs.declared.drawing.Target.TheVariants.{Whole}
 use Rattle.chart_model.specs.declared.name.Name.{Name}
+use Rattle.chart_model.specs.declared.settings.Settings.{Settings}
 use Rattle.text_scan.specs.Number.{IsNumber, value_of, number_of}
-use Rattle.lookup_table.specs.declared.instruction.Instruction.{Instruction}
-use Rattle.lookup_table.specs.declared.instruction.Instruction.TheVariants.{Draw}
 use Rattle.lookup_table.specs.declared.line.TableLine.{TableLine}
 use Rattle.lookup_table.specs.Selection.{selected}
+use Rattle.draw_items.specs.Items.{whole}
+use Rattle.draw_list.specs.Items.{items_by}
 
 -- ---- what is shown
 
@@ -46,36 +46,33 @@ is_below scale (Some scamin) = nat_lt scamin scale
 abbrev pub is_hidden : Attrs → ℕ → Bool
 is_hidden attrs scale = is_below scale (option_and_then number_of (map.get attrs 133))
 
--- an instruction on the whole feature
-abbrev pub item_of : Instruction → Item
-item_of (Draw text) = record { target = Whole; text = text }
-
 -- a question mark
 abbrev pub unknown_items : List Item
-unknown_items = record { target = Whole; text = codes "SY(QUESMRK1)" } ∷ []
+unknown_items = whole (codes "SY(QUESMRK1)") ∷ []
 
 -- the block by the line of the table for the feature, where there is one
-abbrev pub block_with : Geom → Option TableLine → Block
-block_with geom None = record { priority = 5; geom = geom; items = unknown_items }
-block_with geom (Some line) = record {
+abbrev pub block_with : CellValue → Settings → Feature → Geom → Option TableLine → Block
+block_with cell settings feature geom None = record { priority = 5; geom = geom; items = unknown_items }
+block_with cell settings feature geom (Some line) = record {
   priority = line.priority;
   geom = geom;
-  items = list.map item_of line.instructions;
+  items = flat_map (items_by cell settings feature) line.instructions;
 }
 
 -- the line of the table for the feature
 abbrev pub line_for : List TableLine → Feature → Geom → Option TableLine
 line_for table feature geom = option_and_then (slice_get table) (selected table feature.class geom feature.attrs)
 
-abbrev pub block_as : List TableLine → ℕ → Feature → Option Geom → Option Block
-block_as table scale feature None = None
-block_as table scale feature (Some geom) =
-    if is_hidden feature.attrs scale then None else Some (block_with geom (line_for table feature geom))
+abbrev pub block_as : CellValue → List TableLine → Settings → Feature → Option Geom → Option Block
+block_as cell table settings feature None = None
+block_as cell table settings feature (Some geom) =
+    if is_hidden feature.attrs settings.scale then None
+    else Some (block_with cell settings feature geom (line_for table feature geom))
 
--- what is drawn of a feature, where it is shown
-abbrev pub block_in : List TableLine → ℕ → Feature → Option Block
-block_in table scale feature = block_as table scale feature (geom_of feature.prim)
+-- what is drawn of a feature of the cell, where it is shown
+abbrev pub block_in : CellValue → List TableLine → Settings → Feature → Option Block
+block_in cell table settings feature = block_as cell table settings feature (geom_of feature.prim)
 
 -- what is drawn of the feature of a name
-abbrev pub block_at : CellValue → List TableLine → ℕ → Name → Option Block
-block_at cell table scale name = option_and_then (block_in table scale) (map.get cell.features name)
+abbrev pub block_at : CellValue → List TableLine → Settings → Name → Option Block
+block_at cell table settings name = option_and_then (block_in cell table settings) (map.get cell.features name)

@@ -11,6 +11,7 @@ use Rattle.chart_model.specs.declared.drawing.Block.{Block}
 use Rattle.chart_model.specs.declared.drawing.Geom.{Geom}
 use Rattle.chart_model.specs.declared.drawing.Geom.TheVariants.{Area, Line, Point}
 use Rattle.chart_model.specs.declared.name.Name.{Name}
+use Rattle.chart_model.specs.declared.settings.Settings.{Settings}
 use Rattle.lookup_table.specs.declared.line.TableLine.{TableLine}
 use Rattle.draw_list.specs.declared.drawing.Drawn.{Drawn}
 use Rattle.draw_list.specs.declared.drawing.DrawOrder.{DrawOrder}
@@ -21,12 +22,12 @@ abbrev pub drawn_with : ℕ → Option Block → List Drawn
 drawn_with rcid None = []
 drawn_with rcid (Some block) = record { rcid = rcid; block = block } ∷ []
 
-abbrev pub drawn_of : List TableLine → ℕ → Name × Feature → List Drawn
-drawn_of table scale entry = drawn_with entry.0.rcid (block_in table scale entry.1)
+abbrev pub drawn_of : CellValue → List TableLine → Settings → Name × Feature → List Drawn
+drawn_of cell table settings entry = drawn_with entry.0.rcid (block_in cell table settings entry.1)
 
 -- the blocks of all features of the cell that are shown
-abbrev pub blocks_in : CellValue → List TableLine → ℕ → List Drawn
-blocks_in cell table scale = flat_map (drawn_of table scale) (map.entries cell.features)
+abbrev pub blocks_in : CellValue → List TableLine → Settings → List Drawn
+blocks_in cell table settings = flat_map (drawn_of cell table settings) (map.entries cell.features)
 
 -- areas are drawn before lines, and lines before points
 abbrev pub rank_of : Geom → ℕ
@@ -41,8 +42,8 @@ drawn_cmp x y =
     (ordering_then (nat_cmp (rank_of x.block.geom) (rank_of y.block.geom)) (nat_cmp x.rcid y.rcid))
 
 -- the same blocks, in that order
-pub record IsDrawing (cell : CellValue) (table : List TableLine) (scale : ℕ) (drawing : List Drawn) : Type 0 where
-  pub all : IsPermutation (blocks_in cell table scale) drawing
+pub record IsDrawing (cell : CellValue) (table : List TableLine) (settings : Settings) (drawing : List Drawn) : Type 0 where
+  pub all : IsPermutation (blocks_in cell table settings) drawing
   pub ordered : IsSorted drawn_cmp drawing
 
 -- ---- as a function
@@ -54,8 +55,8 @@ put_among drawn (next ∷ rest) =
     if is_gt (drawn_cmp drawn next) then next ∷ put_among drawn rest else drawn ∷ next ∷ rest
 
 -- the blocks of all features that are shown, each put among those before it
-abbrev pub drawing_of : CellValue → List TableLine → ℕ → List Drawn
-drawing_of cell table scale = fold (λ drawing drawn. put_among drawn drawing) [] (blocks_in cell table scale)
+abbrev pub drawing_of : CellValue → List TableLine → Settings → List Drawn
+drawing_of cell table settings = fold (λ drawing drawn. put_among drawn drawing) [] (blocks_in cell table settings)
 
 -- what the code orders a block by
 abbrev pub key_of : Drawn → DrawOrder

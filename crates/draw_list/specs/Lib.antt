@@ -1,3 +1,5 @@
+pub mod Known
+pub mod Items
 pub mod Block
 pub mod Drawing
 pub mod Lines

@@ -2,15 +2,18 @@
 
 ghost use Rattle.std.specs.Prelude.{◌≡◌, ◌↔◌, IfOk, IsSome};
 ghost use Rattle.std.specs.Option.{option_copied};
-ghost use Rattle.std.specs.Prelude as list;
-ghost use Rattle.draw_list.specs.Block.{IsShown, block_at, block_in, block_with, line_for, geom_of, is_hidden, item_of, unknown_items};
+ghost use Rattle.draw_list.specs.Block.{IsShown, block_at, block_in, block_with, line_for, geom_of, is_hidden, unknown_items};
+ghost use Rattle.draw_list.specs.Known.{AreKnown};
+ghost use Rattle.topology_cache.specs.Users.{AreUsersOf};
 
-use chart_model::{
-    AttrMap, Block, Cell, Feature, Geom, Item, ItemList, Name, Octets, Settings, Target,
-};
-use lookup_table::{Instruction, InstructionList, Table, TableLine};
+use crate::items::{KnownAreas, items_of};
+use crate::sources::Sources;
+use chart_model::{AttrMap, Block, Cell, Feature, Geom, ItemList, Name, Settings, Target};
+use draw_items::push_item;
+use lookup_table::{Table, TableLine};
 use std::alloc::{AllocError, Global};
 use text_scan::{numbers_are_spelled, read_number};
+use topology_cache::Users;
 
 /// The code of the attribute SCAMIN: the smallest scale at which a feature is shown, by its denominator (S-57
 /// Appendix A).
@@ -47,51 +50,34 @@ fn is_hidden(attrs: &AttrMap, scale: u32) -> bool
     }
 }
 
-/// An instruction on the whole feature.
-fn item_of(instruction: &Instruction) -> Result<Item, AllocError>
-    ensures { IfOk result (λ item. item ≡ item_of instruction.now) }
-{
-    match instruction {
-        Instruction::Draw(text) => Ok(Item {
-            target: Target::Whole,
-            text: text.clone()?,
-        }),
-    }
-}
-
-/// Instructions on the whole feature.
-fn items_of(alloc: Global, instructions: &InstructionList) -> Result<ItemList, AllocError>
-    ensures { IfOk result (λ items. items ≡ list.map item_of instructions.now) }
-{
-    let mut items = ItemList::new(alloc);
-    for instruction in instructions.as_slice() {
-        let item = item_of(instruction)?;
-        items.push(item)?;
-    }
-    Ok(items)
-}
-
 /// What is drawn of a feature for which the table has no line.
 fn unknown_items(alloc: Global) -> Result<ItemList, AllocError>
     ensures { IfOk result (λ items. items ≡ unknown_items) }
 {
     let mut items = ItemList::new(alloc);
-    items.push(Item {
-        target: Target::Whole,
-        text: Octets::from_vec(Vec::from_slice(alloc, UNKNOWN_SYMBOL)?),
-    })?;
+    push_item(alloc, &mut items, Target::Whole, UNKNOWN_SYMBOL)?;
     Ok(items)
 }
 
 /// The block of a feature of a geometry, by the table's line for it.
-fn block_with(alloc: Global, geom: Geom, line: Option<&TableLine>) -> Result<Block, AllocError>
-    ensures { IfOk result (λ block. block ≡ block_with geom (option_copied line.entry)) }
+fn block_with(
+    alloc: Global,
+    known: &mut KnownAreas,
+    from: &Sources,
+    feature: &Feature,
+    geom: Geom,
+    line: Option<&TableLine>,
+) -> Result<Block, AllocError>
+    requires { AreKnown from.now.cell.now known.old }
+    ensures block { IfOk result (λ block. block
+        ≡ block_with from.now.cell.now from.now.settings.now feature.now geom (option_copied line.entry)) }
+    ensures known { AreKnown from.now.cell.now known.new }
 {
     match line {
         Some(line) => Ok(Block {
             priority: line.priority,
             geom,
-            items: items_of(alloc, &line.instructions)?,
+            items: items_of(alloc, known, from, feature, &line.instructions)?,
         }),
         None => Ok(Block {
             priority: UNKNOWN_PRIORITY,
@@ -112,38 +98,51 @@ fn line_for<'a>(table: &'a Table, feature: &Feature, geom: Geom) -> Option<&'a T
 /// What is drawn of a feature, where it is shown.
 pub fn block_in(
     alloc: Global,
-    table: &Table,
-    settings: &Settings,
+    known: &mut KnownAreas,
+    from: &Sources,
     feature: &Feature,
 ) -> Result<Option<Block>, AllocError>
-    ensures { IfOk result (λ block. block ≡ block_in table.now settings.now.scale feature.now) }
+    requires { AreKnown from.now.cell.now known.old }
+    ensures block { IfOk result (λ block. block
+        ≡ block_in from.now.cell.now from.now.table.now from.now.settings.now feature.now) }
+    ensures known { AreKnown from.now.cell.now known.new }
 {
     let Some(geom) = geom_of(feature.prim) else {
         return Ok(None);
     };
-    if is_hidden(&feature.attrs, settings.scale) {
+    if is_hidden(&feature.attrs, from.settings.scale) {
         return Ok(None);
     }
-    let block = block_with(alloc, geom, line_for(table, feature, geom))?;
+    let line = line_for(from.table, feature, geom);
+    let block = block_with(alloc, known, from, feature, geom, line)?;
     Ok(Some(block))
 }
 
 /// What is drawn of the feature with a name: the priority and the instructions of the table's line for it, each on the
-/// whole feature, or a question mark at priority 5 where there is no line. None exactly where it isn't shown: the cell
-/// has no such feature, it has no geometry, or its SCAMIN is below the denominator of the display scale.
+/// whole feature, or what its procedure makes of the feature; or a question mark at priority 5 where there is no line. None
+/// exactly where it isn't shown: the cell has no such feature, it has no geometry, or its SCAMIN is below the denominator of
+/// the display scale. The users are those of the cell.
 pub fn block_of(
     alloc: Global,
     cell: &Cell,
+    users: &Users,
     table: &Table,
     settings: &Settings,
     name: Name,
 ) -> Result<Option<Block>, AllocError>
-    ensures block { IfOk result (λ block. block ≡ block_at cell.now table.now settings.now.scale name) }
+    requires { AreUsersOf cell.now users.now }
+    ensures block { IfOk result (λ block. block ≡ block_at cell.now table.now settings.now name) }
     ensures shown { IfOk result (λ block. IsSome block ↔ IsShown cell.now settings.now.scale name) }
 {
     numbers_are_spelled();
+    let from = Sources {
+        cell,
+        users,
+        table,
+        settings,
+    };
     match cell.features.get(name) {
-        Some(feature) => block_in(alloc, table, settings, feature),
+        Some(feature) => block_in(alloc, &mut None, &from, feature),
         None => Ok(None),
     }
 }

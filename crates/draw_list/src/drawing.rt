@@ -2,12 +2,15 @@
 
 ghost use Rattle.std.specs.Prelude.{◌≡◌, ◌++◌, IfOk, OnOk};
 ghost use Rattle.chart_model.specs.Cell.{IsCell};
+ghost use Rattle.topology_cache.specs.Users.{AreUsersOf};
 ghost use Rattle.draw_list.specs.Drawing.{IsDrawing, drawing_of, key_of, blocks_in, drawn_with};
 
 use crate::block::block_in;
+use crate::sources::Sources;
 use chart_model::{Block, Cell, Geom, Sequence, Settings};
 use lookup_table::Table;
 use std::alloc::{AllocError, Global};
+use topology_cache::Users;
 
 /// What is drawn of one feature.
 #[derive(Debug, Drop)]
@@ -53,35 +56,41 @@ fn push_block(blocks: &mut Vec<Drawn>, rcid: u32, block: Option<Block>) -> Resul
 }
 
 /// The blocks of all features that are shown, in the order of their names.
-fn blocks_of(
-    alloc: Global,
-    cell: &Cell,
-    table: &Table,
-    settings: &Settings,
-) -> Result<Vec<Drawn>, AllocError>
-    ensures cell { IsCell cell.now }
-    ensures blocks { IfOk result (λ blocks. blocks.items ≡ blocks_in cell.now table.now settings.now.scale) }
+fn blocks_of(alloc: Global, from: &Sources) -> Result<Vec<Drawn>, AllocError>
+    ensures cell { IsCell from.now.cell.now }
+    ensures blocks { IfOk result (λ blocks.
+        blocks.items ≡ blocks_in from.now.cell.now from.now.table.now from.now.settings.now) }
 {
+    let cell = from.cell;
+    let mut known = None;
     let mut blocks = Vec::new(alloc);
     for (name, feature) in cell.features.iter() {
-        let block = block_in(alloc, table, settings, feature)?;
+        let block = block_in(alloc, &mut known, from, feature)?;
         push_block(&mut blocks, name.rcid, block)?;
     }
     Ok(blocks)
 }
 
 /// The drawing of a cell: the blocks of all features that are shown, by priority, then areas before lines before points,
-/// then by the features' numbers.
+/// then by the features' numbers. The users are those of the cell.
 pub fn draw_cell(
     alloc: Global,
     cell: &Cell,
+    users: &Users,
     table: &Table,
     settings: &Settings,
 ) -> Result<DrawList, AllocError>
-    ensures drawing { IfOk result (λ drawing. IsDrawing cell.now table.now settings.now.scale drawing) }
-    ensures function { IfOk result (λ drawing. drawing ≡ drawing_of cell.now table.now settings.now.scale) }
+    requires { AreUsersOf cell.now users.now }
+    ensures drawing { IfOk result (λ drawing. IsDrawing cell.now table.now settings.now drawing) }
+    ensures function { IfOk result (λ drawing. drawing ≡ drawing_of cell.now table.now settings.now) }
 {
-    let mut blocks = blocks_of(alloc, cell, table, settings)?;
+    let from = Sources {
+        cell,
+        users,
+        table,
+        settings,
+    };
+    let mut blocks = blocks_of(alloc, &from)?;
     blocks.sort_by_key(|drawn| order_of(drawn))?;
     Ok(DrawList::from_vec(blocks))
 }

@@ -2,7 +2,8 @@
 //!
 //! A feature with a geometry (a point, a line or an area) is shown, unless its attribute SCAMIN is a number below the
 //! denominator of the display scale. What is drawn of it is a block: the priority and the instructions of the table's
-//! line for it, each on the whole feature; or a question mark at priority 5, where the table has no line for it.
+//! line for it, each on the whole feature or, where it calls a procedure, what the procedure makes of the feature; or a
+//! question mark at priority 5, where the table has no line for it.
 //!
 //! The drawing is the blocks of all features that are shown, by priority; at one priority areas before lines before
 //! points; then by the features' numbers (RCID).
@@ -10,9 +11,11 @@
 
 mod block;
 mod drawing;
+mod items;
 mod laws;
 mod lines;
 mod print;
+mod sources;
 
 pub use block::block_of;
 pub use drawing::{DrawList, Drawn, draw_cell};

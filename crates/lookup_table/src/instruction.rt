@@ -36,13 +36,18 @@ pub type InstructionList = Sequence<Instruction>;
 fn procedure_of(text: &[u8]) -> Option<Procedure>
     ensures { result ≡ procedure_of text.now }
 {
-    match text {
-        b"CS(DEPARE01)" => Some(Procedure::Depare01),
-        b"CS(DEPCNT02)" => Some(Procedure::Depcnt02),
-        b"CS(SOUNDG02)" => Some(Procedure::Soundg02),
-        b"CS(OBSTRN04)" => Some(Procedure::Obstrn04),
-        b"CS(WRECKS02)" => Some(Procedure::Wrecks02),
-        _ => None,
+    if text == b"CS(DEPARE01)".as_slice() {
+        Some(Procedure::Depare01)
+    } else if text == b"CS(DEPCNT02)".as_slice() {
+        Some(Procedure::Depcnt02)
+    } else if text == b"CS(SOUNDG02)".as_slice() {
+        Some(Procedure::Soundg02)
+    } else if text == b"CS(OBSTRN04)".as_slice() {
+        Some(Procedure::Obstrn04)
+    } else if text == b"CS(WRECKS02)".as_slice() {
+        Some(Procedure::Wrecks02)
+    } else {
+        None
     }
 }
 

@@ -16,7 +16,7 @@ fn catalogue(alloc: Global) -> Result<Catalogue, CatalogueFault> {
 }
 
 /// The text of a table, and its first fault.
-static FAULTS: [(&[u8], Option<TableFault>); 47] = [
+static FAULTS: [(&[u8], Option<TableFault>); 48] = [
     (b"", None),
     (b"DEPARE A 1 - -", None),
     (b"DEPARE L 0 - -\nDEPARE P 9 - -\r\n# CS\n\n", None),

@@ -21,7 +21,7 @@ chart_of cells key = option_and_then (λ (here : Holding). here.chart) (map.get 
 
 -- the drawing of a chart
 abbrev pub drawing_by : Portrayal → CellValue → List Drawn
-drawing_by portrayal chart = drawing_of chart portrayal.table portrayal.settings.scale
+drawing_by portrayal chart = drawing_of chart portrayal.table portrayal.settings
 
 -- a drawing as a reply: the number of its instructions, and a line for each
 abbrev pub reply_with : List ℕ → List Drawn → Reply

@@ -11,11 +11,14 @@ ghost use Rattle.session_core.specs.Model.{portrayal_with};
 use crate::fault::EventFault;
 use crate::refusal::Refusal;
 use chart_model::{Cell, HoldingMap, Key, Settings};
+use chart_ports::Steps;
 use chart_store::Refusal as StoreRefusal;
 use draw_list::{draw_cell, print_drawing};
 use lookup_table::Table;
 use script_reader::Reply;
 use std::alloc::Global;
+use std::sync::ledger::Ledger;
+use topology_cache::users_of;
 
 /// The chart of a cell, where the cell is held and not cancelled.
 fn chart_of<'a>(cells: &'a HoldingMap, key: Key) -> Option<&'a Cell>
@@ -24,14 +27,15 @@ fn chart_of<'a>(cells: &'a HoldingMap, key: Key) -> Option<&'a Cell>
     cells.get(key)?.chart.as_ref()
 }
 
-/// The drawing of the cell of this key, as a reply.
+/// The drawing of the cell of this key, as a reply. The users of its edges are found anew.
 #[tactic(auto, unfolding(crate::specs::Draw::draw_of))]
-pub fn draw(
+pub fn draw<C: Ledger>(
     alloc: Global,
     key: Key,
     cells: &HoldingMap,
     table: &Table,
     settings: &Settings,
+    steps: &mut Steps<C>,
 ) -> Result<Reply, EventFault>
     ensures given { Gives result (draw_of (portrayal_with table.now settings.now) cells.now key) }
     ensures desk { result ≢ Err DeskFault }
@@ -39,7 +43,8 @@ pub fn draw(
     let Some(chart) = chart_of(cells, key) else {
         return Err(EventFault::Refused(Refusal::Store(StoreRefusal::NoCell(key))));
     };
-    let drawing = draw_cell(alloc, chart, table, settings)?;
+    let users = users_of(alloc, chart, steps)?;
+    let drawing = draw_cell(alloc, chart, &users, table, settings)?;
     let (count, lines) = print_drawing(alloc, &drawing)?;
     Ok(Reply::Draw(key, count, lines))
 }

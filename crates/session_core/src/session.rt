@@ -158,7 +158,7 @@ impl Session {
             }
             Event::Draw(key) => {
                 let cells = &self.store.state().cells;
-                draw(alloc, key, cells, &self.table, &self.settings)
+                draw(alloc, key, cells, &self.table, &self.settings, steps)
             }
         }
     }

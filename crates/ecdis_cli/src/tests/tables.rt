@@ -96,7 +96,7 @@ fn the_first_fault_ends_the_run(rt: HostRuntime) -> Result<(), Fail> {
         ),
         (
             Some(CATALOGUE),
-            Some(b"#\n#\nDEPARE A 1 - CS(DEPARE01)"),
+            Some(b"#\n#\nDEPARE A 1 - CS(DEPARE99)"),
             1,
             TablesFault::UnknownProcedure(3),
         ),

@@ -1,0 +1,127 @@
+//! What the instructions of a table draw of a feature.
+
+ghost use Rattle.std.specs.Prelude.{◌≡◌, ◌++◌, OnOk, IfOk};
+ghost use Rattle.std.specs.List.{flat_map};
+ghost use Rattle.depth_values.specs.Under.{areas_of};
+ghost use Rattle.hazard_symbology.specs.Hazard.{hazard_items};
+ghost use Rattle.draw_list.specs.Items.{called, items_by};
+ghost use Rattle.draw_list.specs.Known.{AreKnown};
+
+use crate::sources::Sources;
+use chart_model::{Cell, Feature, ItemList, Target};
+use depth_symbology::{push_depare01, push_depcnt02, push_soundg02};
+use depth_values::{DepthAreas, depth_areas};
+use draw_items::push_item;
+use hazard_symbology::push_hazard;
+use lookup_table::{Instruction, InstructionList, Procedure};
+use std::alloc::{AllocError, Global};
+
+/// The depth areas of the cell that is drawn, where they were made already: only hazards ask for them.
+pub type KnownAreas = Option<DepthAreas>;
+
+/// The depth areas of a cell, which are made where they aren't known.
+fn known_areas(alloc: Global, cell: &Cell, known: KnownAreas) -> Result<DepthAreas, AllocError>
+    requires { AreKnown cell.now known }
+    ensures { IfOk result (λ areas. areas ≡ areas_of cell.now) }
+{
+    match known {
+        Some(areas) => Ok(areas),
+        None => depth_areas(alloc, cell),
+    }
+}
+
+/// Adds what is drawn of a hazard.
+fn push_hazard_items(
+    alloc: Global,
+    items: &mut ItemList,
+    known: &mut KnownAreas,
+    from: &Sources,
+    feature: &Feature,
+) -> Result<(), AllocError>
+    requires { AreKnown from.now.cell.now known.old }
+    ensures items { OnOk result
+        (items.new ≡ items.old ++ hazard_items from.now.cell.now from.now.settings.now feature.now) }
+    ensures known { AreKnown from.now.cell.now known.new }
+{
+    let areas = known_areas(alloc, from.cell, known.take())?;
+    push_hazard(
+        alloc,
+        items,
+        areas.as_slice(),
+        from.cell,
+        from.settings,
+        feature,
+    )?;
+    *known = Some(areas);
+    Ok(())
+}
+
+/// Adds what a procedure draws of a feature.
+fn push_called(
+    alloc: Global,
+    items: &mut ItemList,
+    known: &mut KnownAreas,
+    from: &Sources,
+    feature: &Feature,
+    procedure: Procedure,
+) -> Result<(), AllocError>
+    requires { AreKnown from.now.cell.now known.old }
+    ensures items { OnOk result
+        (items.new ≡ items.old ++ called from.now.cell.now from.now.settings.now feature.now procedure) }
+    ensures known { AreKnown from.now.cell.now known.new }
+{
+    let Sources {
+        cell,
+        users,
+        settings,
+        ..
+    } = *from;
+    match procedure {
+        Procedure::Depare01 => push_depare01(alloc, items, cell, users, settings, feature),
+        Procedure::Depcnt02 => push_depcnt02(alloc, items, cell, settings, feature),
+        Procedure::Soundg02 => push_soundg02(alloc, items, cell, settings, feature),
+        Procedure::Obstrn04 | Procedure::Wrecks02 => {
+            push_hazard_items(alloc, items, known, from, feature)
+        }
+    }
+}
+
+/// Adds what an instruction draws of a feature: itself, on the whole feature, or what its procedure makes of it.
+fn push_instruction(
+    alloc: Global,
+    items: &mut ItemList,
+    known: &mut KnownAreas,
+    from: &Sources,
+    feature: &Feature,
+    instruction: &Instruction,
+) -> Result<(), AllocError>
+    requires { AreKnown from.now.cell.now known.old }
+    ensures items { OnOk result
+        (items.new ≡ items.old ++ items_by from.now.cell.now from.now.settings.now feature.now instruction.now) }
+    ensures known { AreKnown from.now.cell.now known.new }
+{
+    match instruction {
+        Instruction::Draw(text) => push_item(alloc, items, Target::Whole, text.as_slice()),
+        Instruction::Call(procedure) => push_called(alloc, items, known, from, feature, *procedure),
+    }
+}
+
+/// What instructions draw of a feature, one after the other.
+pub fn items_of(
+    alloc: Global,
+    known: &mut KnownAreas,
+    from: &Sources,
+    feature: &Feature,
+    instructions: &InstructionList,
+) -> Result<ItemList, AllocError>
+    requires { AreKnown from.now.cell.now known.old }
+    ensures items { IfOk result (λ items.
+        items ≡ flat_map (items_by from.now.cell.now from.now.settings.now feature.now) instructions.now) }
+    ensures known { AreKnown from.now.cell.now known.new }
+{
+    let mut items = ItemList::new(alloc);
+    for instruction in instructions.as_slice() {
+        push_instruction(alloc, &mut items, known, from, feature, instruction)?;
+    }
+    Ok(items)
+}
