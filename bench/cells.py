@@ -17,6 +17,7 @@ ROWS = [
     (b"VRID", b"Vector record identifier field", b"RCNM!RCID!RVER!RUIN", b"(b11,b14,b12,b11)"),
     (b"VRPT", b"Vector record pointer field", b"*NAME!ORNT!USAG!TOPI!MASK", b"(B(40),4b11)"),
     (b"SG2D", b"2-D coordinate field", b"*YCOO!XCOO", b"(2b24)"),
+    (b"SG3D", b"3-D coordinate field", b"*YCOO!XCOO!VE3D", b"(3b24)"),
     (b"FRID", b"Feature record identifier field", b"RCNM!RCID!PRIM!GRUP!OBJL!RVER!RUIN", b"(b11,b14,2b11,2b12,b11)"),
     (b"FOID", b"Feature object identifier field", b"AGEN!FIDN!FIDS", b"(b12,b14,b12)"),
     (b"ATTF", b"Feature record attribute field", b"*ATTL!ATVL", b"(b12,A)"),
@@ -51,9 +52,14 @@ def name(rcnm, rcid):
     return struct.pack("<BI", rcnm, rcid)
 
 
-def area_cell(count):
+# The soundings of one record of them.
+SOUNDINGS = 5_000
+
+
+def area_cell(count, wrecks=0, soundings=0):
     """A base cell of so many depth areas in a row: for each a connected node, a closed edge from that node to
-    itself with three inner points, and a feature, so three data records an area beside the first two."""
+    itself with three inner points, and a feature, so three data records an area beside the first two. With so many
+    wrecks, each of no known depth at the bottom of an area, and so many soundings in features of 5,000 each."""
     records = []
 
     def add(*fields):
@@ -77,6 +83,19 @@ def area_cell(count):
         add((b"FRID", struct.pack("<BIBBHHB", 100, i, 3, 1, 42, 1, 1) + FIELD),
             (b"FOID", struct.pack("<HIH", 550, i, 1) + FIELD), (b"ATTF", depths + FIELD),
             (b"FSPT", name(130, i) + bytes((1, 1, 255)) + FIELD))
+    for i in range(1, wrecks + 1):
+        add((b"VRID", struct.pack("<BIHB", 110, i, 1, 1) + FIELD),
+            (b"SG2D", struct.pack("<ii", 450, 1000 * (i * 6 % count + 1) + 450) + FIELD))
+        texts = struct.pack("<H", 93) + b"1" + UNIT + struct.pack("<H", 187) + b"3" + UNIT
+        add((b"FRID", struct.pack("<BIBBHHB", 100, count + i, 1, 2, 159, 1, 1) + FIELD),
+            (b"FOID", struct.pack("<HIH", 550, count + i, 1) + FIELD), (b"ATTF", texts + FIELD),
+            (b"FSPT", name(110, i) + bytes((255, 255, 255)) + FIELD))
+    for i in range(soundings // SOUNDINGS):
+        places = b"".join(struct.pack("<iii", 300, 1000 * j + 300, j % 2000) for j in range(SOUNDINGS))
+        add((b"VRID", struct.pack("<BIHB", 110, wrecks + i + 1, 1, 1) + FIELD), (b"SG3D", places + FIELD))
+        add((b"FRID", struct.pack("<BIBBHHB", 100, count + wrecks + i + 1, 1, 2, 129, 1, 1) + FIELD),
+            (b"FOID", struct.pack("<HIH", 550, count + wrecks + i + 1, 1) + FIELD),
+            (b"FSPT", name(110, wrecks + i + 1) + bytes((255, 255, 255)) + FIELD))
     return descriptive_record() + b"".join(records)
 
 
