@@ -1,5 +1,4 @@
 mod changes;
 mod differences;
-mod drawings;
 mod faults;
 mod shapes;

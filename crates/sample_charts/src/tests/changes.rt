@@ -4,10 +4,8 @@ mod identifiers;
 mod lists;
 mod versions;
 
-use crate::change::{change, text_of};
-use crate::charts::chart;
-use crate::row::{Item, Row, feature, name, vector};
 use chart_model::{AttrMap, Cell, Feature, Name, Vector};
+use sample_rows::{Item, Row, Setting, change, chart, feature, name, vector};
 use std::alloc::Global;
 use std::process::Abort;
 use std::test::Fail;
@@ -26,13 +24,13 @@ const LIST: [Item; 3] = items![1, 2, 3];
 
 /// The edge 1, with an attribute and three items in each of its lists.
 const EDGE: Row = Row {
-    attrs: &[(7, b'1')],
+    attrs: &[(7, b"1")],
     ..vector!(130, 1, LIST, LIST)
 };
 
 /// The feature 1, with the same.
 const FEATURE: Row = Row {
-    attrs: &[(7, b'1')],
+    attrs: &[(7, b"1")],
     others: &LIST,
     ..feature!(2, 1, LIST)
 };
@@ -65,14 +63,14 @@ struct Case {
     after: Option<Row>,
 }
 
-fn has_attrs(attrs: &AttrMap, wanted: &[(u16, u8)]) -> bool {
-    for (code, character) in wanted {
+fn has_attrs(attrs: &AttrMap, settings: &[Setting]) -> bool {
+    for (code, wanted) in settings {
         match attrs.get(*code) {
-            Some(text) if text.as_slice() == text_of(*character) => {}
+            Some(text) if text.as_slice() == *wanted => {}
             _ => return false,
         }
     }
-    attrs.len() == wanted.len()
+    attrs.len() == settings.len()
 }
 
 fn same_vectors(found: &Vector, wanted: &Vector) -> bool {

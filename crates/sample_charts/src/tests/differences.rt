@@ -1,9 +1,8 @@
 //! The names whose records differ between two charts.
 
-use crate::charts::chart;
-use crate::row::{FOID, Item, Row, feature, name, vector};
 use chart_difference::{changed_among, changed_names};
 use chart_model::{Cell, Foid, Name};
+use sample_rows::{FOID, Item, Row, chart, feature, name, vector};
 use std::alloc::Global;
 use std::process::Abort;
 use std::test::Fail;
@@ -13,12 +12,12 @@ const LIST: [Item; 2] = [(120, 1, 1), (120, 2, 1)];
 const NODE: Row = vector!(110, 1, [], [(1, 2, 0)]);
 
 const EDGE: Row = Row {
-    attrs: &[(7, b'1')],
+    attrs: &[(7, b"1")],
     ..vector!(130, 1, LIST, LIST)
 };
 
 const FEATURE: Row = Row {
-    attrs: &[(7, b'1')],
+    attrs: &[(7, b"1")],
     others: &LIST,
     ..feature!(2, 1, LIST)
 };
@@ -65,8 +64,8 @@ static CASES: [Case; 17] = [
         &[name!(100, 2), name!(110, 1), name!(120, 1)],
     ),
     edge! { version: 2 },
-    edge! { attrs: &[(7, b'2')] },
-    edge! { attrs: &[(8, b'1')] },
+    edge! { attrs: &[(7, b"2")] },
+    edge! { attrs: &[(8, b"1")] },
     edge! { pointers: &[(120, 2, 1), (120, 1, 1)] },
     edge! { pointers: &[(120, 1, 1)] },
     edge! { others: &[(120, 2, 1), (120, 1, 1)] },

@@ -1,9 +1,8 @@
 //! Faults of charts that aren't closed.
 
-use crate::charts::{chart, put};
-use crate::row::{Row, feature, name, vector};
 use chart_closure::{ClosureFault, check, check_at};
 use chart_model::Cell;
+use sample_rows::{Row, chart, feature, name, put, vector};
 use std::alloc::Global;
 use std::process::Abort;
 use std::test::Fail;

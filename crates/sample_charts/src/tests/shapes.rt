@@ -1,10 +1,9 @@
 //! Lines of edges and shapes of features.
 
-use crate::charts::{chart, put};
-use crate::row::{Row, feature, name, vector};
 use area_rings::{Line, Shape, edge_line, feature_shape, has_line, has_shape, rings};
 use chart_model::{Coord, Name};
 use plane_geometry::Pt;
+use sample_rows::{Row, chart, feature, name, put, vector};
 use std::test::Fail;
 
 /// A triangle whose first side bends at (5, 1), and two loops at (5, 5). The node 9 has no coordinate, and there is no

@@ -3,8 +3,8 @@
 use super::{
     Case, EDGE, EDGE_CHANGE, EDGE_NAME, FEATURE, FEATURE_CHANGE, FEATURE_NAME, hold, items,
 };
-use crate::row::{FOID, Row};
 use chart_model::Foid;
+use sample_rows::{FOID, Row};
 use std::test::Fail;
 use update_apply::ChangeFault;
 
@@ -113,7 +113,7 @@ static CASES: [Case; 21] = [
         EDGE,
         Row {
             version: 1,
-            attrs: &[(7, 0x7F)],
+            attrs: &[(7, b"\x7F")],
             ..EDGE_CHANGE
         },
         ChangeFault::Version {

@@ -1,8 +1,8 @@
 //! Edits of lists.
 
 use super::{Case, EDGE, EDGE_CHANGE, FEATURE, FEATURE_CHANGE, FEATURE_NAME, hold, items};
-use crate::row::{Edit, Item, Row};
 use chart_model::Name;
+use sample_rows::{Edit, Item, Row};
 use std::test::Fail;
 use update_apply::ChangeFault;
 

@@ -1,7 +1,7 @@
 //! Versions and attributes.
 
 use super::{Case, EDGE, EDGE_CHANGE, EDGE_NAME, FEATURE, FEATURE_CHANGE, hold};
-use crate::row::Row;
+use sample_rows::{Row, Setting};
 use std::test::Fail;
 use update_apply::ChangeFault;
 
@@ -50,25 +50,25 @@ fn version_case(kept: u16, ruin: u8, given: u16, after: &Result<Option<u16>, ()>
     }
 }
 
-/// Settings of attributes, and the attributes afterwards, where 7 is there before. The last character removes one.
-static SETTINGS: [(&'static [(u16, u8)], &'static [(u16, u8)]); 7] = [
-    (&[], &[(7, b'1')]),
-    (&[(7, b'2')], &[(7, b'2')]),
-    (&[(7, b'2'), (7, 0)], &[(7, 0)]),
-    (&[(7, 0), (7, b'2')], &[(7, b'2')]),
-    (&[(7, b'2'), (7, 0x7F)], &[]),
-    (&[(7, 0x7F), (7, b'2')], &[(7, b'2')]),
+/// Settings of attributes, and the attributes afterwards, where 7 is there before. The delete character alone removes one.
+static SETTINGS: [(&'static [Setting], &'static [Setting]); 7] = [
+    (&[], &[(7, b"1")]),
+    (&[(7, b"2")], &[(7, b"2")]),
+    (&[(7, b"2"), (7, b"")], &[(7, b"")]),
+    (&[(7, b""), (7, b"2")], &[(7, b"2")]),
+    (&[(7, b"2"), (7, b"\x7F")], &[]),
+    (&[(7, b"\x7F"), (7, b"2")], &[(7, b"2")]),
     (
-        &[(6, 0x7F), (8, 0), (65_535, b'2')],
-        &[(7, b'1'), (8, 0), (65_535, b'2')],
+        &[(6, b"\x7F"), (8, b""), (65_535, b"2")],
+        &[(7, b"1"), (8, b""), (65_535, b"2")],
     ),
 ];
 
 fn setting_case(
     before: Row,
     change: Row,
-    attrs: &'static [(u16, u8)],
-    after: &'static [(u16, u8)],
+    attrs: &'static [Setting],
+    after: &'static [Setting],
 ) -> Case {
     Case {
         before: Some(before),

@@ -1,4 +1,4 @@
-//! Records and changes of them, by a few numbers.
+//! Changes of records, by a few numbers and texts.
 
 use chart_model::{Foid, Name};
 
@@ -6,6 +6,12 @@ use chart_model::{Foid, Name};
 /// orientation of a feature's; the longitude and the latitude of a coordinate; the number of a related object, in the
 /// second place.
 pub type Item = (u8, u16, u8);
+
+/// The code of an attribute, and the text that it is set to.
+pub type Setting = (u16, &'static [u8]);
+
+/// The usage (USAG) and the masking (MASK) of a feature's pointer.
+pub type Mark = (u8, u8);
 
 /// What a control field says: the instruction, the place, and how many items.
 pub type Edit = (u8, u16, u16);
@@ -19,18 +25,26 @@ pub struct Row {
     /// Of a feature.
     pub prim: u8,
     /// Of a feature.
+    pub grup: u8,
+    /// Of a feature.
+    pub class: u16,
+    /// Of a feature.
     pub foid: Option<Foid>,
-    /// Codes, each with the text it is set to: one character, or none where this is 0.
-    pub attrs: &'static [(u16, u8)],
+    pub attrs: &'static [Setting],
     pub pointer_edit: Option<Edit>,
     pub pointers: &'static [Item],
+    /// Of the first of a feature's pointers. The others have none.
+    pub marks: &'static [Mark],
     /// Of the coordinates of a vector record, or the related objects of a feature.
     pub other_edit: Option<Edit>,
     pub others: &'static [Item],
-    /// Whether the coordinates are soundings, of five metres.
+    /// Whether the coordinates are soundings.
     pub deep: bool,
+    /// The depths of the first of the soundings, in decimetres. The others are five metres deep.
+    pub depths: &'static [i16],
 }
 
+/// The identifier of features whose rows name no other.
 pub const FOID: Foid = Foid {
     agen: 1,
     fidn: 1,
@@ -43,19 +57,24 @@ pub const BARE: Row = Row {
     ruin: 1,
     version: 1,
     prim: 255,
+    grup: 2,
+    class: 42,
     foid: Some(FOID),
     attrs: &[],
     pointer_edit: None,
     pointers: &[],
+    marks: &[],
     other_edit: None,
     others: &[],
     deep: false,
+    depths: &[],
 };
 
 /// The name of a record: its kind and its number.
+#[macro_export]
 macro_rules! name {
     ($rcnm:expr, $rcid:expr $(,)?) => {
-        chart_model::Name {
+        $crate::Name {
             rcnm: $rcnm,
             rcid: $rcid,
         }
@@ -63,29 +82,27 @@ macro_rules! name {
 }
 
 /// An insertion of a vector record: its kind, its number, its pointers and its coordinates.
+#[macro_export]
 macro_rules! vector {
     ($rcnm:expr, $rcid:expr, $pointers:expr, $coords:expr $(,)?) => {
-        crate::row::Row {
-            name: crate::row::name!($rcnm, $rcid),
+        $crate::Row {
+            name: $crate::name!($rcnm, $rcid),
             pointers: &$pointers,
             others: &$coords,
-            ..crate::row::BARE
+            ..$crate::BARE
         }
     };
 }
 
 /// An insertion of a feature: its primitive, its number and its pointers.
+#[macro_export]
 macro_rules! feature {
     ($prim:expr, $rcid:expr, $pointers:expr $(,)?) => {
-        crate::row::Row {
-            name: crate::row::name!(100, $rcid),
+        $crate::Row {
+            name: $crate::name!(100, $rcid),
             prim: $prim,
             pointers: &$pointers,
-            ..crate::row::BARE
+            ..$crate::BARE
         }
     };
 }
-
-pub(crate) use feature;
-pub(crate) use name;
-pub(crate) use vector;

@@ -1,11 +1,11 @@
 //! Drawings of features by tables.
 
-use crate::charts::chart;
-use crate::row::{Row, feature};
+use crate::tests::users::find_users;
 use chart_model::{Block, Geom, Item, ItemList, Name, Octets, Settings, Shades, Target};
 use draw_list::{block_of, draw_cell, print_drawing, print_item};
 use lookup_table::{Table, read_table};
 use object_catalogue::read_objects;
+use sample_rows::{Row, chart, feature};
 use std::alloc::Global;
 use std::test::Fail;
 
@@ -13,16 +13,16 @@ use std::test::Fail;
 static CHART: [Row; 6] = [
     feature!(1, 4, []),
     Row {
-        attrs: &[(133, b'1')],
+        attrs: &[(133, b"1")],
         ..feature!(2, 5, [])
     },
     feature!(255, 6, []),
     Row {
-        attrs: &[(87, b'2'), (133, b'2')],
+        attrs: &[(87, b"2"), (133, b"2")],
         ..feature!(3, 2, [])
     },
     Row {
-        attrs: &[(87, b'1'), (133, 0)],
+        attrs: &[(87, b"1"), (133, b"")],
         ..feature!(3, 1, [])
     },
     feature!(1, 3, []),
@@ -31,7 +31,7 @@ static CHART: [Row; 6] = [
 /// A table, the denominator of a display scale, and the number of the drawing's items and their lines.
 type Case = (&'static [u8], u32, u64, &'static [u8]);
 
-static CASES: [Case; 5] = [
+static CASES: [Case; 6] = [
     (
         b"DEPARE A 1 - AC(DEPVS)",
         1,
@@ -75,6 +75,20 @@ item 1 P 4 whole SY(B)
 item 1 P 4 whole SY(A)
 ",
     ),
+    // what procedures make of a feature stands in its block in the place of the call
+    (
+        b"DEPARE A 1 - CS(DEPARE01);AC(X)\nDEPARE P 2 - SY(A);CS(SOUNDG02);CS(DEPARE01)\n",
+        1,
+        7,
+        b"item 1 A 1 whole AC(DEPVS)
+item 1 A 1 whole AC(X)
+item 1 A 2 whole AC(DEPMS)
+item 1 A 2 whole AC(X)
+item 2 P 3 whole SY(A)
+item 2 P 4 whole SY(A)
+item 5 L 5 whole SY(QUESMRK1)
+",
+    ),
     // an area whose SCAMIN is no number is shown at every scale
     (
         b"DEPARE A 9 SCAMIN=? AC(DEPMD)\nDEPARE P 7 DRVAL1=* -\n",
@@ -107,9 +121,10 @@ fn settings(scale: u32) -> Settings {
 #[test]
 fn drawings(rt: HostRuntime) -> Result<(), Fail> {
     let cell = chart(rt.alloc(), &CHART)?;
+    let users = find_users(rt.alloc(), &cell)?;
     for (text, scale, count, lines) in &CASES {
         let table = table(rt.alloc(), text)?;
-        let drawing = draw_cell(rt.alloc(), &cell, &table, &settings(*scale))?;
+        let drawing = draw_cell(rt.alloc(), &cell, &users, &table, &settings(*scale))?;
         let (items, printed) = print_drawing(rt.alloc(), &drawing)?;
         assert!(rt; items == *count);
         assert!(rt; printed.as_slice() == *lines);
@@ -120,6 +135,7 @@ fn drawings(rt: HostRuntime) -> Result<(), Fail> {
 #[test]
 fn blocks(rt: HostRuntime) -> Result<(), Fail> {
     let cell = chart(rt.alloc(), &CHART)?;
+    let users = find_users(rt.alloc(), &cell)?;
     let table = table(rt.alloc(), b"DEPARE A 1 - AC(DEPVS);LS(SOLID,1,CHGRD)")?;
     // the number of a feature, the denominator of the display scale, and how many instructions its block has
     let cases: [(u32, u32, Option<usize>); 8] = [
@@ -137,7 +153,7 @@ fn blocks(rt: HostRuntime) -> Result<(), Fail> {
             rcnm: 100,
             rcid: *rcid,
         };
-        let block = block_of(rt.alloc(), &cell, &table, &settings(*scale), name)?;
+        let block = block_of(rt.alloc(), &cell, &users, &table, &settings(*scale), name)?;
         let found = block.as_ref().map(|block| block.items.as_slice().len());
         assert!(rt; found == *count);
     }

@@ -1,7 +1,7 @@
 //! Charts of rows.
 
-use crate::change::change;
-use crate::row::Row;
+use crate::changes::change;
+use crate::rows::Row;
 use chart_model::{Cell, Header, Key};
 use std::alloc::Global;
 use std::test::Fail;
