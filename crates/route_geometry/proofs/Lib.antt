@@ -1,0 +1,13 @@
+pub mod Forms
+pub mod Slopes
+pub mod Corners
+pub mod Between
+pub mod Near
+pub mod Casts
+pub mod Walk
+pub mod Wider
+pub mod Trades
+pub mod Open
+pub mod Directions
+pub mod Apart
+pub mod Tested

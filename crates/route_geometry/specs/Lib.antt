@@ -1,0 +1,7 @@
+pub mod Leg
+pub mod Area
+pub mod Bound
+pub mod Slope
+pub mod Side
+pub mod Band
+pub mod Parted

@@ -1,0 +1,84 @@
+//! The bands in which a leg and a segment are near on an axis.
+
+ghost use Rattle.std.specs.Prelude.{◌≡◌, ◌-ℤ◌, ◌<◌, ◌^◌, unsigned_abs};
+ghost use Rattle.route_geometry.specs.Side.{IsOpposite};
+
+use crate::side::Side;
+use plane_geometry::Pt;
+
+/// The coordinates of two ends on an axis.
+#[derive(Clone, Copy)]
+pub(crate) struct Span {
+    from: i32,
+    to: i32,
+}
+
+impl Span {
+    /// The longitudes of two points.
+    pub(crate) fn of_x(from: Pt, to: Pt) -> Span
+        ensures from { result.from ≡ from.x }
+        ensures to { result.to ≡ to.x }
+    {
+        Span {
+            from: from.x,
+            to: to.x,
+        }
+    }
+
+    /// The latitudes of two points.
+    pub(crate) fn of_y(from: Pt, to: Pt) -> Span
+        ensures from { result.from ≡ from.y }
+        ensures to { result.to ≡ to.y }
+    {
+        Span {
+            from: from.y,
+            to: to.y,
+        }
+    }
+}
+
+/// How far the coordinate `to` is above `from`.
+fn difference(from: i32, to: i32) -> i64
+    ensures value { result ≡ to -ℤ from }
+    ensures bounded { unsigned_abs result < 2 ^ 32 }
+{
+    i64::from(to) - i64::from(from)
+}
+
+/// Two sides between which a leg and a segment are near on an axis.
+#[derive(Clone, Copy)]
+pub(crate) struct Band {
+    pub(crate) low: Side,
+    pub(crate) high: Side,
+    ghost opposite: { IsOpposite low high },
+}
+
+impl Band {
+    ghost use Rattle.std.specs.Prelude.{◌↔◌, ◌≤◌, ◌*◌};
+    ghost use Rattle.route_geometry.specs.Leg.{apart};
+    ghost use Rattle.route_geometry.specs.Side.{Place};
+    ghost use Rattle.route_geometry.specs.Band.{IsBetween};
+
+    /// The band in which a leg and a segment differ by at most `reach` on an axis.
+    pub(crate) fn new(reach: u32, leg: Span, segment: Span) -> Band
+        ensures { (p : Place) →
+            (apart p.d p.t p.s leg.from leg.to segment.from segment.to ≤ p.d * reach) ↔ IsBetween p result }
+    {
+        let reach = i64::from(reach);
+        let apart = difference(segment.from, leg.from);
+        let leg_way = difference(leg.from, leg.to);
+        let segment_way = difference(segment.from, segment.to);
+        Band {
+            low: Side {
+                start: reach + apart,
+                leg: leg_way,
+                segment: -segment_way,
+            },
+            high: Side {
+                start: reach - apart,
+                leg: -leg_way,
+                segment: segment_way,
+            },
+        }
+    }
+}

@@ -1,0 +1,23 @@
+//! Whether a leg and a segment are near on both axes.
+
+ghost use Rattle.std.specs.Prelude.{◌↔◌, IsTrue};
+ghost use Rattle.route_geometry.specs.Band.{SideMeetsBand, BandsMeet};
+
+use crate::band::Band;
+use crate::corner::both_met;
+use crate::side::Side;
+
+/// Whether some place is in both bands. Where one is within the lower side of a band and one within its
+/// upper side, both in the other band, so is a place between these two that is in both.
+pub(crate) fn bands_meet(x: Band, y: Band) -> bool
+    ensures { IsTrue result ↔ BandsMeet x y }
+{
+    side_meets_band(x.low, y) && side_meets_band(x.high, y)
+}
+
+/// Whether some place is within a side and in a band.
+fn side_meets_band(side: Side, band: Band) -> bool
+    ensures { IsTrue result ↔ SideMeetsBand side band }
+{
+    both_met(side, band.low) && both_met(side, band.high)
+}

@@ -1,0 +1,11 @@
+//! A side along one way.
+
+ghost use Rattle.route_geometry.specs.Bound.{IsBoundedSlope};
+
+/// A side along one way: `start` where the way begins, and `step` more where it ends.
+#[derive(Clone, Copy)]
+pub(crate) struct Slope {
+    pub(crate) start: i64,
+    pub(crate) step: i64,
+    ghost bounded: { IsBoundedSlope start step },
+}
