@@ -21,8 +21,6 @@ mod sequence;
 mod settings;
 mod shared;
 mod state;
-#[cfg(test)]
-mod tests;
 mod update_record;
 
 pub use attr_map::AttrMap;

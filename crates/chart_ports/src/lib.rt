@@ -25,8 +25,6 @@ mod source;
 mod std_source;
 mod steps;
 mod store_files;
-#[cfg(test)]
-mod tests;
 
 pub use calls::{Calls, FailingCalls};
 pub use desk::Desk;

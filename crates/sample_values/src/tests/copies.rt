@@ -3,7 +3,11 @@
 ghost use Rattle.std.specs.Prelude.{◌≡◌, IfOk};
 ghost use Rattle.chart_model.specs.Cell.{IsCell, IsChartHeader};
 
-use super::super::*;
+use chart_model::{
+    AttrMap, Block, Cell, Coords, Feature, FileList, Foid, Geom, Header, Held, Holding, HoldingMap,
+    Item, ItemList, Key, Name, NameMap, Octets, Pointers, RelatedList, Shared, State, Target,
+    Vector,
+};
 use std::alloc::{AllocError, Global};
 use std::test::Fail;
 

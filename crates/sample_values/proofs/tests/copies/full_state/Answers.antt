@@ -4,7 +4,7 @@ use Rattle.chart_model.specs.Keys.{key_cmp}
 use Rattle.chart_model.specs.State.{IsHolding, IsFileLength}
 use Rattle.chart_model.proofs.Keys.{key_cmp-total, key_cmp-IsAntisymmetric}
 use Rattle.chart_model.proofs.Maps.{Each, each-insert, each-empty}
-use Rattle.chart_model.proofs.tests.copies.full_state.Goals as goal
+use Rattle.sample_values.proofs.tests.copies.full_state.Goals as goal
 
 pub invariant_of-result : goal.invariant_of-result
 invariant_of-result c =

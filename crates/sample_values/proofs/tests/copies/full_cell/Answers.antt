@@ -8,7 +8,7 @@ use Rattle.chart_model.specs.Names.{name_cmp}
 use Rattle.chart_model.specs.Record.{AreCoords}
 use Rattle.chart_model.proofs.Maps.{Each, each-insert, each-empty}
 use Rattle.chart_model.proofs.Names.{name_cmp-total, name_cmp-IsAntisymmetric}
-use Rattle.chart_model.proofs.tests.copies.full_cell.Goals as goal
+use Rattle.sample_values.proofs.tests.copies.full_cell.Goals as goal
 
 no-texts : (attrs : Attrs) → attrs ≡ map.empty → AreKeptTexts attrs
 no-texts attrs empty code = subst (λ (m : Attrs). IfSome (map.get m code) IsKeptText) (sym empty) (subst (λ o. IfSome o IsKeptText) (sym (map.get-empty nat_cmp code)) tt)

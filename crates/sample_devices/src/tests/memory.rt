@@ -1,5 +1,5 @@
 use super::calls::{Call, gives, is_answered, pulls};
-use crate::{
+use chart_ports::{
     Calls, Failed, FailingCalls, FileBytes, MemoryDesk, MemoryShelf, MemorySource, ShelfError,
 };
 use std::alloc::{AllocError, Global};

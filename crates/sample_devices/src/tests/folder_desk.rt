@@ -2,7 +2,7 @@
 
 use crate::tests::calls::{Call, try_all};
 use crate::tests::slow::{Pace, Slow};
-use crate::{Desk, Failed, FolderDesk};
+use chart_ports::{Desk, Failed, FolderDesk};
 use std::cell::Cell;
 use std::fs;
 use std::process::Abort;

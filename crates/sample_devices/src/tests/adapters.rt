@@ -1,5 +1,5 @@
 use super::calls::{gives, pulls};
-use crate::{Failed, FolderShelf, StdSource};
+use chart_ports::{Failed, FolderShelf, StdSource};
 use std::io::{ErrorKind, Read};
 use std::test::Fail;
 use std::{fs, io};

@@ -1,7 +1,7 @@
 //! Calls of the ports, and whether they are answered as wanted. What makes them knows a port by its
 //! bound alone, so that a proof reads the few clauses of the trait.
 
-use crate::{Desk, Failed, Fetched, Shelf, ShelfError, Source};
+use chart_ports::{Desk, Failed, Fetched, Shelf, ShelfError, Source};
 use std::alloc::Global;
 use std::process::Abort;
 

@@ -2,7 +2,7 @@
 
 use super::calls::{Call, is_answered, reads, try_all};
 use super::memory::failing;
-use crate::{Desk, Failed, FailingCalls, FileBytes, Fill, Images, MemoryDesk};
+use chart_ports::{Desk, Failed, FailingCalls, FileBytes, Fill, Images, MemoryDesk};
 use std::alloc::{AllocError, Global};
 use std::process::Abort;
 use std::test::Fail;

@@ -1,6 +1,8 @@
+//! What the values answer.
+
 mod copies;
 
-use super::*;
+use chart_model::{Attr, AttrMap, Edit, Key, Name, NameMap, Octets};
 use std::alloc::{AllocError, Global};
 use std::test::Fail;
 
