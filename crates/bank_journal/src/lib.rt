@@ -8,8 +8,6 @@ mod framing;
 mod laws;
 mod opening;
 mod reading;
-#[cfg(test)]
-mod tests;
 mod whole;
 
 pub use bank::Bank;

@@ -4,7 +4,7 @@ use Rattle.std.specs.List.{list_any, fold}
 use Rattle.chart_model.specs.declared.name.Name.{Name}
 use Rattle.plane_geometry.specs.declared.point.Pt.{Pt}
 use Rattle.depth_values.specs.DepthArea.{AreaValue}
-use Rattle.depth_values.specs.Inside.{is_inside}
+use Rattle.plane_bounds.specs.Inside.{is_inside}
 use Rattle.depth_values.specs.Under.{holding, lesser}
 
 abbrev pub holds : List Pt → AreaValue → Bool

@@ -1,8 +1,6 @@
 pub mod Codes
 pub mod Attributes
 pub mod Area
-pub mod Inside
-pub mod Bounds
 pub mod DepthArea
 pub mod Under
 pub mod Safety

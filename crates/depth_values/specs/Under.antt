@@ -15,7 +15,7 @@ use Rattle.area_rings.specs.Edge.{point_of}
 use Rattle.area_rings.specs.Shape.{rings_of}
 use Rattle.depth_values.specs.Codes.{DEPARE, DRGARE}
 use Rattle.depth_values.specs.Area.{d1_of}
-use Rattle.depth_values.specs.Inside.{is_inside}
+use Rattle.plane_bounds.specs.Inside.{is_inside}
 use Rattle.depth_values.specs.DepthArea.{AreaValue}
 
 -- an area of one of the two classes
@@ -33,7 +33,8 @@ points_in Bare = []
 abbrev pub area_at : CellValue → Name × Feature → Option AreaValue
 area_at cell entry =
     if is_depth_area entry.1
-    then option_map (λ rings. record { name = entry.0; d1 = d1_of entry.1; rings = rings }) (rings_of cell entry.1.pointers)
+    then option_map (λ rings. record { name = entry.0; d1 = d1_of entry.1; rings = rings })
+        (rings_of cell entry.1.pointers)
     else None
 
 -- the depth areas of the cell, in the order of their names: every feature is looked at

@@ -4,12 +4,12 @@ ghost use Rattle.std.specs.Prelude.{◌≡◌, IfOk};
 ghost use Rattle.depth_values.specs.Under.{is_depth_area, area_at, areas_of};
 
 use crate::area::area_depths;
-use crate::bounds::{Bounds, bounds_of};
 use crate::codes::{DEPARE, DRGARE};
 use area_rings::{RingList, rings};
 use chart_model::codes::AREA;
 use chart_model::{Cell, Feature, Name, Sequence};
-use plane_geometry::{Pt, inside_even_odd};
+use plane_bounds::{Bounds, bounds_of};
+use plane_geometry::Pt;
 use std::alloc::{AllocError, Global};
 use std::marker::Model;
 
@@ -24,7 +24,7 @@ pub struct DepthArea {
 
 impl Model for DepthArea {
     ghost use Rattle.depth_values.specs.DepthArea.{AreaValue};
-    ghost use Rattle.depth_values.specs.Bounds.{RingsIn};
+    ghost use Rattle.plane_bounds.specs.Bounds.{RingsIn};
 
     ghost Value = { AreaValue };
 
@@ -39,7 +39,7 @@ pub type DepthAreas = Sequence<DepthArea>;
 impl DepthArea {
     ghost use Rattle.std.specs.Prelude.{◌≡◌};
     ghost use Rattle.std.specs.List.{list_any};
-    ghost use Rattle.depth_values.specs.Inside.{is_inside};
+    ghost use Rattle.plane_bounds.specs.Inside.{is_inside};
 
     /// The name of the feature.
     pub fn name(&self) -> Name
@@ -59,7 +59,7 @@ impl DepthArea {
     fn holds(&self, p: Pt) -> bool
         ensures { result ≡ is_inside p self.now.rings }
     {
-        self.bounds.holds(p) && inside_even_odd(p, self.rings.as_slice())
+        self.bounds.holds_inside(p, self.rings.as_slice())
     }
 
     /// Whether one of the points lies in or on the area. It takes no memory.

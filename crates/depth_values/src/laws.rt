@@ -1,18 +1,10 @@
 //! What holds of the definitions.
 
-ghost use Rattle.std.specs.Prelude.{◌≡◌, ◌↔◌, List, ℤ, Some, IsTrue};
-ghost use Rattle.plane_geometry.specs.declared.point.Pt.{Pt};
-ghost use Rattle.plane_geometry.specs.EvenOdd.{IsInside};
+ghost use Rattle.std.specs.Prelude.{◌≡◌, ◌↔◌, List, ℤ, Some};
 ghost use Rattle.chart_model.specs.Record.{IsWithin};
-ghost use Rattle.depth_values.specs.Inside.{is_inside};
 ghost use Rattle.depth_values.specs.Under.{least};
 ghost use Rattle.depth_values.specs.Hazard.{IsLeast};
 ghost use Rattle.depth_values.specs.Digits.{cells_of, WritesDepth};
-
-/// The test that definitions cite says whether a point is inside rings by the even-odd rule.
-pub fn points_are_inside()
-    ensures { (p : Pt) (rings : List (List Pt)) → IsTrue (is_inside p rings) ↔ IsInside p rings }
-{}
 
 /// The least of the numbers is one of them, and none of them is less.
 pub fn least_is_least()

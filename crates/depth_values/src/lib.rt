@@ -6,7 +6,6 @@
 
 mod area;
 mod attributes;
-mod bounds;
 mod cells;
 pub mod codes;
 mod depth_area;
@@ -24,6 +23,6 @@ pub use depth_area::{DepthArea, DepthAreas, depth_areas};
 pub use digit_items::push_digits;
 pub use digits::{Digits, digit_cells};
 pub use hazard::{hazard_depth, hazard_depth_among, lies_in_safe_area, sounding};
-pub use laws::{digits_write_depths, least_is_least, points_are_inside};
+pub use laws::{digits_write_depths, least_is_least};
 pub use safety::{is_safe_area, is_unsafe_area};
 pub use under::{areas_among, areas_under};

@@ -42,7 +42,8 @@ drawn_cmp x y =
     (ordering_then (nat_cmp (rank_of x.block.geom) (rank_of y.block.geom)) (nat_cmp x.rcid y.rcid))
 
 -- the same blocks, in that order
-pub record IsDrawing (cell : CellValue) (table : List TableLine) (settings : Settings) (drawing : List Drawn) : Type 0 where
+pub record IsDrawing (cell : CellValue) (table : List TableLine) (settings : Settings) (drawing : List Drawn)
+    : Type 0 where
   pub all : IsPermutation (blocks_in cell table settings) drawing
   pub ordered : IsSorted drawn_cmp drawing
 

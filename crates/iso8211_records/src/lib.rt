@@ -21,10 +21,3 @@ pub use file::read_file;
 pub use laws::{faults_each, never_both, one_fault, one_reading, reads_each};
 pub use record::{RawField, RawList, RawRecord, RecordFile};
 pub use value::{Value, ValueList};
-
-#[cfg(test)]
-mod overlaps;
-#[cfg(test)]
-mod small;
-#[cfg(test)]
-mod tests;

@@ -27,8 +27,6 @@ mod line;
 mod named;
 mod read;
 mod table;
-#[cfg(test)]
-mod tests;
 mod written;
 
 pub use condition::{Condition, ConditionList, Test};

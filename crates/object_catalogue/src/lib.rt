@@ -15,8 +15,6 @@ mod entry;
 mod fault;
 mod laws;
 mod read;
-#[cfg(test)]
-mod tests;
 
 pub use acronym::{Acronym, read_acronym};
 pub use catalogue::Catalogue;

@@ -43,6 +43,3 @@ pub use row_fields::RowFields;
 pub use signed::{Depth, Within};
 pub use subfield::{Place, Subfield};
 pub use text::{DataSetName, EightBytes, NineDigits, PlainText, key_in};
-
-#[cfg(test)]
-mod tests;

@@ -18,6 +18,3 @@ mod vector;
 pub use dataset::read_dataset;
 pub use fault::DatasetFault;
 pub use laws::{base_records_insert, changes_are_kept, data_sets_are_kept};
-
-#[cfg(test)]
-mod tests;

@@ -7,7 +7,7 @@ mod Charts
 mod Rebuilding
 mod SoundLists
 mod SoundTests
-mod Accepted
+pub mod Accepted
 mod Held
 mod OneName
 mod LocalChanges

@@ -13,8 +13,6 @@ mod files;
 mod laws;
 mod local;
 mod read;
-#[cfg(test)]
-mod tests;
 
 pub use chart::build;
 pub use effect::{Effect, judge};

@@ -1,0 +1,4 @@
+pub mod Inside
+pub mod Turns
+pub mod Outside
+pub mod Growth

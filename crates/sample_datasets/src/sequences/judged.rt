@@ -1,0 +1,115 @@
+//! What may follow what is held, as a table.
+
+use chart_model::{ChangeList, Dataset, Header, Held, Key};
+use std::alloc::Global;
+use std::test::Fail;
+use update_sequence::Effect::{Cancel, Extend, Replace};
+use update_sequence::SequenceFault::{Cancelled, Edition, Gap, NoBase, StaleBase};
+use update_sequence::{Effect, SequenceFault, judge};
+
+/// A data set without changes. One of edition 0 is an update, which cancels.
+fn data_set(alloc: Global, key: Key, base: bool, edition: u16, update: u16) -> Dataset {
+    let cancels = edition == 0;
+    Dataset {
+        header: Header {
+            key,
+            edition: u32::from(edition),
+            update: u32::from(update),
+            issued: *b"20240131",
+            agency: 550,
+            scale: 0,
+        },
+        base: base && !cancels,
+        cancels,
+        changes: ChangeList::new(alloc),
+    }
+}
+
+/// Edition and update that are held, and whether the cell is cancelled; whether the file is a base
+/// file, its edition and its update; what becomes of it.
+type Row = (
+    Option<(u32, u32, bool)>,
+    (bool, u16, u16),
+    Result<Effect, SequenceFault>,
+);
+
+/// The first row that is judged otherwise.
+fn first_wrong(alloc: Global, key: Key, table: &[Row]) -> Option<usize> {
+    for (place, (numbers, (base, edition, update), wanted)) in table.iter().enumerate() {
+        let dataset = data_set(alloc, key, *base, *edition, *update);
+        let held = numbers.map(|(edition, update, cancelled)| Held {
+            edition,
+            update,
+            cancelled,
+        });
+        if judge(held.as_ref(), &dataset) != *wanted {
+            return Some(place);
+        }
+    }
+    None
+}
+
+fn stale(held: (u32, u32), given: (u32, u32)) -> Result<Effect, SequenceFault> {
+    Err(StaleBase {
+        held_edition: held.0,
+        held_update: held.1,
+        edition: given.0,
+        update: given.1,
+    })
+}
+
+fn gap(wanted: u64, given: u32) -> Result<Effect, SequenceFault> {
+    Err(Gap { wanted, given })
+}
+
+#[test]
+fn base_files(rt: HostRuntime) -> Result<(), Fail> {
+    let key = Key::from_bytes(b"AA5TEST1").ok_or("it is a key")?;
+    let table: [Row; 9] = [
+        (None, (true, 1, 3), Ok(Replace)),
+        (Some((1, 2, false)), (true, 1, 2), Ok(Replace)),
+        (Some((1, 2, true)), (true, 1, 2), Ok(Replace)),
+        (Some((1, 2, false)), (true, 1, 3), Ok(Replace)),
+        (Some((1, 2, false)), (true, 2, 0), Ok(Replace)),
+        (Some((1, 2, true)), (true, 2, 0), Ok(Replace)),
+        (Some((1, 2, false)), (true, 1, 1), stale((1, 2), (1, 1))),
+        (Some((1, 2, true)), (true, 1, 1), stale((1, 2), (1, 1))),
+        (Some((2, 0, false)), (true, 1, 5), stale((2, 0), (1, 5))),
+    ];
+    assert_eq!(rt; first_wrong(rt.alloc(), key, &table), None);
+    Ok(())
+}
+
+#[test]
+fn updates(rt: HostRuntime) -> Result<(), Fail> {
+    let key = Key::from_bytes(b"AA5TEST1").ok_or("it is a key")?;
+    let table: [Row; 13] = [
+        (None, (false, 1, 1), Err(NoBase(key))),
+        (None, (false, 0, 1), Err(NoBase(key))),
+        (Some((1, 0, true)), (false, 1, 1), Err(Cancelled(key))),
+        (Some((1, 0, true)), (false, 0, 1), Err(Cancelled(key))),
+        (Some((1, 0, false)), (false, 0, 9), Ok(Cancel)),
+        (
+            Some((1, 0, false)),
+            (false, 2, 1),
+            Err(Edition { held: 1, given: 2 }),
+        ),
+        (
+            Some((2, 0, false)),
+            (false, 1, 1),
+            Err(Edition { held: 2, given: 1 }),
+        ),
+        (Some((1, 0, true)), (false, 2, 1), Err(Cancelled(key))),
+        (Some((1, 0, false)), (false, 1, 1), Ok(Extend)),
+        (Some((1, 1, false)), (false, 1, 2), Ok(Extend)),
+        (Some((1, 0, false)), (false, 1, 2), gap(1, 2)),
+        (Some((1, 1, false)), (false, 1, 1), gap(2, 1)),
+        (
+            Some((1, u32::MAX, false)),
+            (false, 1, 0),
+            gap(4_294_967_296, 0),
+        ),
+    ];
+    assert_eq!(rt; first_wrong(rt.alloc(), key, &table), None);
+    Ok(())
+}

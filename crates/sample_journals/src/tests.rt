@@ -1,0 +1,43 @@
+//! Banks and their records, worked out by hand.
+
+ghost use Rattle.std.specs.Prelude.{◌≡◌, ◌≤◌, length};
+
+mod appending;
+mod opening;
+mod untold;
+
+use bank_journal::{BankContent, BankFault, open_bank};
+use chart_ports::{FailingCalls, FileBytes, Images, MemoryDesk};
+use std::alloc::{AllocError, Global};
+use untold::Untold;
+
+/// A desk with these bytes as bank 1, where the calls of these numbers fail. What it logs takes no memory.
+fn desk_of(alloc: Global, bank: &[u8], failing: &[u64]) -> Result<Untold, AllocError> {
+    let bank = bank.to_vec(alloc)?;
+    let failing = FailingCalls::from_vec(failing.to_vec(alloc)?);
+    let start = Images {
+        head: FileBytes::from_vec(Vec::new(alloc)),
+        bank1: FileBytes::from_vec(bank),
+        bank2: FileBytes::from_vec(Vec::new(alloc)),
+    };
+    let mut desk = MemoryDesk::open(alloc, failing, start)?;
+    desk.reserve(alloc, 16, 99)?;
+    Ok(Untold { desk })
+}
+
+/// A content as a text: the checkpoint, and each body behind a bar.
+fn shown(alloc: Global, content: &BankContent) -> Result<Vec<u8>, AllocError> {
+    let mut text = content.checkpoint.as_slice().to_vec(alloc)?;
+    for body in content.bodies.as_slice() {
+        text.push(b'|')?;
+        text.extend_from_slice(body.as_slice())?;
+    }
+    Ok(text)
+}
+
+/// What a bank reads as, as such a text.
+fn read_as(alloc: Global, bank: &[u8]) -> Result<Vec<u8>, BankFault> {
+    let mut desk = desk_of(alloc, bank, &[])?;
+    let (_, content) = open_bank(alloc, &mut desk, 1)?;
+    Ok(shown(alloc, &content)?)
+}

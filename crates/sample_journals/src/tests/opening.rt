@@ -1,0 +1,96 @@
+//! What banks read as, and where they are damaged.
+
+use super::{desk_of, read_as};
+use bank_journal::{BankFault, open_bank};
+use std::test::Fail;
+
+/// Banks, and what they read as.
+const READ: [(&[u8], &[u8]); 9] = [
+    // Nine bytes or fewer are the empty store, whatever they are.
+    (b"", b""),
+    (b"123456789", b""),
+    // No checkpoint and no record.
+    (b"\0\0\0\0\0\0\0\0\0\0", b""),
+    // A checkpoint, and a closed gate whose lowest bit alone is 0.
+    (b"\0\0\0\0\0\0\0\x02cp\xfe", b"cp"),
+    // Two records behind a checkpoint. The gate of the second has other bits beside the lowest.
+    (
+        b"\0\0\0\0\0\0\0\x02cp\x01\0\0\0\x03abc\xff\0\0\0\x02de\0",
+        b"cp|abc|de",
+    ),
+    // A record without a body, and one whose body is a gate.
+    (
+        b"\0\0\0\0\0\0\0\0\x01\0\0\0\0\x01\0\0\0\x01\x01\0",
+        b"||\x01",
+    ),
+    // What stands behind the closed gate: less than a length, a record that passes the end, another record.
+    (b"\0\0\0\0\0\0\0\x01c\0\x01\x01", b"c"),
+    (b"\0\0\0\0\0\0\0\x01c\x01\0\0\0\x01a\0\0\0\0\x09", b"c|a"),
+    (b"\0\0\0\0\0\0\0\x01c\0\x01\0\0\0\x01a\0", b"c"),
+];
+
+#[test]
+fn banks_read_as_what_was_written(rt: HostRuntime) -> Result<(), Fail> {
+    let alloc = rt.alloc();
+    for (bank, text) in READ {
+        assert!(rt; read_as(alloc, bank)?.as_slice() == text, "{bank:?}");
+    }
+    Ok(())
+}
+
+/// Damaged banks, and the places of their first faults.
+const DAMAGED: [(&[u8], u64); 10] = [
+    // Another layout.
+    (b"\x01\0\0\0\0\0\0\0\0\0", 0),
+    // A checkpoint to the end, where a gate should stand, past the end, and as long as the number can say.
+    (b"\0\0\0\0\0\0\0\x02cp", 0),
+    (b"\0\0\0\0\0\0\0\x03cp", 0),
+    (b"\0\xff\xff\xff\xff\xff\xff\xffcp", 0),
+    // An open gate with nothing behind it, and with less than a length.
+    (b"\0\0\0\0\0\0\0\x01c\x01", 9),
+    (b"\0\0\0\0\0\0\0\x01c\x01\0\0\0", 9),
+    // A length that passes the end, and the longest.
+    (b"\0\0\0\0\0\0\0\x01c\x01\0\0\0\x03a\0", 9),
+    (b"\0\0\0\0\0\0\0\x01c\x01\xff\xff\xff\xff", 9),
+    // No closed gate behind the record.
+    (b"\0\0\0\0\0\0\0\x01c\x01\0\0\0\x01a", 9),
+    // The second record is short.
+    (b"\0\0\0\0\0\0\0\x01c\x01\0\0\0\x01a\x01\0\0\0\x02b\0", 15),
+];
+
+#[test]
+fn damaged_banks_have_a_first_fault(rt: HostRuntime) -> Result<(), Fail> {
+    let alloc = rt.alloc();
+    for (bank, place) in DAMAGED {
+        let fault = read_as(alloc, bank).err();
+        assert!(rt;
+            fault == Some(BankFault::Foreign(1, place)),
+            "{bank:?}: {fault:?}"
+        );
+    }
+    Ok(())
+}
+
+/// Banks, and the calls of their opening: a length and a read, and for the empty store a write and a sync.
+const CALLS: [(&[u8], u64); 6] = [
+    (b"\0\0\0\0\0\0\0\x02cp\0", 1),
+    (b"\0\0\0\0\0\0\0\x02cp\0", 2),
+    (b"", 1),
+    (b"", 2),
+    (b"", 3),
+    (b"", 4),
+];
+
+#[test]
+fn a_failing_call_is_told(rt: HostRuntime) -> Result<(), Fail> {
+    let alloc = rt.alloc();
+    for (bank, number) in CALLS {
+        let mut desk = desk_of(alloc, bank, &[number])?;
+        let fault = open_bank(alloc, &mut desk, 1).err();
+        assert!(rt;
+            fault == Some(BankFault::DeskFault),
+            "call {number}: {fault:?}"
+        );
+    }
+    Ok(())
+}
