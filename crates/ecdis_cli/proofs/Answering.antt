@@ -253,7 +253,7 @@ pub Replied-quiet : {D : Type 0} (clock : D → ℕ) (might : D → ℕ → Imag
     → Replied tells files (λ P. T → LeavesOnly clock might desk desk P) said number line before a a IsGiven
 Replied-quiet clock might T tells files desk may_leave said number line before a IsGiven only_now stands gives = record {
   fetches = fetches_of files false;
-  answers = record { told = λ t. (false, refl); cause = λ name e. cc };
+  answers = record { told = λ t. (false, refl); cause = λ limit name e. cc };
   gives = gives;
   leaves = λ t. leaves-none clock might desk may_leave said before.state (step_to (fetches_of files false) before number line).model.state (only_now t) (stands t);
 }

@@ -10,7 +10,7 @@ use Rattle.script_reader.specs.Reading.{event_in}
 use Rattle.script_reader.specs.declared.event.Event.{Event}
 use Rattle.script_reader.specs.declared.fault.LineFault.{LineFault}
 use Rattle.script_reader.specs.declared.reply.Reply.{Reply}
-use Rattle.script_reader.specs.declared.reply.Reply.TheVariants.{Info, Load, Cancel, Rollback, Drop, Cells, Draw, Refused}
+use Rattle.script_reader.specs.declared.reply.Reply.TheVariants.{Info, Load, Cancel, Rollback, Drop, Cells, Draw, Route, Refused}
 use Rattle.session_core.specs.Fetch.{Fetches}
 use Rattle.session_core.specs.Model.{Model}
 use Rattle.session_core.specs.Turn.{turn_of}
@@ -21,7 +21,7 @@ use Rattle.ecdis_cli.proofs.Taking.{rose-none}
 -- a turn says so only where a fetch failed
 abbrev pub TellsFailure : Type 0
 TellsFailure = (fetches : Fetches) (model : Model) (event : Event) (values : List ℕ)
-    → (turn_of fetches model event).reply ≡ Refused 72 values → (name : List ℕ) × (fetches name ≡ None)
+    → (turn_of fetches model event).reply ≡ Refused 72 values → (limit : ℕ) × ((name : List ℕ) × (fetches limit name ≡ None))
 
 seventy_two : (code : ℕ) → eqb code 72 ≡ true → code ≡ 72
 seventy_two code h = grind (arith, nat_tests)
@@ -36,10 +36,11 @@ told-failure (Rollback key edition update) h = absurd (let e : false ≡ true = 
 told-failure (Drop key) h = absurd (let e : false ≡ true = h in cc)
 told-failure (Cells count lines) h = absurd (let e : false ≡ true = h in cc)
 told-failure (Draw key count lines) h = absurd (let e : false ≡ true = h in cc)
+told-failure (Route legs count lines) h = absurd (let e : false ≡ true = h in cc)
 
 -- a step says so only where a fetch failed
 failed-by : TellsFailure → (fetches : Fetches) (model : Model) (number : ℕ) (asked : Result (Option Event) LineFault)
-    → tells_failure (step_by fetches model number asked).reply ≡ true → (name : List ℕ) × (fetches name ≡ None)
+    → tells_failure (step_by fetches model number asked).reply ≡ true → (limit : ℕ) × ((name : List ℕ) × (fetches limit name ≡ None))
 failed-by law fetches model number (Ok None) h = absurd (let e : false ≡ true = h in cc)
 failed-by law fetches model number (Err fault) h = absurd (let e : false ≡ true = h in cc)
 failed-by law fetches model number (Ok (Some event)) h =
@@ -47,7 +48,7 @@ failed-by law fetches model number (Ok (Some event)) h =
     law fetches model event told.0 told.1
 
 pub step-failed : TellsFailure → (fetches : Fetches) (model : Model) (number : ℕ) (line : List ℕ)
-    → tells_failure (step_to fetches model number line).reply ≡ true → (name : List ℕ) × (fetches name ≡ None)
+    → tells_failure (step_to fetches model number line).reply ≡ true → (limit : ℕ) × ((name : List ℕ) × (fetches limit name ≡ None))
 unfolding step_to
 step-failed law fetches model number line h = failed-by law fetches model number (event_in number line) h
 
@@ -56,30 +57,30 @@ failures-cons step steps = sum_by-cons (λ (s : Step). cond (tells_failure s.rep
 
 -- so the shelf has counted it
 pub failed-one : TellsFailure → (fetches : Fetches) (model : Model) (number : ℕ) (line : List ℕ) (a b : ℕ) → a ≤ b
-    → ((name : List ℕ) → fetches name ≡ None → Rose a b) → RoseBy (failures_in (step_to fetches model number line ∷ [])) a b
+    → ((limit : ℕ) (name : List ℕ) → fetches limit name ≡ None → Rose a b) → RoseBy (failures_in (step_to fetches model number line ∷ [])) a b
 failed-one law fetches model number line a b later cause =
     let step : Step = step_to fetches model number line in
     subst (λ (k : ℕ). RoseBy k a b) (sym (failures-cons step []))
     (elim (tells_failure step.reply) as (λ v. tells_failure step.reply ≡ v → RoseBy (cond v 1 0 + 0) a b) [
-      | true ↦ λ e. let none : (name : List ℕ) × (fetches name ≡ None) = step-failed law fetches model number line e in cause none.0 none.1
+      | true ↦ λ e. let none : (limit : ℕ) × ((name : List ℕ) × (fetches limit name ≡ None)) = step-failed law fetches model number line e in cause none.0 none.1.0 none.1.1
       | false ↦ λ e. rose-none a b later
     ] refl)
 
 -- ---- where no fetch fails
 
 abbrev pub Serves : Fetches → Type 0
-Serves fetches = (name : List ℕ) → fetches name ≢ None
+Serves fetches = (limit : ℕ) (name : List ℕ) → fetches limit name ≢ None
 
 step-served : TellsFailure → (fetches : Fetches) (model : Model) (number : ℕ) (line : List ℕ) → Serves fetches
     → tells_failure (step_to fetches model number line).reply ≡ false
 step-served law fetches model number line serves =
     elim (tells_failure (step_to fetches model number line).reply) as (λ v. tells_failure (step_to fetches model number line).reply ≡ v → v ≡ false) [
-      | true ↦ λ e. let none : (name : List ℕ) × (fetches name ≡ None) = step-failed law fetches model number line e in absurd (serves none.0 none.1)
+      | true ↦ λ e. let none : (limit : ℕ) × ((name : List ℕ) × (fetches limit name ≡ None)) = step-failed law fetches model number line e in absurd (serves none.0 none.1.0 none.1.1)
       | false ↦ λ e. refl
     ] refl
 
 first-serves : (answers : List Fetches) → All Serves answers → Serves (first_answer answers)
-first-serves [] all = λ name e. cc
+first-serves [] all = λ limit name e. cc
 first-serves (fetches ∷ answers) all = All-head Serves fetches answers all
 
 others-serve : (answers : List Fetches) → All Serves answers → All Serves (other_answers answers)

@@ -63,7 +63,7 @@ abbrev pub padding : Files → List ℕ → List Fetches
 padding files script = replicate (length (lines script)) (fetches_of files false)
 
 padding-serves : (files : Files) (script : List ℕ) → All Serves (padding files script)
-padding-serves files script = All-replicate Serves (length (lines script)) (fetches_of files false) (λ name e. cc)
+padding-serves files script = All-replicate Serves (length (lines script)) (fetches_of files false) (λ limit name e. cc)
 
 pub padding-told : (tells : Bool) (files : Files) (script : List ℕ) → All (IsAnswer tells files) (padding files script)
 padding-told tells files script = All-replicate (IsAnswer tells files) (length (lines script)) (fetches_of files false) (λ t. (false, refl))

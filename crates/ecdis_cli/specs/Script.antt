@@ -12,7 +12,7 @@ use Rattle.ecdis_cli.specs.Step.{Step, step_to, said_in, tells_failure}
 -- The shelf answers each line by itself. Where the answers have ended, it has no file.
 
 abbrev pub first_answer : List Fetches → Fetches
-first_answer [] = λ name. Some Absent
+first_answer [] = λ limit name. Some Absent
 first_answer (fetches ∷ answers) = fetches
 
 abbrev pub other_answers : List Fetches → List Fetches

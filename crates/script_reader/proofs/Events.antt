@@ -13,9 +13,9 @@ use Rattle.text_scan.specs.Number.{value_of}
 use Rattle.script_reader.specs.Word.{IsWord, is_word}
 use Rattle.script_reader.specs.Number.{IsShortNumber, is_short_number}
 use Rattle.script_reader.specs.declared.event.Event.{Event}
-use Rattle.script_reader.specs.declared.event.Event.TheVariants.{Info, Load, Rollback, Drop, Cells, Draw}
+use Rattle.script_reader.specs.declared.event.Event.TheVariants.{Info, Load, Rollback, Drop, Cells, Draw, Route}
 use Rattle.script_reader.specs.Line.{AskFor, NamesFile, Spells}
-use Rattle.script_reader.specs.Reading.{words_of, info_in, load_in, rollback_in, drop_in, draw_in, event_alone, event_with_one, event_with_two, event_of}
+use Rattle.script_reader.specs.Reading.{words_of, info_in, load_in, rollback_in, drop_in, draw_in, route_in, event_alone, event_with_one, event_with_two, event_of}
 use Rattle.script_reader.proofs.WordTests.{KeysAreTested, Decides-word, Decides-short, no_short}
 use Rattle.script_reader.proofs.Parting.{visible_unparted, digits_unparted, tested_unparted, split_one, split_two, split_three}
 
@@ -57,6 +57,11 @@ found_draw tested verb word event v e =
     let t = taken (is_key word) (Draw word) event e in
     subst (λ (x : Event). AskFor x (verb ∷ word ∷ [])) t.1 (ap (λ (l : List ℕ). l ∷ word ∷ []) v, (tested word).0 t.0)
 
+found_route : (verb word : List ℕ) (event : Event) → verb ≡ codes "route" → route_in word ≡ Some event → AskFor event (verb ∷ word ∷ [])
+found_route verb word event v e =
+    let t = taken (is_word word) (Route word) event e in
+    subst (λ (x : Event). AskFor x (verb ∷ word ∷ [])) t.1 (ap (λ (l : List ℕ). l ∷ word ∷ []) v, (Decides-word word).0 t.0)
+
 found_rollback : KeysAreTested → (verb cell digits : List ℕ) (event : Event) → verb ≡ codes "rollback" → rollback_in cell digits ≡ Some event
     → AskFor event (verb ∷ cell ∷ digits ∷ [])
 found_rollback tested verb cell digits event v e =
@@ -84,9 +89,12 @@ found_with_one tested verb word event e =
         | inl i ↦ found_load verb word event (is_verb verb (codes "load") i.0) i.1
         | inr i ↦ elim (chosen (bytes_eq verb (codes "drop")) (drop_in word) _ (Some event) i.1) [
           | inl j ↦ found_drop tested verb word event (is_verb verb (codes "drop") j.0) j.1
-          | inr j ↦ elim (chosen (bytes_eq verb (codes "draw")) (draw_in word) None (Some event) j.1) [
+          | inr j ↦ elim (chosen (bytes_eq verb (codes "draw")) (draw_in word) _ (Some event) j.1) [
             | inl k ↦ found_draw tested verb word event (is_verb verb (codes "draw") k.0) k.1
-            | inr k ↦ absurd (let none = k.1 in cc)
+            | inr k ↦ elim (chosen (bytes_eq verb (codes "route")) (route_in word) None (Some event) k.1) [
+              | inl l ↦ found_route verb word event (is_verb verb (codes "route") l.0) l.1
+              | inr l ↦ absurd (let none = l.1 in cc)
+            ]
           ]
         ]
       ]
@@ -125,6 +133,7 @@ asked_again tested (Rollback cell update) words a =
     ap event_of a.spoken ∙ rw ((tested cell).1 a.key, (Decides-short a.digits).1 a.short) (ap (λ (n : ℕ). Some (Rollback cell n)) (sym a.value))
 asked_again tested (Drop cell) words a = ap event_of a.0 ∙ rw ((tested cell).1 a.1) refl
 asked_again tested (Draw cell) words a = ap event_of a.0 ∙ rw ((tested cell).1 a.1) refl
+asked_again tested (Route name) words a = ap event_of a.0 ∙ rw ((Decides-word name).1 a.1) refl
 asked_again tested Cells words a = ap event_of a
 
 pub split_again : (event : Event) (words : List (List ℕ)) → AskFor event words → words_of (join_with_byte 32 words) ≡ words
@@ -144,6 +153,9 @@ split_again (Drop cell) words a =
 split_again (Draw cell) words a =
     ap (λ (w : List (List ℕ)). words_of (join_with_byte 32 w)) a.0
     ∙ split_two (codes "draw") cell (tested_unparted (codes "draw") refl) (visible_unparted cell a.1.visible) ∙ sym a.0
+split_again (Route name) words a =
+    ap (λ (w : List (List ℕ)). words_of (join_with_byte 32 w)) a.0
+    ∙ split_two (codes "route") name (tested_unparted (codes "route") refl) (visible_unparted name a.1.visible) ∙ sym a.0
 split_again Cells words a =
     ap (λ (w : List (List ℕ)). words_of (join_with_byte 32 w)) a ∙ split_one (codes "cells") (tested_unparted (codes "cells") refl) ∙ sym a
 
@@ -176,11 +188,17 @@ when_failed P (Err e) p = p
 pub info_read : (word name : List ℕ) → IsWord word → name ≡ word → Some (Info name) ≡ info_in word
 info_read word name is same = rw (same, (Decides-word word).1 is) refl
 
+pub route_read : (word name : List ℕ) → IsWord word → name ≡ word → Some (Route name) ≡ route_in word
+route_read word name is same = rw (same, (Decides-word word).1 is) refl
+
 pub load_read : (word name : List ℕ) → IsWord word → name ≡ word → Some (Load name) ≡ load_in word
 load_read word name is same = rw (same, (Decides-word word).1 is) refl
 
 pub info_again : (word : List ℕ) → IsWord word → info_in word ≡ Some (Info word)
 info_again word is = rw ((Decides-word word).1 is) refl
+
+pub route_again : (word : List ℕ) → IsWord word → route_in word ≡ Some (Route word)
+route_again word is = rw ((Decides-word word).1 is) refl
 
 pub load_again : (word : List ℕ) → IsWord word → load_in word ≡ Some (Load word)
 load_again word is = rw ((Decides-word word).1 is) refl
@@ -205,6 +223,11 @@ pub load_failed : {T E : Type 0} (verb word : List ℕ) (r : Result T E) → byt
     → OnErr r (load_in word ≡ Some (Load word)) → OnErr r ((event : Event) × (event_with_one verb word ≡ Some event) × NamesFile event)
 load_failed verb word r other is h = on_err_weaker r (λ e. (Load word, rw (other, is) e, tt)) h
 
+pub route_failed : {T E : Type 0} (verb word : List ℕ) (r : Result T E) → bytes_eq verb (codes "info") ≡ false → bytes_eq verb (codes "load") ≡ false
+    → bytes_eq verb (codes "drop") ≡ false → bytes_eq verb (codes "draw") ≡ false → bytes_eq verb (codes "route") ≡ true
+    → OnErr r (route_in word ≡ Some (Route word)) → OnErr r ((event : Event) × (event_with_one verb word ≡ Some event) × NamesFile event)
+route_failed verb word r info load drop draw is h = on_err_weaker r (λ e. (Route word, rw (info, load, drop, draw, is) e, tt)) h
+
 -- ---- what the line is
 
 -- the length of a line that asks for something
@@ -219,6 +242,8 @@ asked_short (Drop cell) words a =
     omega (arith, ap (λ (w : List (List ℕ)). length (join_with_byte 32 w)) a.0, length-append (codes "drop") (32 ∷ cell), a.1.short)
 asked_short (Draw cell) words a =
     omega (arith, ap (λ (w : List (List ℕ)). length (join_with_byte 32 w)) a.0, length-append (codes "draw") (32 ∷ cell), a.1.short)
+asked_short (Route name) words a =
+    omega (arith, ap (λ (w : List (List ℕ)). length (join_with_byte 32 w)) a.0, length-append (codes "route") (32 ∷ name), a.1.short)
 asked_short Cells words a = omega (arith, ap (λ (w : List (List ℕ)). length (join_with_byte 32 w)) a)
 
 pub spelled_short : (line : List ℕ) (event : Event) → Spells line event → length line ≤ 1024

@@ -6,7 +6,7 @@ use Rattle.text_scan.specs.Number.{value_of}
 use Rattle.script_reader.specs.Word.{IsWord}
 use Rattle.script_reader.specs.Number.{IsShortNumber}
 use Rattle.script_reader.specs.declared.event.Event.{Event}
-use Rattle.script_reader.specs.declared.event.Event.TheVariants.{Info, Load, Rollback, Drop, Cells, Draw}
+use Rattle.script_reader.specs.declared.event.Event.TheVariants.{Info, Load, Rollback, Drop, Cells, Draw, Route}
 
 -- `rollback`, a cell and the digits of an update's number
 pub record AskForRollback (cell : List ℕ) (update : ℕ) (words : List (List ℕ)) : Type 0 where
@@ -24,6 +24,7 @@ AskFor (Rollback cell update) words = AskForRollback cell update words
 AskFor (Drop cell) words = (words ≡ codes "drop" ∷ cell ∷ []) × IsKey cell
 AskFor Cells words = words ≡ codes "cells" ∷ []
 AskFor (Draw cell) words = (words ≡ codes "draw" ∷ cell ∷ []) × IsKey cell
+AskFor (Route name) words = (words ≡ codes "route" ∷ name ∷ []) × IsWord name
 
 -- the events that name a file
 abbrev pub NamesFile : Event → Type 0
@@ -33,6 +34,7 @@ NamesFile (Rollback cell update) = ⊥
 NamesFile (Drop cell) = ⊥
 NamesFile Cells = ⊥
 NamesFile (Draw cell) = ⊥
+NamesFile (Route name) = ⊤
 
 -- the line is such words, parted by single spaces, with nothing before the first and nothing behind the last
 pub record Spells (line : List ℕ) (event : Event) : Type 0 where

@@ -8,7 +8,7 @@ use Rattle.text_scan.specs.Number.{value_of}
 use Rattle.script_reader.specs.Word.{is_word}
 use Rattle.script_reader.specs.Number.{is_short_number}
 use Rattle.script_reader.specs.declared.event.Event.{Event}
-use Rattle.script_reader.specs.declared.event.Event.TheVariants.{Info, Load, Rollback, Drop, Cells, Draw}
+use Rattle.script_reader.specs.declared.event.Event.TheVariants.{Info, Load, Rollback, Drop, Cells, Draw, Route}
 use Rattle.script_reader.specs.declared.fault.LineFault.{LineFault}
 use Rattle.script_reader.specs.Line.{NamesFile}
 use Rattle.script_reader.specs.declared.fault.LineFault.TheVariants.{BadLine, NoMemory}
@@ -34,6 +34,9 @@ drop_in cell = if is_key cell then Some (Drop cell) else None
 abbrev pub draw_in : List ℕ → Option Event
 draw_in cell = if is_key cell then Some (Draw cell) else None
 
+abbrev pub route_in : List ℕ → Option Event
+route_in name = if is_word name then Some (Route name) else None
+
 -- a verb that takes no word, one word, or two
 abbrev pub event_alone : List ℕ → Option Event
 event_alone verb = if bytes_eq verb (codes "cells") then Some Cells else None
@@ -44,6 +47,7 @@ event_with_one verb word =
     else if bytes_eq verb (codes "load") then load_in word
     else if bytes_eq verb (codes "drop") then drop_in word
     else if bytes_eq verb (codes "draw") then draw_in word
+    else if bytes_eq verb (codes "route") then route_in word
     else None
 
 abbrev pub event_with_two : List ℕ → List ℕ → List ℕ → Option Event

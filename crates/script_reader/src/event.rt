@@ -2,9 +2,9 @@
 
 ghost use Rattle.std.specs.Prelude.{◌≡◌, IfOk, OnErr, Some};
 ghost use Rattle.script_reader.specs.declared.event.Event.{Event as EventValue};
-ghost use Rattle.script_reader.specs.declared.event.Event.TheVariants.{Info, Load};
+ghost use Rattle.script_reader.specs.declared.event.Event.TheVariants.{Info, Load, Route};
 ghost use Rattle.script_reader.specs.Line.{NamesFile};
-ghost use Rattle.script_reader.specs.Reading.{info_in, load_in, rollback_in, drop_in, draw_in};
+ghost use Rattle.script_reader.specs.Reading.{info_in, load_in, rollback_in, drop_in, draw_in, route_in};
 ghost use Rattle.script_reader.specs.Reading.{words_of, event_alone, event_with_one, event_with_two, event_of};
 
 use crate::word::Word;
@@ -27,6 +27,8 @@ pub enum Event {
     Cells,
     /// The cell is drawn.
     Draw(Key),
+    /// The dangers along the route of the file of this name are listed.
+    Route(Word),
 }
 
 /// What a verb alone asks for.
@@ -90,6 +92,17 @@ fn draw_of(cell: &[u8]) -> Option<Event>
     Some(Event::Draw(cell))
 }
 
+/// `route` and the name of a file.
+fn route_of(alloc: Global, word: &[u8]) -> Result<Option<Event>, AllocError>
+    ensures event { IfOk result (λ event. event ≡ route_in word.now) }
+    ensures memory { OnErr result (route_in word.now ≡ Some (Route word.now)) }
+{
+    match Word::from_bytes(alloc, word)? {
+        Some(name) => Ok(Some(Event::Route(name))),
+        None => Ok(None),
+    }
+}
+
 /// What a verb and one word ask for.
 fn event_with_one(alloc: Global, verb: &[u8], word: &[u8]) -> Result<Option<Event>, AllocError>
     ensures event { IfOk result (λ event. event ≡ event_with_one verb.now word.now) }
@@ -104,6 +117,8 @@ fn event_with_one(alloc: Global, verb: &[u8], word: &[u8]) -> Result<Option<Even
         Ok(drop_of(word))
     } else if verb == b"draw".as_slice() {
         Ok(draw_of(word))
+    } else if verb == b"route".as_slice() {
+        route_of(alloc, word)
     } else {
         Ok(None)
     }

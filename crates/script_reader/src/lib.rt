@@ -9,7 +9,8 @@
 //! - `rollback CELL U`: the cell goes back to an update, `ok rollback KEY EDITION UPDATE`;
 //! - `drop CELL`: the cell is taken away, `ok drop KEY`;
 //! - `cells`: what is held, `ok cells COUNT` and a line for each cell;
-//! - `draw CELL`: the drawing of the cell, `ok draw KEY COUNT` and a line for each draw instruction.
+//! - `draw CELL`: the drawing of the cell, `ok draw KEY COUNT` and a line for each draw instruction;
+//! - `route NAME`: the dangers along a route, `ok route LEGS COUNT` and a line for each danger.
 //!
 //! Nothing is replied to an empty line, nor to one that begins with `#`. Any other line is a bad line. A
 //! refusal is `no CODE`, and behind a space what it names, where it names anything.

@@ -25,6 +25,9 @@ pub enum Reply {
     Cells(u64, Octets),
     /// The drawing of this cell has so many instructions, with the lines that follow, each ended by a line feed.
     Draw(Key, u64, Octets),
+    /// So many legs of a route were checked, and so many dangers lie along them, with the lines that follow, each ended by a
+    /// line feed.
+    Route(u64, u64, Octets),
     /// The line is refused: the refusal's code, and what it names, parted by single spaces.
     Refused(u8, Octets),
 }
@@ -113,6 +116,19 @@ fn print_drawing(alloc: Global, key: &Key, count: u64, lines: &Octets) -> Result
     Ok(line)
 }
 
+/// The line of the numbers of legs and of dangers of a route, and those that follow it.
+fn print_route(alloc: Global, legs: u64, count: u64, lines: &Octets) -> Result<Octets, AllocError>
+    ensures { IfOk result (λ line. line
+        ≡ line_of (codes "ok" ∷ codes "route" ∷ number legs ∷ number count ∷ []) ++ lines.now) }
+{
+    let mut line = accepted(alloc, b"route")?;
+    push_number(alloc, &mut line, legs)?;
+    push_number(alloc, &mut line, count)?;
+    end_line(&mut line)?;
+    line.extend_from_slice(lines.as_slice())?;
+    Ok(line)
+}
+
 /// The line of a refusal.
 fn print_refusal(alloc: Global, code: u8, values: &Octets) -> Result<Octets, AllocError>
     ensures { IfOk result (λ line. line ≡ line_of (codes "no" ∷ number code ∷ words_if values.now)) }
@@ -128,8 +144,8 @@ fn print_refusal(alloc: Global, code: u8, values: &Octets) -> Result<Octets, All
     Ok(line)
 }
 
-/// The bytes of the reply: its words, parted by single spaces, and a line feed; behind `ok cells` and
-/// `ok draw` the lines that follow, as they are. Numbers are plain decimals.
+/// The bytes of the reply: its words, parted by single spaces, and a line feed; behind `ok cells`, `ok draw` and
+/// `ok route` the lines that follow, as they are. Numbers are plain decimals.
 #[tactic(auto, unfolding(crate::specs::Reply::printed))]
 pub fn print_reply(alloc: Global, reply: &Reply) -> Result<Octets, AllocError>
     ensures { IfOk result (λ bytes. bytes ≡ printed reply.now) }
@@ -146,6 +162,7 @@ pub fn print_reply(alloc: Global, reply: &Reply) -> Result<Octets, AllocError>
         Reply::Drop(key) => print_cell(alloc, b"drop", key),
         Reply::Cells(count, lines) => print_cells(alloc, *count, lines),
         Reply::Draw(key, count, lines) => print_drawing(alloc, key, *count, lines),
+        Reply::Route(legs, count, lines) => print_route(alloc, *legs, *count, lines),
         Reply::Refused(code, values) => print_refusal(alloc, *code, values),
     }
 }

@@ -41,45 +41,45 @@ passed-gives {A = A} r fault wanted passed h = subst (λ (s : Result A EventFaul
 pub are-served : (tells : Bool) (files : Files) (before now : ℕ) → AreFetched tells files before now (fetches_of files false)
 are-served tells files before now = record {
   told = λ t. (false, refl);
-  cause = λ name none. absurd (let f : ◌≡◌ {A = Option Fetched} (Some (fetched_of FILE_LIMIT (files name))) None = none in cc);
+  cause = λ limit name none. absurd (let f : ◌≡◌ {A = Option Fetched} (Some (fetched_of limit (files name))) None = none in cc);
 }
 
-are-failed : (tells : Bool) (files : Files) (before now : ℕ) → Rose before now → AreFetched tells files before now (λ name. None)
-are-failed tells files before now rose = record { told = λ t. (true, refl); cause = λ name none. rose }
+are-failed : (tells : Bool) (files : Files) (before now : ℕ) → Rose before now → AreFetched tells files before now (λ limit name. None)
+are-failed tells files before now rose = record { told = λ t. (true, refl); cause = λ limit name none. rose }
 
 -- of a shelf that doesn't tell
-are-given : (files : Files) (before now : ℕ) (fetched : Fetched) → AreFetched false files before now (λ name. Some fetched)
+are-given : (files : Files) (before now : ℕ) (fetched : Fetched) → AreFetched false files before now (λ limit name. Some fetched)
 are-given files before now fetched = record {
   told = λ t. absurd (let f : false ≡ true = t in cc);
-  cause = λ name none. absurd (let f : ◌≡◌ {A = Option Fetched} (Some fetched) None = none in cc);
+  cause = λ limit name none. absurd (let f : ◌≡◌ {A = Option Fetched} (Some fetched) None = none in cc);
 }
 
 -- a fetch that gives nothing
-pub failed-found : (tells : Bool) (files : Files) (before now : ℕ) (name : List ℕ) (r : Result (List ℕ) EventFault) (fault : ShelfError)
+pub failed-found : (tells : Bool) (files : Files) (before now limit : ℕ) (name : List ℕ) (r : Result (List ℕ) EventFault) (fault : ShelfError)
     → IsErrAnd r (λ passed. passed ≡ fault_of_shelf fault) → (IsErrOf {T = Fetched} (Err fault) of_shelf.Failed → Rose before now)
-    → (fetches : Fetches) × AreFetched tells files before now fetches × Gives r (file_in name (fetches name))
-failed-found tells files before now name r of_shelf.Failed passed cause =
-    (λ n. None, are-failed tells files before now (cause refl), passed-gives r (Refused ShelfFault) (Err ShelfFault) passed refl)
-failed-found tells files before now name r of_shelf.NoMemory passed cause =
+    → (fetches : Fetches) × AreFetched tells files before now fetches × Gives r (file_in limit name (fetches limit name))
+failed-found tells files before now limit name r of_shelf.Failed passed cause =
+    (λ l n. None, are-failed tells files before now (cause refl), passed-gives r (Refused ShelfFault) (Err ShelfFault) passed refl)
+failed-found tells files before now limit name r of_shelf.NoMemory passed cause =
     (fetches_of files false, are-served tells files before now, passed-gives r NoMemory _ passed tt)
 
 -- a fetch that answers
-pub served-found : (tells : Bool) (files : Files) (before now : ℕ) (name shown : List ℕ) (fetched : Fetched) (answer : Result (List ℕ) EventFault)
-    → shown ≡ name → (IsTrue tells → fetched ≡ fetched_of FILE_LIMIT (files shown)) → Gives answer (file_in name (Some fetched))
-    → (fetches : Fetches) × AreFetched tells files before now fetches × Gives answer (file_in name (fetches name))
-served-found true files before now name shown fetched answer same is h = (
+pub served-found : (tells : Bool) (files : Files) (before now limit : ℕ) (name shown : List ℕ) (fetched : Fetched) (answer : Result (List ℕ) EventFault)
+    → shown ≡ name → (IsTrue tells → fetched ≡ fetched_of limit (files shown)) → Gives answer (file_in limit name (Some fetched))
+    → (fetches : Fetches) × AreFetched tells files before now fetches × Gives answer (file_in limit name (fetches limit name))
+served-found true files before now limit name shown fetched answer same is h = (
   fetches_of files false,
   are-served true files before now,
-  subst (λ (f : Fetched). Gives answer (file_in name (Some f))) (is refl ∙ ap (λ (n : List ℕ). fetched_of FILE_LIMIT (files n)) same) h,
+  subst (λ (f : Fetched). Gives answer (file_in limit name (Some f))) (is refl ∙ ap (λ (n : List ℕ). fetched_of limit (files n)) same) h,
 )
-served-found false files before now name shown fetched answer same is h = (λ n. Some fetched, are-given files before now fetched, h)
+served-found false files before now limit name shown fetched answer same is h = (λ l n. Some fetched, are-given files before now fetched, h)
 
 -- ---- what a file says of itself
 
 abbrev by_file : Result (List ℕ) Refusal → Result General Refusal
 by_file file = file >>= λ bytes. or_fault_as Store (or_refused refusal_of_read (general_in bytes))
 
-info-by_file : (name : List ℕ) (o : Option Fetched) → info_of name o ≡ by_file (file_in name o)
+info-by_file : (name : List ℕ) (o : Option Fetched) → info_of name o ≡ by_file (file_in FILE_LIMIT name o)
 unfolding info_of
 info-by_file name o = refl
 
@@ -89,11 +89,11 @@ stopped DeskFault file h = tt
 stopped NoMemory file h = tt
 
 pub info-stopped : (name : List ℕ) (o : Option Fetched) (r : Result General EventFault) (fault : EventFault) → IsErrAnd r (λ passed. passed ≡ fault)
-    → Gives (Err fault) (file_in name o) → Gives r (info_of name o)
+    → Gives (Err fault) (file_in FILE_LIMIT name o) → Gives r (info_of name o)
 info-stopped name o r fault passed h =
-    subst (Gives r) (sym (info-by_file name o)) (passed-gives r fault (by_file (file_in name o)) passed (stopped fault (file_in name o) h))
+    subst (Gives r) (sym (info-by_file name o)) (passed-gives r fault (by_file (file_in FILE_LIMIT name o)) passed (stopped fault (file_in FILE_LIMIT name o) h))
 
-info-read_as : (name : List ℕ) (o : Option Fetched) (bytes shown : List ℕ) → file_in name o ≡ Ok bytes → shown ≡ bytes
+info-read_as : (name : List ℕ) (o : Option Fetched) (bytes shown : List ℕ) → file_in FILE_LIMIT name o ≡ Ok bytes → shown ≡ bytes
     → info_of name o ≡ or_fault_as Store (or_refused refusal_of_read (general_in shown))
 info-read_as name o bytes shown found same =
     info-by_file name o ∙ ap by_file found
@@ -118,13 +118,13 @@ read-fails (of_read.Dataset fault) wanted h = read-row (of_read.Dataset fault) w
 read-fails of_read.NoMemory wanted h = tt
 
 pub info-refused : (name : List ℕ) (o : Option Fetched) (bytes shown : List ℕ) (r : Result General EventFault) (fault : ReadFault)
-    → IsErrAnd r (λ passed. passed ≡ fault_of_read fault) → file_in name o ≡ Ok bytes → shown ≡ bytes → GivesRead (Err fault) (general_in shown)
+    → IsErrAnd r (λ passed. passed ≡ fault_of_read fault) → file_in FILE_LIMIT name o ≡ Ok bytes → shown ≡ bytes → GivesRead (Err fault) (general_in shown)
     → Gives r (info_of name o)
 info-refused name o bytes shown r fault passed found same h =
     subst (Gives r) (sym (info-read_as name o bytes shown found same))
     (passed-gives r (fault_of_read fault) (or_fault_as Store (or_refused refusal_of_read (general_in shown))) passed (read-fails fault (general_in shown) h))
 
-pub info-done : (name : List ℕ) (o : Option Fetched) (bytes shown : List ℕ) (general : General) → file_in name o ≡ Ok bytes → shown ≡ bytes
+pub info-done : (name : List ℕ) (o : Option Fetched) (bytes shown : List ℕ) (general : General) → file_in FILE_LIMIT name o ≡ Ok bytes → shown ≡ bytes
     → general_in shown ≡ Ok general → info_of name o ≡ Ok general
 info-done name o bytes shown general found same h =
     info-read_as name o bytes shown found same

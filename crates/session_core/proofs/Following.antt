@@ -10,7 +10,7 @@ use Rattle.chart_ports.specs.declared.shelf.Fetched.TheVariants.{Bytes, Absent, 
 use Rattle.chart_store.specs.declared.refusal.Refusal as of_store
 use Rattle.chart_store.specs.declared.refusal.Refusal.TheVariants as refuses
 use Rattle.chart_store.specs.Live.{AreLive, state_or}
-use Rattle.chart_store.specs.Loaded.{Outcome}
+use Rattle.chart_store.specs.Loaded.{FILE_LIMIT, Outcome}
 use Rattle.chart_store.specs.Outcome.{Room, accepted, need, outcome, room_within, state_with}
 use Rattle.chart_store.specs.Fault.{or_refused}
 use Rattle.chart_store.specs.Refusal.{refusal_of_read}
@@ -27,6 +27,13 @@ use Rattle.session_core.specs.General.{general_in}
 use Rattle.session_core.specs.Info.{info_of}
 use Rattle.session_core.specs.Model.{Model, model_with}
 use Rattle.session_core.specs.Refusal.{store_code}
+use Rattle.session_core.specs.Route.{ROUTE_LIMIT, checked, or_refused as or_unread, reply_along, route_of}
+use Rattle.route_check.specs.Reading.{route_in}
+use Rattle.route_check.specs.Report.{report_of}
+use Rattle.route_check.specs.declared.fault.RouteFault.{RouteFault}
+use Rattle.route_check.specs.declared.fault.RouteFault.TheVariants as of_route
+use Rattle.route_check.specs.declared.route.Route.{Route}
+use Rattle.chart_model.specs.declared.settings.Settings.{Settings}
 use Rattle.session_core.specs.Turn.{decided, drop_reply, informed, load_reply, loaded, replied, rollback_reply, turn_of}
 
 -- ---- commands
@@ -113,22 +120,24 @@ loaded-live more model (Err refusal) live = live
 pub turn-none : (fetches : Fetches) (model : Model) (event : Event) → (turn_of fetches model event).command ≡ None
     → (turn_of fetches model event).model ≡ model
 unfolding turn_of
-turn-none fetches model (asks.Info name) e = informed-same model (info_of name (fetches name))
-turn-none fetches model (asks.Load name) e = loaded-none model (file_in name (fetches name)) e
+turn-none fetches model (asks.Info name) e = informed-same model (info_of name (fetches FILE_LIMIT name))
+turn-none fetches model (asks.Load name) e = loaded-none model (file_in FILE_LIMIT name (fetches FILE_LIMIT name)) e
 turn-none fetches model (asks.Rollback key update) e =
     decided-none model (commands.Rollback key update) rollback_reply (accepted model.state model.room (commands.Rollback key update)) e
 turn-none fetches model (asks.Drop key) e =
     decided-none model (commands.Drop key) drop_reply (accepted model.state model.room (commands.Drop key)) e
 turn-none fetches model asks.Cells e = refl
 turn-none fetches model (asks.Draw key) e = replied-same model (draw_of model.portrayal model.state.cells key)
+turn-none fetches model (asks.Route name) e =
+    replied-same model (route_of model.portrayal.settings model.state name (fetches ROUTE_LIMIT name))
 
 pub turn-some : (fetches : Fetches) (model : Model) (event : Event) (command : Command)
     → (turn_of fetches model event).command ≡ Some command
     → (turn_of fetches model event).model ≡ model_with model command (state_with model.state command)
 unfolding turn_of
 turn-some fetches model (asks.Info name) command e =
-    nothing-some (informed model (info_of name (fetches name))).command command (informed-none model (info_of name (fetches name))) e
-turn-some fetches model (asks.Load name) command e = loaded-some model (file_in name (fetches name)) command e
+    nothing-some (informed model (info_of name (fetches FILE_LIMIT name))).command command (informed-none model (info_of name (fetches FILE_LIMIT name))) e
+turn-some fetches model (asks.Load name) command e = loaded-some model (file_in FILE_LIMIT name (fetches FILE_LIMIT name)) command e
 turn-some fetches model (asks.Rollback key update) command e =
     decided-some model (commands.Rollback key update) rollback_reply (accepted model.state model.room (commands.Rollback key update)) command refl e
 turn-some fetches model (asks.Drop key) command e =
@@ -137,13 +146,16 @@ turn-some fetches model asks.Cells command e = nothing-some None command refl e
 turn-some fetches model (asks.Draw key) command e =
     let reply = draw_of model.portrayal model.state.cells key in
     nothing-some (replied model reply).command command (replied-none model reply) e
+turn-some fetches model (asks.Route name) command e =
+    let reply = route_of model.portrayal.settings model.state name (fetches ROUTE_LIMIT name) in
+    nothing-some (replied model reply).command command (replied-none model reply) e
 
 pub turn-live : More → (fetches : Fetches) (model : Model) (event : Event) → AreLive model.state.cells
     → AreLive (turn_of fetches model event).model.state.cells
 unfolding turn_of
 turn-live more fetches model (asks.Info name) live =
-    subst (λ (m : Model). AreLive m.state.cells) (sym (informed-same model (info_of name (fetches name)))) live
-turn-live more fetches model (asks.Load name) live = loaded-live more model (file_in name (fetches name)) live
+    subst (λ (m : Model). AreLive m.state.cells) (sym (informed-same model (info_of name (fetches FILE_LIMIT name)))) live
+turn-live more fetches model (asks.Load name) live = loaded-live more model (file_in FILE_LIMIT name (fetches FILE_LIMIT name)) live
 turn-live more fetches model (asks.Rollback key update) live =
     decided-live model (commands.Rollback key update) rollback_reply more (accepted model.state model.room (commands.Rollback key update)) refl live
 turn-live more fetches model (asks.Drop key) live =
@@ -151,6 +163,9 @@ turn-live more fetches model (asks.Drop key) live =
 turn-live more fetches model asks.Cells live = live
 turn-live more fetches model (asks.Draw key) live =
     let same = replied-same model (draw_of model.portrayal model.state.cells key) in
+    subst (λ (m : Model). AreLive m.state.cells) (sym same) live
+turn-live more fetches model (asks.Route name) live =
+    let same = replied-same model (route_of model.portrayal.settings model.state name (fetches ROUTE_LIMIT name)) in
     subst (λ (m : Model). AreLive m.state.cells) (sym same) live
 
 -- ---- the mark of a failed fetch
@@ -209,7 +224,7 @@ load-apart values done e =
     ] e
 
 loaded-failed : (model : Model) (name : List ℕ) (o : Option Fetched) (values : List ℕ)
-    → Is72 values (loaded model (file_in name o)).reply → o ≡ None
+    → Is72 values (loaded model (file_in FILE_LIMIT name o)).reply → o ≡ None
 loaded-failed model name None values e = refl
 loaded-failed model name (Some (Bytes file)) values e =
     absurd (decided-apart model (commands.Load file) load_reply values (load-apart values) (accepted model.state model.room (commands.Load file)) e)
@@ -241,14 +256,32 @@ drawn-apart model key values e =
     drawn_by : Option CellValue → Result Reply Refusal
     drawn_by o = or_fault (Store (refuses.NoCell key)) o >>= λ chart. Ok (reply_with key (drawing_by model.portrayal chart))
 
+along-apart : (model : Model) (settings : Settings) (state : StateValue) (values : List ℕ) (r : Result Route RouteFault)
+    → Is72 values (replied model (or_unread r >>= λ route. Ok (reply_along route (report_of state settings route)))).reply → ⊥
+along-apart model settings state values (Ok route) e = cc
+along-apart model settings state values (Err (of_route.BadLine line)) e = let f : 66 ≡ 72 = code_is e in omega arith
+along-apart model settings state values (Err (of_route.Few points)) e = let f : 67 ≡ 72 = code_is e in omega arith
+along-apart model settings state values (Err (of_route.Many points)) e = let f : 68 ≡ 72 = code_is e in omega arith
+along-apart model settings state values (Err of_route.NoMemory) e = let f : 67 ≡ 72 = code_is e in omega arith
+
+route-failed : (model : Model) (settings : Settings) (state : StateValue) (name : List ℕ) (o : Option Fetched) (values : List ℕ)
+    → Is72 values (replied model (route_of settings state name o)).reply → o ≡ None
+unfolding route_of
+route-failed model settings state name None values e = refl
+route-failed model settings state name (Some (Bytes file)) values e = absurd (along-apart model settings state values (route_in file) e)
+route-failed model settings state name (Some Absent) values e = absurd (let f : 71 ≡ 72 = code_is e in omega arith)
+route-failed model settings state name (Some Long) values e = absurd (let f : 60 ≡ 72 = code_is e in omega arith)
+
 pub turn-failed : (fetches : Fetches) (model : Model) (event : Event) (values : List ℕ)
-    → (turn_of fetches model event).reply ≡ replies.Refused 72 values → (name : List ℕ) × (fetches name ≡ None)
+    → (turn_of fetches model event).reply ≡ replies.Refused 72 values → (limit : ℕ) × ((name : List ℕ) × (fetches limit name ≡ None))
 unfolding turn_of
-turn-failed fetches model (asks.Info name) values e = (name, informed-failed model name (fetches name) values e)
-turn-failed fetches model (asks.Load name) values e = (name, loaded-failed model name (fetches name) values e)
+turn-failed fetches model (asks.Info name) values e = (FILE_LIMIT, name, informed-failed model name (fetches FILE_LIMIT name) values e)
+turn-failed fetches model (asks.Load name) values e = (FILE_LIMIT, name, loaded-failed model name (fetches FILE_LIMIT name) values e)
 turn-failed fetches model (asks.Rollback key update) values e =
     absurd (decided-apart model (commands.Rollback key update) rollback_reply values (λ done f. cc) (accepted model.state model.room (commands.Rollback key update)) e)
 turn-failed fetches model (asks.Drop key) values e =
     absurd (decided-apart model (commands.Drop key) drop_reply values (λ done f. cc) (accepted model.state model.room (commands.Drop key)) e)
 turn-failed fetches model asks.Cells values e = absurd cc
 turn-failed fetches model (asks.Draw key) values e = absurd (drawn-apart model key values e)
+turn-failed fetches model (asks.Route name) values e =
+    (ROUTE_LIMIT, name, route-failed model model.portrayal.settings model.state name (fetches ROUTE_LIMIT name) values e)

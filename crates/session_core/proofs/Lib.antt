@@ -2,3 +2,4 @@ pub mod Joining
 pub mod Fetching
 pub mod Turning
 pub mod Following
+pub mod Checking

@@ -8,7 +8,7 @@ use Rattle.chart_ports.specs.Moments.{LeavesOnly, MayBeLeft}
 use Rattle.chart_ports.specs.declared.images.Images.{Images}
 use Rattle.chart_ports.proofs.Moments.{started}
 use Rattle.chart_store.specs.Images.{StandFor}
-use Rattle.chart_store.specs.Loaded.{HoldingsByKey}
+use Rattle.chart_store.specs.Loaded.{FILE_LIMIT, HoldingsByKey}
 use Rattle.chart_store.specs.Store.{StandsForEither}
 use Rattle.script_reader.specs.declared.event.Event.{Event}
 use Rattle.script_reader.specs.declared.event.Event.TheVariants as asks
@@ -24,6 +24,7 @@ use Rattle.session_core.specs.Fetch.{Fetches, file_in}
 use Rattle.session_core.specs.Info.{info_of}
 use Rattle.session_core.specs.Listing.{listing}
 use Rattle.session_core.specs.Model.{Model}
+use Rattle.session_core.specs.Route.{ROUTE_LIMIT, route_of}
 use Rattle.session_core.specs.Session.{GivesEvent, Turned}
 use Rattle.session_core.specs.Turn.{Turn, commanded, drop_reply, informed, load_reply, loaded, replied, rollback_reply, turn_of}
 use Rattle.session_core.proofs.Fetching.{passed-is}
@@ -70,7 +71,7 @@ module _ (A : Fetches → Type 0) (L : (Images → List ℕ → Type 0) → Type
 
   pub info-fails : (name : List ℕ) (r : Result Reply EventFault) (fault : EventFault) → event ≡ asks.Info name
       → IsErrAnd r (λ passed. passed ≡ fault)
-      → ((fetches : Fetches) × A fetches × Gives {A = General} (Err fault) (info_of name (fetches name)))
+      → ((fetches : Fetches) × A fetches × Gives {A = General} (Err fault) (info_of name (fetches FILE_LIMIT name)))
       → ((after : StateValue) → L (StandsForEither said before.state after))
       → Turned A L said event before (GivesEvent r before before)
   unfolding turn_of
@@ -78,13 +79,13 @@ module _ (A : Fetches → Type 0) (L : (Images → List ℕ → Type 0) → Type
       asked (GivesEvent r before before) (asks.Info name) is (record {
         fetches = found.0;
         answers = found.1;
-        gives = passed-event r fault before before (informed before (info_of name (found.0 name))) passed
-            (informed-fails before fault (info_of name (found.0 name)) found.2);
-        leaves = leaves (informed before (info_of name (found.0 name))).model.state;
+        gives = passed-event r fault before before (informed before (info_of name (found.0 FILE_LIMIT name))) passed
+            (informed-fails before fault (info_of name (found.0 FILE_LIMIT name)) found.2);
+        leaves = leaves (informed before (info_of name (found.0 FILE_LIMIT name))).model.state;
       })
 
   pub info-tells : (name : List ℕ) (general : General) → event ≡ asks.Info name
-      → ((fetches : Fetches) × A fetches × (info_of name (fetches name) ≡ Ok general))
+      → ((fetches : Fetches) × A fetches × (info_of name (fetches FILE_LIMIT name) ≡ Ok general))
       → ((after : StateValue) → L (StandsForEither said before.state after))
       → Turned A L said event before
       (GivesEvent (Ok (replies.Info general.key general.edition general.update general.records)) before before)
@@ -97,12 +98,12 @@ module _ (A : Fetches → Type 0) (L : (Images → List ℕ → Type 0) → Type
           ap (λ (o : Result General Refusal). (informed before o).reply) found.2,
           ap (λ (o : Result General Refusal). (informed before o).model) found.2,
         );
-        leaves = leaves (informed before (info_of name (found.0 name))).model.state;
+        leaves = leaves (informed before (info_of name (found.0 FILE_LIMIT name))).model.state;
       })
 
   pub load-fails : (name : List ℕ) (r : Result Reply EventFault) (fault : EventFault) → event ≡ asks.Load name
       → IsErrAnd r (λ passed. passed ≡ fault)
-      → ((fetches : Fetches) × A fetches × Gives {A = List ℕ} (Err fault) (file_in name (fetches name)))
+      → ((fetches : Fetches) × A fetches × Gives {A = List ℕ} (Err fault) (file_in FILE_LIMIT name (fetches FILE_LIMIT name)))
       → ((after : StateValue) → L (StandsForEither said before.state after))
       → Turned A L said event before (GivesEvent r before before)
   unfolding turn_of
@@ -110,14 +111,14 @@ module _ (A : Fetches → Type 0) (L : (Images → List ℕ → Type 0) → Type
       asked (GivesEvent r before before) (asks.Load name) is (record {
         fetches = found.0;
         answers = found.1;
-        gives = passed-event r fault before before (loaded before (file_in name (found.0 name))) passed
-            (loaded-fails before fault (file_in name (found.0 name)) found.2);
-        leaves = leaves (loaded before (file_in name (found.0 name))).model.state;
+        gives = passed-event r fault before before (loaded before (file_in FILE_LIMIT name (found.0 FILE_LIMIT name))) passed
+            (loaded-fails before fault (file_in FILE_LIMIT name (found.0 FILE_LIMIT name)) found.2);
+        leaves = leaves (loaded before (file_in FILE_LIMIT name (found.0 FILE_LIMIT name))).model.state;
       })
 
   -- what comes of the command of a file that was fetched
   pub load-turns : (name file : List ℕ) (r : Result Reply EventFault) (now : Model) → event ≡ asks.Load name
-      → ((fetches : Fetches) × A fetches × (file_in name (fetches name) ≡ Ok file))
+      → ((fetches : Fetches) × A fetches × (file_in FILE_LIMIT name (fetches FILE_LIMIT name) ≡ Ok file))
       → GivesEvent r before now (commanded before (commands.Load file) load_reply)
       → L (StandsForEither said before.state (commanded before (commands.Load file) load_reply).model.state)
       → Turned A L said event before (GivesEvent r before now)
@@ -162,6 +163,20 @@ module _ (A : Fetches → Type 0) (L : (Images → List ℕ → Type 0) → Type
         gives = replied-gives before r (draw_of before.portrayal before.state.cells key)
             (subst (λ (held : HoldingsByKey). Gives {A = Reply} r (draw_of before.portrayal held key)) same given);
         leaves = leaves (replied before (draw_of before.portrayal before.state.cells key)).model.state;
+      })
+
+  pub route-gives : (name : List ℕ) (state : StateValue) (r : Result Reply EventFault) → event ≡ asks.Route name → state ≡ before.state
+      → ((fetches : Fetches) × A fetches × Gives {A = Reply} r (route_of before.portrayal.settings state name (fetches ROUTE_LIMIT name)))
+      → ((after : StateValue) → L (StandsForEither said before.state after))
+      → Turned A L said event before (GivesEvent r before before)
+  unfolding turn_of
+  route-gives name state r is same found leaves =
+      asked (GivesEvent r before before) (asks.Route name) is (record {
+        fetches = found.0;
+        answers = found.1;
+        gives = replied-gives before r (route_of before.portrayal.settings before.state name (found.0 ROUTE_LIMIT name))
+            (subst (λ (s : StateValue). Gives {A = Reply} r (route_of before.portrayal.settings s name (found.0 ROUTE_LIMIT name))) same found.2);
+        leaves = leaves (replied before (route_of before.portrayal.settings before.state name (found.0 ROUTE_LIMIT name))).model.state;
       })
 
   pub cells-fail : (fetches : Fetches) (r : Result Reply EventFault) → event ≡ asks.Cells → A fetches

@@ -7,5 +7,6 @@ pub mod Refusal
 pub mod Answers
 pub mod Model
 pub mod Draw
+pub mod Route
 pub mod Turn
 pub mod Session

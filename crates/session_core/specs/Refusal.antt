@@ -7,7 +7,7 @@ use Rattle.script_reader.specs.Reply.{number}
 use Rattle.script_reader.specs.declared.reply.Reply.{Reply}
 use Rattle.script_reader.specs.declared.reply.Reply.TheVariants.{Refused}
 use Rattle.session_core.specs.declared.refusal.Refusal.{Refusal}
-use Rattle.session_core.specs.declared.refusal.Refusal.TheVariants.{BadLine, NoFile, ShelfFault, Store}
+use Rattle.session_core.specs.declared.refusal.Refusal.TheVariants.{RouteLine, RouteFew, RouteMany, BadLine, NoFile, ShelfFault, Store}
 
 -- numbers as they are printed
 abbrev pub numbers : List ℕ → List (List ℕ)
@@ -89,6 +89,9 @@ store_values (refuses.NoUpdate key update) = key ∷ number update ∷ []
 
 -- the number that says why a line is refused
 abbrev pub code_of : Refusal → ℕ
+code_of (RouteLine line) = 66
+code_of (RouteFew points) = 67
+code_of (RouteMany points) = 68
 code_of (BadLine line) = 70
 code_of (NoFile name) = 71
 code_of ShelfFault = 72
@@ -96,6 +99,9 @@ code_of (Store refusal) = store_code refusal
 
 -- what it names
 abbrev pub values_of : Refusal → List (List ℕ)
+values_of (RouteLine line) = numbers (line ∷ [])
+values_of (RouteFew points) = numbers (points ∷ [])
+values_of (RouteMany points) = numbers (points ∷ [])
 values_of (BadLine line) = numbers (line ∷ [])
 values_of (NoFile name) = name ∷ []
 values_of ShelfFault = []

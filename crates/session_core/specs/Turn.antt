@@ -4,7 +4,7 @@ use Rattle.std.specs.FinMap as map
 use Rattle.chart_model.specs.declared.command.Command.{Command}
 use Rattle.chart_model.specs.declared.command.Command.TheVariants as commands
 use Rattle.chart_store.specs.declared.refusal.Refusal as of_store
-use Rattle.chart_store.specs.Loaded.{Outcome}
+use Rattle.chart_store.specs.Loaded.{FILE_LIMIT, Outcome}
 use Rattle.chart_store.specs.Outcome.{accepted}
 use Rattle.script_reader.specs.declared.event.Event.{Event}
 use Rattle.script_reader.specs.declared.event.Event.TheVariants as asks
@@ -19,6 +19,7 @@ use Rattle.session_core.specs.Info.{info_of}
 use Rattle.session_core.specs.Listing.{listing}
 use Rattle.session_core.specs.Model.{Model, model_with}
 use Rattle.session_core.specs.Refusal.{reply_of}
+use Rattle.session_core.specs.Route.{ROUTE_LIMIT, route_of}
 
 -- what is replied, the command that is accepted, where one is, and the model after it
 pub record Turn : Type 0 where
@@ -73,10 +74,12 @@ loaded model (Err refusal) = refused model refusal
 
 -- the turn of each event, by what the shelf answers
 unfoldable pub turn_of : Fetches → Model → Event → Turn
-turn_of fetches model (asks.Info name) = informed model (info_of name (fetches name))
-turn_of fetches model (asks.Load name) = loaded model (file_in name (fetches name))
+turn_of fetches model (asks.Info name) = informed model (info_of name (fetches FILE_LIMIT name))
+turn_of fetches model (asks.Load name) = loaded model (file_in FILE_LIMIT name (fetches FILE_LIMIT name))
 turn_of fetches model (asks.Rollback key update) = commanded model (commands.Rollback key update) rollback_reply
 turn_of fetches model (asks.Drop key) = commanded model (commands.Drop key) drop_reply
 turn_of fetches model asks.Cells =
     answered model (replies.Cells (map.len model.state.cells) (listing model.state.cells))
 turn_of fetches model (asks.Draw key) = replied model (draw_of model.portrayal model.state.cells key)
+turn_of fetches model (asks.Route name) =
+    replied model (route_of model.portrayal.settings model.state name (fetches ROUTE_LIMIT name))

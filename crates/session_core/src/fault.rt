@@ -7,6 +7,7 @@ ghost use Rattle.session_core.specs.declared.fault.TurnFault.TheVariants.{NoMemo
 use crate::refusal::Refusal;
 use chart_ports::ShelfError;
 use chart_store::{SubmitFault, TakeFault};
+use route_check::RouteFault;
 use std::alloc::{AllocError, AllocFailed};
 use thiserror::Error;
 use update_sequence::ReadFault;
@@ -80,6 +81,22 @@ impl From<ReadFault> for EventFault {
         match TakeFault::from(fault) {
             TakeFault::Refused(refusal) => EventFault::Refused(Refusal::Store(refusal)),
             TakeFault::NoMemory => EventFault::NoMemory,
+        }
+    }
+}
+
+impl From<RouteFault> for EventFault {
+    ghost use Rattle.std.specs.Prelude.{◌≡◌};
+    ghost use Rattle.session_core.specs.Route.{fault_of_route};
+
+    ghost from_gives = { λ fault e. e ≡ fault_of_route fault };
+
+    fn from(fault: RouteFault) -> EventFault {
+        match fault {
+            RouteFault::BadLine(line) => EventFault::Refused(Refusal::RouteLine(line)),
+            RouteFault::Few(points) => EventFault::Refused(Refusal::RouteFew(points)),
+            RouteFault::Many(points) => EventFault::Refused(Refusal::RouteMany(points)),
+            RouteFault::NoMemory => EventFault::NoMemory,
         }
     }
 }

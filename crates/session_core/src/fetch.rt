@@ -9,34 +9,39 @@ use crate::fault::EventFault;
 use crate::refusal::Refusal;
 use chart_model::Octets;
 use chart_ports::{Fetched, Shelf};
-use chart_store::{FILE_LIMIT, Refusal as StoreRefusal};
+use chart_store::Refusal as StoreRefusal;
 use script_reader::Word;
 use std::alloc::Global;
 
-/// The bytes of the file that a shelf answered with.
-fn file_in(name: Word, fetched: Fetched) -> Result<Octets, EventFault>
-    ensures given { Gives result (file_in name (Some fetched)) }
+/// The bytes of the file that a shelf answered with, of at most so many.
+fn file_in(name: Word, limit: u64, fetched: Fetched) -> Result<Octets, EventFault>
+    ensures given { Gives result (file_in limit name (Some fetched)) }
     ensures desk { result ≢ Err DeskFault }
 {
     match fetched {
         Fetched::Bytes(bytes) => Ok(Octets::from_vec(bytes.into_vec())),
         Fetched::Absent => Err(EventFault::Refused(Refusal::NoFile(name))),
         Fetched::Long => {
-            let refusal = StoreRefusal::FileLong(FILE_LIMIT);
+            let refusal = StoreRefusal::FileLong(limit);
             Err(EventFault::Refused(Refusal::Store(refusal)))
         }
     }
 }
 
-/// The file of this name.
-pub fn fetch<L: Shelf>(alloc: Global, name: Word, shelf: &mut L) -> Result<Octets, EventFault>
+/// The file of this name, where it has at most so many bytes.
+pub fn fetch<L: Shelf>(
+    alloc: Global,
+    name: Word,
+    limit: u64,
+    shelf: &mut L,
+) -> Result<Octets, EventFault>
     ensures found { (fetches : Fetches)
         × AreFetched L.tells (L.files shelf.old) (L.faults shelf.old) (L.faults shelf.new) fetches
-        × Gives result (file_in name (fetches name)) }
+        × Gives result (file_in limit name (fetches limit name)) }
     ensures desk { result ≢ Err DeskFault }
     ensures same { IsTrue L.tells → L.files shelf.new ≡ L.files shelf.old }
     ensures later { L.faults shelf.old ≤ L.faults shelf.new }
 {
-    let fetched = shelf.fetch(alloc, name.as_str(), FILE_LIMIT)?;
-    file_in(name, fetched)
+    let fetched = shelf.fetch(alloc, name.as_str(), limit)?;
+    file_in(name, limit, fetched)
 }

@@ -4,12 +4,14 @@ ghost use Rattle.std.specs.Prelude.{◌≡◌, ◌≢◌, ◌≤◌, Err, IsTrue
 ghost use Rattle.session_core.specs.declared.fault.EventFault.TheVariants.{DeskFault};
 ghost use Rattle.session_core.specs.Answers.{Gives};
 ghost use Rattle.session_core.specs.Fetch.{AreFetched, Fetches};
+ghost use Rattle.chart_store.specs.Loaded.{FILE_LIMIT as LIMIT};
 ghost use Rattle.session_core.specs.Info.{info_of};
 
 use crate::fault::EventFault;
 use crate::fetch::fetch;
 use crate::general::{General, read_general};
 use chart_ports::{Shelf, Steps};
+use chart_store::FILE_LIMIT;
 use script_reader::Word;
 use std::alloc::Global;
 use std::sync::ledger::Ledger;
@@ -23,11 +25,11 @@ pub fn inform<L: Shelf, C: Ledger>(
 ) -> Result<General, EventFault>
     ensures found { (fetches : Fetches)
         × AreFetched L.tells (L.files shelf.old) (L.faults shelf.old) (L.faults shelf.new) fetches
-        × Gives result (info_of name (fetches name)) }
+        × Gives result (info_of name (fetches LIMIT name)) }
     ensures desk { result ≢ Err DeskFault }
     ensures same { IsTrue L.tells → L.files shelf.new ≡ L.files shelf.old }
     ensures later { L.faults shelf.old ≤ L.faults shelf.new }
 {
-    let bytes = fetch(alloc, name, shelf)?;
+    let bytes = fetch(alloc, name, FILE_LIMIT, shelf)?;
     Ok(read_general(alloc, bytes.as_slice(), steps)?)
 }

@@ -25,7 +25,8 @@ pub fn turns_follow_their_commands()
     ensures live { (fetches : Fetches) (model : Model) (event : Event) →
         AreLive model.state.cells → AreLive (turn_of fetches model event).model.state.cells }
     ensures failed { (fetches : Fetches) (model : Model) (event : Event) (values : List ℕ) →
-        (turn_of fetches model event).reply ≡ Refused 72 values → (name : List ℕ) × (fetches name ≡ None) }
+        (turn_of fetches model event).reply ≡ Refused 72 values →
+        (limit : ℕ) × ((name : List ℕ) × (fetches limit name ≡ None)) }
 {
     commands_leave_what_is_held();
 }

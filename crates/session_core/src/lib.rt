@@ -13,6 +13,7 @@ mod general;
 mod info;
 mod laws;
 mod refusal;
+mod route;
 mod session;
 mod values;
 

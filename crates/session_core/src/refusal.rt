@@ -13,6 +13,12 @@ use std::alloc::{AllocError, Global};
 /// Why a line is refused: with its code, what it names.
 #[derive(Debug, Drop)]
 pub enum Refusal {
+    /// 66: the line of this number of a route's file is no box, or no point.
+    RouteLine(u64),
+    /// 67: a route has so many points, which are fewer than 2.
+    RouteFew(u64),
+    /// 68: a route has so many points, which are more than 1,000.
+    RouteMany(u64),
     /// 70: the line of this number asks for nothing that there is.
     BadLine(u64),
     /// 71: there is no file of this name.
@@ -181,6 +187,9 @@ impl Refusal {
         ensures { result ≡ code_of self.now }
     {
         match self {
+            Refusal::RouteLine(_) => 66,
+            Refusal::RouteFew(_) => 67,
+            Refusal::RouteMany(_) => 68,
             Refusal::BadLine(_) => 70,
             Refusal::NoFile(_) => 71,
             Refusal::ShelfFault => 72,
@@ -193,7 +202,10 @@ impl Refusal {
         ensures { IfOk result (λ values. values ≡ join_with_byte 32 (values_of self.now)) }
     {
         match self {
-            Refusal::BadLine(number) => join(alloc, &[Value::Number(*number)]),
+            Refusal::RouteLine(number)
+            | Refusal::RouteFew(number)
+            | Refusal::RouteMany(number)
+            | Refusal::BadLine(number) => join(alloc, &[Value::Number(*number)]),
             Refusal::NoFile(name) => join(alloc, &[Value::Text(name.as_str().as_bytes())]),
             Refusal::ShelfFault => join(alloc, &[]),
             Refusal::Store(refusal) => store_values(alloc, refusal),

@@ -10,9 +10,10 @@ use crate::draw::draw;
 use crate::fault::{EventFault, TurnFault};
 use crate::fetch::fetch;
 use crate::info::inform;
+use crate::route::check_route;
 use chart_model::{Command, Settings};
 use chart_ports::{Desk, Shelf, Steps};
-use chart_store::{Accepted, Store, kept_stores_are_read};
+use chart_store::{Accepted, FILE_LIMIT, Store, kept_stores_are_read};
 use lookup_table::Table;
 use script_reader::{Event, Reply};
 use std::alloc::{AllocError, Global};
@@ -140,7 +141,7 @@ impl Session {
                 ))
             }
             Event::Load(name) => {
-                let file = fetch(alloc, name, shelf)?;
+                let file = fetch(alloc, name, FILE_LIMIT, shelf)?;
                 let done = self.submit(alloc, Command::Load(file), desk, steps)?;
                 Ok(load_reply(&done))
             }
@@ -159,6 +160,10 @@ impl Session {
             Event::Draw(key) => {
                 let cells = &self.store.state().cells;
                 draw(alloc, key, cells, &self.table, &self.settings, steps)
+            }
+            Event::Route(name) => {
+                let state = self.store.state();
+                check_route(alloc, name, state, &self.settings, shelf)
             }
         }
     }

@@ -6,7 +6,7 @@ use Rattle.session_core.specs.Fetch.{fetches_of}
 use Rattle.session_core.specs.Session.{model_of, store_of}
 use Rattle.session_core.specs.Turn.{drop_reply, load_reply, rollback_reply}
 use Rattle.session_core.proofs.Fetching.{are-served}
-use Rattle.session_core.proofs.Turning.{no-call, passed-event, info-fails, info-tells, load-fails, load-turns, rollback-turns, drop-turns, cells-fail, cells-tell, draw-gives}
+use Rattle.session_core.proofs.Turning.{no-call, passed-event, info-fails, info-tells, load-fails, load-turns, rollback-turns, drop-turns, cells-fail, cells-tell, draw-gives, route-gives}
 use Rattle.session_core.proofs.session.Session.carry_out.Goals as goal
 
 pub returns-in_err-general-in-Info-clause-turned : goal.returns-in_err-general-in-Info-clause-turned
@@ -98,6 +98,14 @@ returns-in-Draw-clause-turned g c =
     let same : c.behind-self-in-Draw.inside.cells ≡ (model_of c.args.self.now).state.cells = ap (λ (s : StateValue). s.cells) (c.behind-self-in-Draw.view_is ∙ c.state-in-Draw.ensures.state) in
     draw-gives _ _ _ c.args.event (model_of c.args.self.now) (fetches_of (g.L.Shelf.files c.args.shelf.now) false) c.behind-self-in-Draw.inside.cells c.in-Draw.key c.draw.result c.in-Draw.is
     (are-served g.L.Shelf.tells (g.L.Shelf.files c.args.shelf.now) _ _) same c.draw.ensures.given (λ after tells.
+    no-call g.D.Desk.clock g.D.Desk.might c.args.desk.now (g.D.Desk.may_leave c.args.desk.now) (g.D.Desk.said c.args.desk.now)
+    (model_of c.args.self.now).state after
+    (λ images bytes left. g.met.D.Desk.only_now c.args.desk.now images bytes tells left)
+    (λ images left. c.kept_stores_are_read.ensures.stands c.args.desk.now (store_of c.args.self.now) images (c.requires.kept tells) left))
+
+pub returns-in-Route-clause-turned : goal.returns-in-Route-clause-turned
+returns-in-Route-clause-turned g c =
+    route-gives _ _ _ c.args.event (model_of c.args.self.now) c.in-Route.name c.state-in-Route.result.now c.check_route.result c.in-Route.is c.state-in-Route.ensures.state c.check_route.ensures.found (λ after tells.
     no-call g.D.Desk.clock g.D.Desk.might c.args.desk.now (g.D.Desk.may_leave c.args.desk.now) (g.D.Desk.said c.args.desk.now)
     (model_of c.args.self.now).state after
     (λ images bytes left. g.met.D.Desk.only_now c.args.desk.now images bytes tells left)
