@@ -30,7 +30,7 @@ const CATALOGUE: &[u8] = b"O 42 DEPARE\nA 87 DRVAL1\n";
 const TABLE: &[u8] = b"DEPARE A 1 - AC(DEPVS)\n";
 
 /// A script, and which calls fail: numbers from 1, or 0 for none.
-#[derive(Clone, Copy, Debug)]
+#[derive(Clone, Copy)]
 struct Case<'a> {
     catalogue: Option<&'a [u8]>,
     table: Option<&'a [u8]>,
@@ -162,203 +162,241 @@ fn line(alloc: Global, front: &[u8], count: usize) -> Result<Vec<u8>, AllocError
     Ok(line)
 }
 
-#[test]
-fn answers_lines(rt: HostRuntime) -> Result<(), Fail> {
-    let alloc = rt.alloc();
+/// Whether the run ends with this status, and says this.
+fn ends(alloc: Global, case: &Case, status: Status, said: &[u8]) -> Result<bool, AllocError> {
     let words = words(alloc)?;
-    let cases: [(&[u8], &[u8]); 9] = [
-        (b"info AA5TEST1.000\n", b"ok info AA5TEST1 1 0 1\n"),
-        (b"info AA5TEST1.000\r\n", b"ok info AA5TEST1 1 0 1\n"),
-        (b"info AA5TEST1.000", b"ok info AA5TEST1 1 0 1\n"),
-        // A carriage return is removed only before a line feed, and only one.
-        (b"info EMPTY\r\r\ninfo EMPTY\r", b"no 70 1\nno 70 2\n"),
-        (
-            b"info EMPTY\ninfo NONE\ninfo LABELS\ninfo EDITION\ninfo ALONE\n",
-            b"no 10 0\nno 71 NONE\nno 14 DSID\nno 22 1 EDTN\nno 20\n",
-        ),
-        (
-            b"cells\nload NONE\nload EMPTY\nload AA5TEST1.000\ncells \ncells\n",
-            b"ok cells 0\nno 71 NONE\nno 10 0\nno 23 DSPM\nno 70 5\nok cells 0\n",
-        ),
-        (b"", b""),
-        (b"\n\r\n#info\n#\n \n", b"no 70 5\n"),
-        (
-            b"info\ninfo \ninfo  A\ninfo A \ninfo A B\nINFO A\ninfo A\x7F\ninfo \x80\ninfo !~\n",
-            b"no 70 1\nno 70 2\nno 70 3\nno 70 4\nno 70 5\nno 70 6\nno 70 7\nno 70 8\nno 71 !~\n",
-        ),
-    ];
-    for (script, said) in cases {
-        for slow in [false, true] {
-            let case = Case {
-                slow,
-                ..Case::of(script)
-            };
-            let outcome = outcome(alloc, &words, &case)?;
-            assert_eq!(rt; outcome.0, Status::Done);
-            assert_eq!(rt; outcome.1.as_slice(), said);
+    let outcome = outcome(alloc, &words, case)?;
+    Ok(outcome.0 == status && outcome.1.as_slice() == said)
+}
+
+/// A script, and what is said.
+type Answer = (&'static [u8], &'static [u8]);
+
+/// The number of the first script to whose end the run doesn't come, or that it answers otherwise.
+fn first_wrong(alloc: Global, answers: &[Answer], slow: bool) -> Result<Option<usize>, AllocError> {
+    for (at, (script, said)) in answers.iter().enumerate() {
+        let case = Case {
+            slow,
+            ..Case::of(script)
+        };
+        if !ends(alloc, &case, Status::Done, said)? {
+            return Ok(Some(at));
         }
     }
+    Ok(None)
+}
+
+static LINES: [Answer; 9] = [
+    (b"info AA5TEST1.000\n", b"ok info AA5TEST1 1 0 1\n"),
+    (b"info AA5TEST1.000\r\n", b"ok info AA5TEST1 1 0 1\n"),
+    (b"info AA5TEST1.000", b"ok info AA5TEST1 1 0 1\n"),
+    // A carriage return is removed only before a line feed, and only one.
+    (b"info EMPTY\r\r\ninfo EMPTY\r", b"no 70 1\nno 70 2\n"),
+    (
+        b"info EMPTY\ninfo NONE\ninfo LABELS\ninfo EDITION\ninfo ALONE\n",
+        b"no 10 0\nno 71 NONE\nno 14 DSID\nno 22 1 EDTN\nno 20\n",
+    ),
+    (
+        b"cells\nload NONE\nload EMPTY\nload AA5TEST1.000\ncells \ncells\n",
+        b"ok cells 0\nno 71 NONE\nno 10 0\nno 23 DSPM\nno 70 5\nok cells 0\n",
+    ),
+    (b"", b""),
+    (b"\n\r\n#info\n#\n \n", b"no 70 5\n"),
+    (
+        b"info\ninfo \ninfo  A\ninfo A \ninfo A B\nINFO A\ninfo A\x7F\ninfo \x80\ninfo !~\n",
+        b"no 70 1\nno 70 2\nno 70 3\nno 70 4\nno 70 5\nno 70 6\nno 70 7\nno 70 8\nno 71 !~\n",
+    ),
+];
+
+#[test]
+fn answers_lines(rt: HostRuntime) -> Result<(), Fail> {
+    assert_eq!(rt; first_wrong(rt.alloc(), &LINES, false)?, None);
+    assert_eq!(rt; first_wrong(rt.alloc(), &LINES, true)?, None);
     Ok(())
 }
+
+/// The front of a line, the number of bytes `x` behind it, and what is said.
+static LONG_LINES: [(&[u8], usize, &[u8]); 6] = [
+    (b"info ", 256, b"no 70 1\n"),
+    (b"", 1024, b"no 70 1\n"),
+    (b"", 1025, b"no 70 1\n"),
+    (b"", 2000, b"no 70 1\n"),
+    (b"#", 1023, b""),
+    (b"#", 2000, b""),
+];
 
 #[test]
 fn answers_long_lines(rt: HostRuntime) -> Result<(), Fail> {
-    let alloc = rt.alloc();
-    let words = words(alloc)?;
-    let cases: [(&[u8], usize, &[u8]); 6] = [
-        (b"info ", 256, b"no 70 1\n"),
-        (b"", 1024, b"no 70 1\n"),
-        (b"", 1025, b"no 70 1\n"),
-        (b"", 2000, b"no 70 1\n"),
-        (b"#", 1023, b""),
-        (b"#", 2000, b""),
-    ];
-    let name = line(alloc, b"info ", 255)?;
-    let reply = line(alloc, b"no 71 ", 255)?;
-    let longest = outcome(alloc, &words, &Case::of(name.as_slice()))?;
-    assert_eq!(rt; longest.0, Status::Done);
-    assert_eq!(rt; longest.1.as_slice(), reply.as_slice());
-    for (front, count, said) in cases {
-        let script = line(alloc, front, count)?;
-        let outcome = outcome(alloc, &words, &Case::of(script.as_slice()))?;
-        assert_eq!(rt; outcome.0, Status::Done);
-        assert_eq!(rt; outcome.1.as_slice(), said);
+    for (at, (front, count, said)) in LONG_LINES.iter().enumerate() {
+        let script = line(rt.alloc(), front, *count)?;
+        let case = Case::of(script.as_slice());
+        assert!(rt; ends(rt.alloc(), &case, Status::Done, said)?, "case {at}");
     }
     Ok(())
 }
 
 #[test]
+fn answers_the_longest_name(rt: HostRuntime) -> Result<(), Fail> {
+    let script = line(rt.alloc(), b"info ", 255)?;
+    let said = line(rt.alloc(), b"no 71 ", 255)?;
+    let case = Case::of(script.as_slice());
+    assert!(rt; ends(rt.alloc(), &case, Status::Done, said.as_slice())?);
+    Ok(())
+}
+
+/// Three lines, and the same from a source that gives one byte a pull.
+const WHOLE: Case<'static> = Case {
+    catalogue: Some(CATALOGUE),
+    table: Some(TABLE),
+    script: b"info AA5TEST1.000\ninfo NONE\nx\n",
+    slow: false,
+    large: false,
+    pull: 0,
+    fetch: 0,
+    desk: 0,
+};
+
+/// The status with which a case ends, and what is said.
+static FAILURES: [(Case<'static>, Status, &[u8]); 11] = [
+    // The shelf fails at the catalogue, and at the table.
+    (Case { fetch: 1, ..WHOLE }, Status::ShelfFault, b""),
+    (Case { fetch: 2, ..WHOLE }, Status::ShelfFault, b""),
+    // The shelf fails once behind them, and the run goes on.
+    (
+        Case { fetch: 3, ..WHOLE },
+        Status::Done,
+        b"no 72\nno 71 NONE\nno 70 3\n",
+    ),
+    (
+        Case { fetch: 4, ..WHOLE },
+        Status::Done,
+        b"ok info AA5TEST1 1 0 1\nno 72\nno 70 3\n",
+    ),
+    // The source fails at the start, and, a byte a pull, in the middle of the second line.
+    (Case { pull: 1, ..WHOLE }, Status::ScriptFault, b""),
+    (
+        Case {
+            pull: 20,
+            slow: true,
+            ..WHOLE
+        },
+        Status::ScriptFault,
+        b"ok info AA5TEST1 1 0 1\n",
+    ),
+    // The source fails at its end, where every line was answered.
+    (
+        Case { pull: 2, ..WHOLE },
+        Status::ScriptFault,
+        b"ok info AA5TEST1 1 0 1\nno 71 NONE\nno 70 3\n",
+    ),
+    // The desk fails while the store is opened, and at each reply, of which it says a half.
+    (Case { desk: 1, ..WHOLE }, Status::DeskFault, b""),
+    (Case { desk: 8, ..WHOLE }, Status::DeskFault, b""),
+    (Case { desk: 9, ..WHOLE }, Status::DeskFault, b"ok info AA5"),
+    (
+        Case { desk: 11, ..WHOLE },
+        Status::DeskFault,
+        b"ok info AA5TEST1 1 0 1\nno 71 NONE\nno 7",
+    ),
+];
+
+#[test]
 fn ends_where_a_device_fails(rt: HostRuntime) -> Result<(), Fail> {
-    let alloc = rt.alloc();
-    let words = words(alloc)?;
-    let whole = Case::of(b"info AA5TEST1.000\ninfo NONE\nx\n");
-    let slow = Case {
-        slow: true,
-        ..whole
-    };
-    let cases: [(Case, Status, &[u8]); 11] = [
-        // The shelf fails at the catalogue, and at the table.
-        (Case { fetch: 1, ..whole }, Status::ShelfFault, b""),
-        (Case { fetch: 2, ..whole }, Status::ShelfFault, b""),
-        // The shelf fails once behind them, and the run goes on.
-        (
-            Case { fetch: 3, ..whole },
-            Status::Done,
-            b"no 72\nno 71 NONE\nno 70 3\n",
-        ),
-        (
-            Case { fetch: 4, ..whole },
-            Status::Done,
-            b"ok info AA5TEST1 1 0 1\nno 72\nno 70 3\n",
-        ),
-        // The source fails at the start, and in the middle of the second line.
-        (Case { pull: 1, ..whole }, Status::ScriptFault, b""),
-        (
-            Case { pull: 20, ..slow },
-            Status::ScriptFault,
-            b"ok info AA5TEST1 1 0 1\n",
-        ),
-        // The source fails at its end, where every line was answered.
-        (
-            Case { pull: 2, ..whole },
-            Status::ScriptFault,
-            b"ok info AA5TEST1 1 0 1\nno 71 NONE\nno 70 3\n",
-        ),
-        // The desk fails while the store is opened, and at each reply, of which it says a half.
-        (Case { desk: 1, ..whole }, Status::DeskFault, b""),
-        (Case { desk: 8, ..whole }, Status::DeskFault, b""),
-        (Case { desk: 9, ..whole }, Status::DeskFault, b"ok info AA5"),
-        (
-            Case { desk: 11, ..whole },
-            Status::DeskFault,
-            b"ok info AA5TEST1 1 0 1\nno 71 NONE\nno 7",
-        ),
-    ];
-    for (case, status, said) in cases {
-        let outcome = outcome(alloc, &words, &case)?;
-        assert_eq!(rt; outcome.0, status);
-        assert_eq!(rt; outcome.1.as_slice(), said);
+    for (at, (case, status, said)) in FAILURES.iter().enumerate() {
+        assert!(rt; ends(rt.alloc(), case, *status, said)?, "case {at}");
     }
     Ok(())
+}
+
+/// Whether the run ends at its words, and says nothing.
+fn ends_at_words(alloc: Global, words: &[String]) -> Result<bool, AllocError> {
+    let outcome = outcome(alloc, words, &Case::of(b"x\n"))?;
+    Ok(outcome.0 == Status::Words && outcome.1.as_slice().is_empty())
 }
 
 #[test]
 fn other_words_do_nothing(rt: HostRuntime) -> Result<(), Fail> {
     let alloc = rt.alloc();
-    let none = Vec::new(alloc);
+    let none: [String; 0] = [];
     let mut more = words(alloc)?;
     more.push(String::from_str(alloc, "--shades=3")?)?;
     let mut fewer = words(alloc)?;
     let _ = fewer.pop();
-    for words in [none.as_slice(), fewer.as_slice(), more.as_slice()] {
-        let outcome = outcome(alloc, words, &Case::of(b"x\n"))?;
-        assert_eq!(rt; outcome.0, Status::Words);
-        assert_eq!(rt; outcome.1.as_slice(), b"".as_slice());
-    }
+    assert!(rt; ends_at_words(alloc, &none)?);
+    assert!(rt; ends_at_words(alloc, fewer.as_slice())?);
+    assert!(rt; ends_at_words(alloc, more.as_slice())?);
     Ok(())
+}
+
+/// A line that is refused, and a remark of this length behind it.
+fn long_script(alloc: Global, count: usize) -> Result<Vec<u8>, AllocError> {
+    let mut script = b"x\n".to_vec(alloc)?;
+    for _ in 0..count {
+        script.push(b'#')?;
+    }
+    Ok(script)
 }
 
 #[test]
 fn ends_a_long_script(rt: HostRuntime) -> Result<(), Fail> {
-    let alloc = rt.alloc();
-    let words = words(alloc)?;
     for (count, status) in [(16_777_214, Status::Done), (16_777_215, Status::ScriptLong)] {
-        let mut script = b"x\n".to_vec(alloc)?;
-        for _ in 0..count {
-            script.push(b'#')?;
-        }
-        let outcome = outcome(alloc, &words, &Case::of(script.as_slice()))?;
-        assert_eq!(rt; outcome.0, status);
-        assert_eq!(rt; outcome.1.as_slice(), b"no 70 1\n".as_slice());
+        let script = long_script(rt.alloc(), count)?;
+        let case = Case::of(script.as_slice());
+        assert!(rt; ends(rt.alloc(), &case, status, b"no 70 1\n")?, "{count}");
     }
     Ok(())
 }
 
+/// A status, its number and its line.
+static STATUSES: [(Status, u8, &str); 14] = [
+    (Status::Done, 0, ""),
+    (Status::Words, 1, "ecdis: words"),
+    (
+        Status::Tables(0, TablesFault::Absent),
+        2,
+        "ecdis: tables 0 absent",
+    ),
+    (
+        Status::Tables(1, TablesFault::Long),
+        2,
+        "ecdis: tables 1 long",
+    ),
+    (
+        Status::Tables(0, TablesFault::BadLine(2)),
+        2,
+        "ecdis: tables 0 2",
+    ),
+    (
+        Status::Tables(0, TablesFault::Twice(10)),
+        2,
+        "ecdis: tables 0 10",
+    ),
+    (
+        Status::Tables(1, TablesFault::UnknownName(1)),
+        2,
+        "ecdis: tables 1 1",
+    ),
+    (
+        Status::Tables(1, TablesFault::UnknownProcedure(3)),
+        2,
+        "ecdis: tables 1 3",
+    ),
+    (Status::Foreign(1, 8), 3, "ecdis: foreign 1 8"),
+    (Status::ScriptFault, 4, "ecdis: script fault"),
+    (Status::ScriptLong, 5, "ecdis: script long"),
+    (Status::DeskFault, 6, "ecdis: desk fault"),
+    (Status::NoMemory, 7, "ecdis: no memory"),
+    (Status::ShelfFault, 8, "ecdis: shelf fault"),
+];
+
 #[test]
 fn statuses_have_numbers_and_lines(rt: HostRuntime) -> Result<(), Fail> {
-    let cases = [
-        (Status::Done, 0, ""),
-        (Status::Words, 1, "ecdis: words"),
-        (
-            Status::Tables(0, TablesFault::Absent),
-            2,
-            "ecdis: tables 0 absent",
-        ),
-        (
-            Status::Tables(1, TablesFault::Long),
-            2,
-            "ecdis: tables 1 long",
-        ),
-        (
-            Status::Tables(0, TablesFault::BadLine(2)),
-            2,
-            "ecdis: tables 0 2",
-        ),
-        (
-            Status::Tables(0, TablesFault::Twice(10)),
-            2,
-            "ecdis: tables 0 10",
-        ),
-        (
-            Status::Tables(1, TablesFault::UnknownName(1)),
-            2,
-            "ecdis: tables 1 1",
-        ),
-        (
-            Status::Tables(1, TablesFault::UnknownProcedure(3)),
-            2,
-            "ecdis: tables 1 3",
-        ),
-        (Status::Foreign(1, 8), 3, "ecdis: foreign 1 8"),
-        (Status::ScriptFault, 4, "ecdis: script fault"),
-        (Status::ScriptLong, 5, "ecdis: script long"),
-        (Status::DeskFault, 6, "ecdis: desk fault"),
-        (Status::NoMemory, 7, "ecdis: no memory"),
-        (Status::ShelfFault, 8, "ecdis: shelf fault"),
-    ];
-    for (status, number, line) in cases {
-        assert_eq!(rt; status.number(), number);
-        assert_eq!(rt; status.to_string(rt.alloc())?.as_str(), line);
+    for (status, number, line) in &STATUSES {
+        let text = status.to_string(rt.alloc())?;
+        assert!(rt;
+            status.number() == *number && text.as_str() == *line,
+            "{line}"
+        );
     }
     Ok(())
 }

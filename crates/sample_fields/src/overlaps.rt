@@ -41,19 +41,22 @@ fn fields_read(alloc: Global, counts: &[u8], tag: [u8; 4]) -> Result<usize, File
     Ok(fields)
 }
 
+/// How many entries name the one field of each record, the tag that is asked for, and how many fields are read.
+static OVERLAPS: [(&[u8], [u8; 4], Result<usize, FileFault>); 6] = [
+    (&[2], TEST, Ok(2)),
+    (&[128], TEST, Ok(128)),
+    (&[64, 64], TEST, Ok(128)),
+    (&[129], TEST, Err(FileFault::NoMemory)),
+    (&[64, 65], TEST, Err(FileFault::NoMemory)),
+    // The bytes of a field that isn't asked for aren't read.
+    (&[129], MORE, Ok(129)),
+];
+
 #[test]
 fn reads_overlaps_within_the_budget(rt: HostRuntime) -> Result<(), Fail> {
-    let cases: [(&[u8], [u8; 4], Result<usize, FileFault>); 6] = [
-        (&[2], TEST, Ok(2)),
-        (&[128], TEST, Ok(128)),
-        (&[64, 64], TEST, Ok(128)),
-        (&[129], TEST, Err(FileFault::NoMemory)),
-        (&[64, 65], TEST, Err(FileFault::NoMemory)),
-        // The bytes of a field that isn't asked for aren't read.
-        (&[129], MORE, Ok(129)),
-    ];
-    for (counts, tag, wanted) in cases {
-        assert_eq!(rt; fields_read(rt.alloc(), counts, tag), wanted, "{counts:?}");
+    for (at, (counts, tag, wanted)) in OVERLAPS.iter().enumerate() {
+        let found = fields_read(rt.alloc(), counts, *tag);
+        assert_eq!(rt; found, *wanted, "case {at}");
     }
     Ok(())
 }

@@ -85,29 +85,31 @@ fn cell(alloc: Global) -> Result<Vec<u8>, AllocError> {
     Ok(bytes)
 }
 
+/// The values of its data record.
+static VALUES: [Want; 16] = [
+    Want::Number(10),
+    Want::Number(1),
+    Want::Number(1),
+    Want::Number(5),
+    Want::Text(b"AA5TEST1.000"),
+    Want::Text(b"1"),
+    Want::Text(b"0"),
+    Want::Text(b"20240101"),
+    Want::Text(b"20240101"),
+    Want::Text(b"03.1"),
+    Want::Number(1),
+    Want::Text(b""),
+    Want::Text(b"2.0"),
+    Want::Number(1),
+    Want::Number(550),
+    Want::Text(b""),
+];
+
 #[test]
 fn reads_the_first_cell(rt: HostRuntime) -> Result<(), Fail> {
-    let wanted = [
-        Want::Number(10),
-        Want::Number(1),
-        Want::Number(1),
-        Want::Number(5),
-        Want::Text(b"AA5TEST1.000"),
-        Want::Text(b"1"),
-        Want::Text(b"0"),
-        Want::Text(b"20240101"),
-        Want::Text(b"20240101"),
-        Want::Text(b"03.1"),
-        Want::Number(1),
-        Want::Text(b""),
-        Want::Text(b"2.0"),
-        Want::Number(1),
-        Want::Number(550),
-        Want::Text(b""),
-    ];
     let file = read(rt.alloc(), &cell(rt.alloc())?, &[*b"DSID"])?;
     assert_eq!(rt; file.records.as_slice().len(), 1);
-    assert!(rt; has_values(&file, &wanted));
+    assert!(rt; has_values(&file, &VALUES));
     assert!(rt; file.descriptors.contains(b"DSID"));
     let labels = file
         .descriptors
@@ -117,80 +119,89 @@ fn reads_the_first_cell(rt: HostRuntime) -> Result<(), Fail> {
     Ok(())
 }
 
+/// The length of a front of the first cell, and how many data records it has or its first fault.
+static FRONTS: [(usize, Result<usize, FileFault>); 14] = [
+    (0, Err(FileFault::Leader(0))),
+    (23, Err(FileFault::Leader(0))),
+    (24, Err(FileFault::Directory(24))),
+    (34, Err(FileFault::Directory(24))),
+    (35, Err(FileFault::Directory(35))),
+    (36, Err(FileFault::Span(0))),
+    (200, Err(FileFault::Span(0))),
+    (201, Ok(0)),
+    (210, Err(FileFault::Leader(201))),
+    (230, Err(FileFault::Directory(225))),
+    (280, Err(FileFault::Span(201))),
+    (291, Err(FileFault::Span(201))),
+    (292, Ok(1)),
+    (293, Err(FileFault::Leader(292))),
+];
+
+/// The first cell, and a byte behind it.
+fn cell_and_more(alloc: Global) -> Result<Vec<u8>, AllocError> {
+    let mut bytes = cell(alloc)?;
+    bytes.push(0x1e)?;
+    Ok(bytes)
+}
+
 #[test]
 fn names_the_fault_of_a_front(rt: HostRuntime) -> Result<(), Fail> {
-    let mut bytes = cell(rt.alloc())?;
-    bytes.push(0x1e)?;
-    for (count, wanted) in [
-        (0, Err(FileFault::Leader(0))),
-        (23, Err(FileFault::Leader(0))),
-        (24, Err(FileFault::Directory(24))),
-        (34, Err(FileFault::Directory(24))),
-        (35, Err(FileFault::Directory(35))),
-        (36, Err(FileFault::Span(0))),
-        (200, Err(FileFault::Span(0))),
-        (201, Ok(0)),
-        (210, Err(FileFault::Leader(201))),
-        (230, Err(FileFault::Directory(225))),
-        (280, Err(FileFault::Span(201))),
-        (291, Err(FileFault::Span(201))),
-        (292, Ok(1)),
-        (293, Err(FileFault::Leader(292))),
-    ] {
-        let front = bytes.as_slice().get(..count).ok_or("the cell is longer")?;
-        assert_eq!(rt; outcome(rt.alloc(), front), wanted, "at {count}");
+    let bytes = cell_and_more(rt.alloc())?;
+    for (count, wanted) in &FRONTS {
+        let front = bytes.as_slice().get(..*count).ok_or("the cell is longer")?;
+        assert_eq!(rt; outcome(rt.alloc(), front), *wanted, "at {count}");
     }
     Ok(())
 }
 
+/// A place in the first cell, another byte there, and how many data records the cell has then or its first fault.
+static CHANGES: [(usize, u8, Result<usize, FileFault>); 32] = [
+    // leaders: the kind, the control length, the length, the base address and the entry map
+    (6, b'D', Err(FileFault::Leader(0))),
+    (11, b'8', Err(FileFault::Leader(0))),
+    (207, b'L', Err(FileFault::Leader(201))),
+    (207, b'R', Err(FileFault::Leader(201))),
+    (213, b'x', Err(FileFault::Leader(201))),
+    (221, b'0', Err(FileFault::Leader(201))),
+    (224, b'5', Err(FileFault::Leader(201))),
+    (5, b'0', Ok(1)),
+    (211, b'7', Ok(1)),
+    (223, b'x', Ok(1)),
+    (205, b'0', Err(FileFault::Span(225))),
+    (205, b'2', Err(FileFault::Span(201))),
+    // directories: digits, the closing byte, the length and the position of a field
+    (29, b'x', Err(FileFault::Directory(24))),
+    (35, b'D', Err(FileFault::Directory(35))),
+    (217, b'5', Err(FileFault::Directory(225))),
+    (236, 0x1f, Err(FileFault::Directory(236))),
+    (30, b'6', Err(FileFault::Span(24))),
+    (231, b'6', Err(FileFault::Span(225))),
+    (235, b'1', Err(FileFault::Span(225))),
+    (231, b'4', Err(FileFault::Terminator(225))),
+    (200, b')', Err(FileFault::Terminator(24))),
+    (291, 0x1f, Err(FileFault::Terminator(225))),
+    // a tag that isn't asked for, in one record and in the other
+    (225, b'E', Ok(1)),
+    (24, b'E', Err(FileFault::Descriptor(*b"DSID"))),
+    // the descriptor: the field controls and the name are not looked at
+    (40, b'?', Ok(1)),
+    (50, b'?', Ok(1)),
+    (79, b'?', Err(FileFault::Descriptor(*b"DSID"))),
+    // the values
+    (237, 0xff, Ok(1)),
+    (250, 0x1e, Err(FileFault::Subfield(1, *b"DSID"))),
+    (256, b'A', Err(FileFault::Subfield(1, *b"DSID"))),
+    (261, 0x1e, Ok(1)),
+    (290, b'A', Err(FileFault::Subfield(1, *b"DSID"))),
+];
+
 #[test]
 fn names_the_fault_of_a_changed_byte(rt: HostRuntime) -> Result<(), Fail> {
-    for (place, byte, wanted) in [
-        // leaders: the kind, the control length, the length, the base address and the entry map
-        (6, b'D', Err(FileFault::Leader(0))),
-        (11, b'8', Err(FileFault::Leader(0))),
-        (207, b'L', Err(FileFault::Leader(201))),
-        (207, b'R', Err(FileFault::Leader(201))),
-        (213, b'x', Err(FileFault::Leader(201))),
-        (221, b'0', Err(FileFault::Leader(201))),
-        (224, b'5', Err(FileFault::Leader(201))),
-        (5, b'0', Ok(1)),
-        (211, b'7', Ok(1)),
-        (223, b'x', Ok(1)),
-        (205, b'0', Err(FileFault::Span(225))),
-        (205, b'2', Err(FileFault::Span(201))),
-        // directories: digits, the closing byte, the length and the position of a field
-        (29, b'x', Err(FileFault::Directory(24))),
-        (35, b'D', Err(FileFault::Directory(35))),
-        (217, b'5', Err(FileFault::Directory(225))),
-        (236, 0x1f, Err(FileFault::Directory(236))),
-        (30, b'6', Err(FileFault::Span(24))),
-        (231, b'6', Err(FileFault::Span(225))),
-        (235, b'1', Err(FileFault::Span(225))),
-        (231, b'4', Err(FileFault::Terminator(225))),
-        (200, b')', Err(FileFault::Terminator(24))),
-        (291, 0x1f, Err(FileFault::Terminator(225))),
-        // a tag that isn't asked for, in one record and in the other
-        (225, b'E', Ok(1)),
-        (24, b'E', Err(FileFault::Descriptor(*b"DSID"))),
-        // the descriptor: the field controls and the name are not looked at
-        (40, b'?', Ok(1)),
-        (50, b'?', Ok(1)),
-        (79, b'?', Err(FileFault::Descriptor(*b"DSID"))),
-        // the values
-        (237, 0xff, Ok(1)),
-        (250, 0x1e, Err(FileFault::Subfield(1, *b"DSID"))),
-        (256, b'A', Err(FileFault::Subfield(1, *b"DSID"))),
-        (261, 0x1e, Ok(1)),
-        (290, b'A', Err(FileFault::Subfield(1, *b"DSID"))),
-    ] {
+    for (place, byte, wanted) in &CHANGES {
         let mut bytes = cell(rt.alloc())?;
-        *bytes.get_mut(place).ok_or("the cell is longer")? = byte;
-        assert_eq!(rt;
-            outcome(rt.alloc(), bytes.as_slice()),
-            wanted,
-            "{byte} at {place}"
-        );
+        *bytes.get_mut(*place).ok_or("the cell is longer")? = *byte;
+        let found = outcome(rt.alloc(), bytes.as_slice());
+        assert_eq!(rt; found, *wanted, "{byte} at {place}");
     }
     Ok(())
 }

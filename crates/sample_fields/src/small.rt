@@ -139,234 +139,238 @@ fn first_wrong_field(alloc: Global, table: &[One]) -> Result<Option<usize>, Allo
     Ok(None)
 }
 
+static NUMBERS: [One; 18] = [
+    (b"AAAA\x1f(b11)", b"\x05\x1e", Values(&[Number(5)])),
+    (b"AAAA\x1f(b11)", b"\xff\x1e", Values(&[Number(255)])),
+    (b"AAAA\x1f(b12)", b"\x01\x02\x1e", Values(&[Number(513)])),
+    (b"AAAA\x1f(b12)", b"\xff\xff\x1e", Values(&[Number(65535)])),
+    (
+        b"AAAA\x1f(b14)",
+        b"\x01\x02\x03\x04\x1e",
+        Values(&[Number(67305985)]),
+    ),
+    (
+        b"AAAA\x1f(b14)",
+        b"\xff\xff\xff\xff\x1e",
+        Values(&[Number(4294967295)]),
+    ),
+    (b"AAAA\x1f(b21)", b"\x7f\x1e", Values(&[Number(127)])),
+    (b"AAAA\x1f(b21)", b"\x80\x1e", Values(&[Number(-128)])),
+    (b"AAAA\x1f(b21)", b"\xff\x1e", Values(&[Number(-1)])),
+    (b"AAAA\x1f(b22)", b"\xff\x7f\x1e", Values(&[Number(32767)])),
+    (b"AAAA\x1f(b22)", b"\x00\x80\x1e", Values(&[Number(-32768)])),
+    (b"AAAA\x1f(b22)", b"\xfe\xff\x1e", Values(&[Number(-2)])),
+    (
+        b"AAAA\x1f(b24)",
+        b"\xff\xff\xff\x7f\x1e",
+        Values(&[Number(2147483647)]),
+    ),
+    (
+        b"AAAA\x1f(b24)",
+        b"\x00\x00\x00\x80\x1e",
+        Values(&[Number(-2147483648)]),
+    ),
+    (
+        b"AAAA!BBBB!CCCC\x1f(b21,b22,b24)",
+        b"\xff\xfe\xff\xfd\xff\xff\xff\x1e",
+        Values(&[Number(-1), Number(-2), Number(-3)]),
+    ),
+    (b"AAAA\x1f(b12)", b"\x01\x1e", Fault(UNREAD)),
+    (b"AAAA\x1f(b12)", b"\x01\x02\x03\x1e", Fault(UNREAD)),
+    (b"AAAA\x1f(b11)", b"\x1e", Fault(UNREAD)),
+];
+
 #[test]
 fn reads_numbers(rt: HostRuntime) -> Result<(), Fail> {
-    let table: [One; 18] = [
-        (b"AAAA\x1f(b11)", b"\x05\x1e", Values(&[Number(5)])),
-        (b"AAAA\x1f(b11)", b"\xff\x1e", Values(&[Number(255)])),
-        (b"AAAA\x1f(b12)", b"\x01\x02\x1e", Values(&[Number(513)])),
-        (b"AAAA\x1f(b12)", b"\xff\xff\x1e", Values(&[Number(65535)])),
-        (
-            b"AAAA\x1f(b14)",
-            b"\x01\x02\x03\x04\x1e",
-            Values(&[Number(67305985)]),
-        ),
-        (
-            b"AAAA\x1f(b14)",
-            b"\xff\xff\xff\xff\x1e",
-            Values(&[Number(4294967295)]),
-        ),
-        (b"AAAA\x1f(b21)", b"\x7f\x1e", Values(&[Number(127)])),
-        (b"AAAA\x1f(b21)", b"\x80\x1e", Values(&[Number(-128)])),
-        (b"AAAA\x1f(b21)", b"\xff\x1e", Values(&[Number(-1)])),
-        (b"AAAA\x1f(b22)", b"\xff\x7f\x1e", Values(&[Number(32767)])),
-        (b"AAAA\x1f(b22)", b"\x00\x80\x1e", Values(&[Number(-32768)])),
-        (b"AAAA\x1f(b22)", b"\xfe\xff\x1e", Values(&[Number(-2)])),
-        (
-            b"AAAA\x1f(b24)",
-            b"\xff\xff\xff\x7f\x1e",
-            Values(&[Number(2147483647)]),
-        ),
-        (
-            b"AAAA\x1f(b24)",
-            b"\x00\x00\x00\x80\x1e",
-            Values(&[Number(-2147483648)]),
-        ),
-        (
-            b"AAAA!BBBB!CCCC\x1f(b21,b22,b24)",
-            b"\xff\xfe\xff\xfd\xff\xff\xff\x1e",
-            Values(&[Number(-1), Number(-2), Number(-3)]),
-        ),
-        (b"AAAA\x1f(b12)", b"\x01\x1e", Fault(UNREAD)),
-        (b"AAAA\x1f(b12)", b"\x01\x02\x03\x1e", Fault(UNREAD)),
-        (b"AAAA\x1f(b11)", b"\x1e", Fault(UNREAD)),
-    ];
-    assert_eq!(rt; first_wrong_field(rt.alloc(), &table)?, None);
+    assert_eq!(rt; first_wrong_field(rt.alloc(), &NUMBERS)?, None);
     Ok(())
 }
+
+static TEXTS: [One; 16] = [
+    (b"AAAA\x1f(A)", b"\x1f\x1e", Values(&[Text(b"")])),
+    (b"AAAA\x1f(I)", b"12\x1f\x1e", Values(&[Text(b"12")])),
+    (b"AAAA\x1f(R)", b"-1.5\x1f\x1e", Values(&[Text(b"-1.5")])),
+    (b"AAAA\x1f(A())", b"ab\x1f\x1e", Values(&[Text(b"ab")])),
+    (
+        b"AAAA!BBBB\x1f(2A)",
+        b"a\x1fb\x1f\x1e",
+        Values(&[Text(b"a"), Text(b"b")]),
+    ),
+    (
+        b"AAAA!BBBB\x1f(A(2),I)",
+        b"ab12\x1f\x1e",
+        Values(&[Text(b"ab"), Text(b"12")]),
+    ),
+    (
+        b"AAAA!BBBB\x1f(A(2),A)",
+        b"\x1e\x1f\x1f\x1e",
+        Values(&[Text(b"\x1e\x1f"), Text(b"")]),
+    ),
+    (b"AAAA\x1f(I(3))", b"007\x1e", Values(&[Text(b"007")])),
+    (b"AAAA\x1f(R(03))", b"1.5\x1e", Values(&[Text(b"1.5")])),
+    (
+        b"AAAA\x1f(B(16))",
+        b"\x01\x02\x1e",
+        Values(&[Bits(b"\x01\x02")]),
+    ),
+    (
+        b"AAAA!BBBB\x1f(B(8),b11)",
+        b"\x1e\x1f\x1e",
+        Values(&[Bits(b"\x1e"), Number(31)]),
+    ),
+    (b"AAAA\x1f(A)", b"ab\x1e", Fault(UNREAD)),
+    (b"AAAA\x1f(A)", b"a\x1eb\x1f\x1e", Fault(UNREAD)),
+    (b"AAAA\x1f(A)", b"a\x1fb\x1f\x1e", Fault(UNREAD)),
+    (b"AAAA\x1f(A(3))", b"ab\x1e", Fault(UNREAD)),
+    (b"AAAA\x1f(B(16))", b"\x01\x1e", Fault(UNREAD)),
+];
 
 #[test]
 fn reads_texts(rt: HostRuntime) -> Result<(), Fail> {
-    let table: [One; 16] = [
-        (b"AAAA\x1f(A)", b"\x1f\x1e", Values(&[Text(b"")])),
-        (b"AAAA\x1f(I)", b"12\x1f\x1e", Values(&[Text(b"12")])),
-        (b"AAAA\x1f(R)", b"-1.5\x1f\x1e", Values(&[Text(b"-1.5")])),
-        (b"AAAA\x1f(A())", b"ab\x1f\x1e", Values(&[Text(b"ab")])),
-        (
-            b"AAAA!BBBB\x1f(2A)",
-            b"a\x1fb\x1f\x1e",
-            Values(&[Text(b"a"), Text(b"b")]),
-        ),
-        (
-            b"AAAA!BBBB\x1f(A(2),I)",
-            b"ab12\x1f\x1e",
-            Values(&[Text(b"ab"), Text(b"12")]),
-        ),
-        (
-            b"AAAA!BBBB\x1f(A(2),A)",
-            b"\x1e\x1f\x1f\x1e",
-            Values(&[Text(b"\x1e\x1f"), Text(b"")]),
-        ),
-        (b"AAAA\x1f(I(3))", b"007\x1e", Values(&[Text(b"007")])),
-        (b"AAAA\x1f(R(03))", b"1.5\x1e", Values(&[Text(b"1.5")])),
-        (
-            b"AAAA\x1f(B(16))",
-            b"\x01\x02\x1e",
-            Values(&[Bits(b"\x01\x02")]),
-        ),
-        (
-            b"AAAA!BBBB\x1f(B(8),b11)",
-            b"\x1e\x1f\x1e",
-            Values(&[Bits(b"\x1e"), Number(31)]),
-        ),
-        (b"AAAA\x1f(A)", b"ab\x1e", Fault(UNREAD)),
-        (b"AAAA\x1f(A)", b"a\x1eb\x1f\x1e", Fault(UNREAD)),
-        (b"AAAA\x1f(A)", b"a\x1fb\x1f\x1e", Fault(UNREAD)),
-        (b"AAAA\x1f(A(3))", b"ab\x1e", Fault(UNREAD)),
-        (b"AAAA\x1f(B(16))", b"\x01\x1e", Fault(UNREAD)),
-    ];
-    assert_eq!(rt; first_wrong_field(rt.alloc(), &table)?, None);
+    assert_eq!(rt; first_wrong_field(rt.alloc(), &TEXTS)?, None);
     Ok(())
 }
+
+static GROUPS: [One; 12] = [
+    (b"AAAA!*BBBB\x1f(b11,A)", b"\x01\x1e", Values(&[Number(1)])),
+    (
+        b"AAAA!*BBBB\x1f(b11,A)",
+        b"\x01x\x1f\x1e",
+        Values(&[Number(1), Text(b"x")]),
+    ),
+    (
+        b"AAAA!*BBBB\x1f(b11,A)",
+        b"\x01x\x1fy\x1f\x1f\x1e",
+        Values(&[Number(1), Text(b"x"), Text(b"y"), Text(b"")]),
+    ),
+    (
+        b"AAAA!*BBBB!CCCC\x1f(b11,A,b12)",
+        b"\x01x\x1f\x02\x00y\x1f\x03\x00\x1e",
+        Values(&[Number(1), Text(b"x"), Number(2), Text(b"y"), Number(3)]),
+    ),
+    (b"*AAAA\x1f(b11)", b"\x1e", Values(&[])),
+    (
+        b"*AAAA\x1f(b11)",
+        b"\x01\x02\x03\x1e",
+        Values(&[Number(1), Number(2), Number(3)]),
+    ),
+    (
+        b"*AAAA!BBBB\x1f(b11,b12)",
+        b"\x01\x02\x00\x03\x04\x00\x1e",
+        Values(&[Number(1), Number(2), Number(3), Number(4)]),
+    ),
+    (
+        b"*AAAA!BBBB\x1f(b24,b24)",
+        b"\xff\xff\xff\xff\x01\x00\x00\x00\x1e",
+        Values(&[Number(-1), Number(1)]),
+    ),
+    (b"*AAAA!BBBB\x1f(b11,b12)", b"\x01\x02\x1e", Fault(UNREAD)),
+    (
+        b"*AAAA!BBBB\x1f(b11,b12)",
+        b"\x01\x02\x00\x03\x1e",
+        Fault(UNREAD),
+    ),
+    (b"AAAA!*BBBB\x1f(b11,A)", b"\x1e", Fault(UNREAD)),
+    (b"AAAA!*BBBB\x1f(b11,A)", b"\x01x\x1e", Fault(UNREAD)),
+];
 
 #[test]
 fn reads_groups(rt: HostRuntime) -> Result<(), Fail> {
-    let table: [One; 12] = [
-        (b"AAAA!*BBBB\x1f(b11,A)", b"\x01\x1e", Values(&[Number(1)])),
-        (
-            b"AAAA!*BBBB\x1f(b11,A)",
-            b"\x01x\x1f\x1e",
-            Values(&[Number(1), Text(b"x")]),
-        ),
-        (
-            b"AAAA!*BBBB\x1f(b11,A)",
-            b"\x01x\x1fy\x1f\x1f\x1e",
-            Values(&[Number(1), Text(b"x"), Text(b"y"), Text(b"")]),
-        ),
-        (
-            b"AAAA!*BBBB!CCCC\x1f(b11,A,b12)",
-            b"\x01x\x1f\x02\x00y\x1f\x03\x00\x1e",
-            Values(&[Number(1), Text(b"x"), Number(2), Text(b"y"), Number(3)]),
-        ),
-        (b"*AAAA\x1f(b11)", b"\x1e", Values(&[])),
-        (
-            b"*AAAA\x1f(b11)",
-            b"\x01\x02\x03\x1e",
-            Values(&[Number(1), Number(2), Number(3)]),
-        ),
-        (
-            b"*AAAA!BBBB\x1f(b11,b12)",
-            b"\x01\x02\x00\x03\x04\x00\x1e",
-            Values(&[Number(1), Number(2), Number(3), Number(4)]),
-        ),
-        (
-            b"*AAAA!BBBB\x1f(b24,b24)",
-            b"\xff\xff\xff\xff\x01\x00\x00\x00\x1e",
-            Values(&[Number(-1), Number(1)]),
-        ),
-        (b"*AAAA!BBBB\x1f(b11,b12)", b"\x01\x02\x1e", Fault(UNREAD)),
-        (
-            b"*AAAA!BBBB\x1f(b11,b12)",
-            b"\x01\x02\x00\x03\x1e",
-            Fault(UNREAD),
-        ),
-        (b"AAAA!*BBBB\x1f(b11,A)", b"\x1e", Fault(UNREAD)),
-        (b"AAAA!*BBBB\x1f(b11,A)", b"\x01x\x1e", Fault(UNREAD)),
-    ];
-    assert_eq!(rt; first_wrong_field(rt.alloc(), &table)?, None);
+    assert_eq!(rt; first_wrong_field(rt.alloc(), &GROUPS)?, None);
     Ok(())
 }
 
+static TAGS: [Small; 17] = [
+    (
+        &[(TEST, ONE)],
+        &[(TEST, b"\x01\x1e"), (TEST, b"\x02\x1e")],
+        Values(&[Number(1), Number(2)]),
+    ),
+    (
+        &[(TEST, ONE), (TEST, TWO)],
+        &[(TEST, b"\x01\x1e")],
+        Values(&[Number(1)]),
+    ),
+    (
+        &[(TEST, TWO), (TEST, ONE)],
+        &[(TEST, b"\x01\x1e")],
+        Fault(UNREAD),
+    ),
+    (
+        &[(TEST, ONE), (TEST, b"?\x1e")],
+        &[(TEST, b"\x01\x1e")],
+        Values(&[Number(1)]),
+    ),
+    (
+        &[(TEST, ONE), (TEST, b"?")],
+        &[(TEST, b"\x01\x1e")],
+        Fault(FileFault::Terminator(35)),
+    ),
+    (
+        &[(TEST, ONE), (TEST, b"")],
+        &[(TEST, b"\x01\x1e")],
+        Fault(FileFault::Terminator(35)),
+    ),
+    (
+        &[(NATF, b"?"), (TEST, ONE)],
+        &[(NATF, b""), (TEST, b"\x01\x1e")],
+        Values(&[Number(1)]),
+    ),
+    (
+        &[(TEST, ONE), (MORE, TWO)],
+        &[(TEST, b"\x01\x1e")],
+        Values(&[Number(1)]),
+    ),
+    (
+        &[(TEST, ONE), (MORE, TWO)],
+        &[(MORE, b"\x01\x00\x1e"), (TEST, b"\x02\x1e")],
+        Values(&[Number(1), Number(2)]),
+    ),
+    (
+        &[(MORE, ONE)],
+        &[(TEST, b"\x01\x1e")],
+        Fault(FileFault::Descriptor(TEST)),
+    ),
+    (
+        &[(MORE, ONE)],
+        &[(MORE, b"\x01\x02\x1e"), (TEST, b"\x01\x1e")],
+        Fault(FileFault::Descriptor(TEST)),
+    ),
+    (
+        &[(TEST, b"?\x1e"), (MORE, ONE)],
+        &[(MORE, b"\x01\x1e")],
+        Fault(FileFault::Descriptor(TEST)),
+    ),
+    (
+        &[(TEST, ONE), (MORE, b"?\x1e")],
+        &[(TEST, b"\x01\x1e")],
+        Fault(FileFault::Descriptor(MORE)),
+    ),
+    (
+        &[(MORE, b"?\x1e"), (TEST, b"?\x1e")],
+        &[(TEST, b"\x01\x1e")],
+        Fault(FileFault::Descriptor(MORE)),
+    ),
+    (
+        &[(TEST, ONE)],
+        &[(TEST, b"")],
+        Fault(FileFault::Terminator(82)),
+    ),
+    (
+        &[(TEST, ONE)],
+        &[(TEST, b"\x01\x02\x1e"), (TEST, b"\x01")],
+        Fault(FileFault::Terminator(90)),
+    ),
+    (
+        &[(TEST, ONE), (MORE, ONE)],
+        &[(MORE, b"\x1e"), (TEST, b"\x1e")],
+        Fault(FileFault::Subfield(1, MORE)),
+    ),
+];
+
 #[test]
 fn reads_by_tags(rt: HostRuntime) -> Result<(), Fail> {
-    let table: [Small; 17] = [
-        (
-            &[(TEST, ONE)],
-            &[(TEST, b"\x01\x1e"), (TEST, b"\x02\x1e")],
-            Values(&[Number(1), Number(2)]),
-        ),
-        (
-            &[(TEST, ONE), (TEST, TWO)],
-            &[(TEST, b"\x01\x1e")],
-            Values(&[Number(1)]),
-        ),
-        (
-            &[(TEST, TWO), (TEST, ONE)],
-            &[(TEST, b"\x01\x1e")],
-            Fault(UNREAD),
-        ),
-        (
-            &[(TEST, ONE), (TEST, b"?\x1e")],
-            &[(TEST, b"\x01\x1e")],
-            Values(&[Number(1)]),
-        ),
-        (
-            &[(TEST, ONE), (TEST, b"?")],
-            &[(TEST, b"\x01\x1e")],
-            Fault(FileFault::Terminator(35)),
-        ),
-        (
-            &[(TEST, ONE), (TEST, b"")],
-            &[(TEST, b"\x01\x1e")],
-            Fault(FileFault::Terminator(35)),
-        ),
-        (
-            &[(NATF, b"?"), (TEST, ONE)],
-            &[(NATF, b""), (TEST, b"\x01\x1e")],
-            Values(&[Number(1)]),
-        ),
-        (
-            &[(TEST, ONE), (MORE, TWO)],
-            &[(TEST, b"\x01\x1e")],
-            Values(&[Number(1)]),
-        ),
-        (
-            &[(TEST, ONE), (MORE, TWO)],
-            &[(MORE, b"\x01\x00\x1e"), (TEST, b"\x02\x1e")],
-            Values(&[Number(1), Number(2)]),
-        ),
-        (
-            &[(MORE, ONE)],
-            &[(TEST, b"\x01\x1e")],
-            Fault(FileFault::Descriptor(TEST)),
-        ),
-        (
-            &[(MORE, ONE)],
-            &[(MORE, b"\x01\x02\x1e"), (TEST, b"\x01\x1e")],
-            Fault(FileFault::Descriptor(TEST)),
-        ),
-        (
-            &[(TEST, b"?\x1e"), (MORE, ONE)],
-            &[(MORE, b"\x01\x1e")],
-            Fault(FileFault::Descriptor(TEST)),
-        ),
-        (
-            &[(TEST, ONE), (MORE, b"?\x1e")],
-            &[(TEST, b"\x01\x1e")],
-            Fault(FileFault::Descriptor(MORE)),
-        ),
-        (
-            &[(MORE, b"?\x1e"), (TEST, b"?\x1e")],
-            &[(TEST, b"\x01\x1e")],
-            Fault(FileFault::Descriptor(MORE)),
-        ),
-        (
-            &[(TEST, ONE)],
-            &[(TEST, b"")],
-            Fault(FileFault::Terminator(82)),
-        ),
-        (
-            &[(TEST, ONE)],
-            &[(TEST, b"\x01\x02\x1e"), (TEST, b"\x01")],
-            Fault(FileFault::Terminator(90)),
-        ),
-        (
-            &[(TEST, ONE), (MORE, ONE)],
-            &[(MORE, b"\x1e"), (TEST, b"\x1e")],
-            Fault(FileFault::Subfield(1, MORE)),
-        ),
-    ];
-    assert_eq!(rt; first_wrong(rt.alloc(), &table)?, None);
+    assert_eq!(rt; first_wrong(rt.alloc(), &TAGS)?, None);
     Ok(())
 }
 
@@ -411,27 +415,36 @@ fn reads_all_records_again(rt: HostRuntime) -> Result<(), Fail> {
     Ok(())
 }
 
+const SOUND: &[Field<'static>] = &[(TEST, b"\x01\x1e")];
+
+const UNREADABLE: &[Field<'static>] = &[(TEST, b"\x01\x02\x1e")];
+
+const OPEN: &[Field<'static>] = &[(TEST, b"\x01")];
+
+/// Three records, and how many records the file has or its first fault. The data descriptive record has 58 bytes, and a
+/// sound data record 35.
+static RECORDS: [([&[Field<'static>]; 3], Result<usize, FileFault>); 5] = [
+    ([SOUND, SOUND, SOUND], Ok(3)),
+    (
+        [SOUND, SOUND, UNREADABLE],
+        Err(FileFault::Subfield(3, TEST)),
+    ),
+    ([SOUND, UNREADABLE, OPEN], Err(FileFault::Subfield(2, TEST))),
+    ([OPEN, UNREADABLE, SOUND], Err(FileFault::Terminator(82))),
+    ([SOUND, OPEN, UNREADABLE], Err(FileFault::Terminator(117))),
+];
+
+/// How many records a file of these has, or its first fault.
+fn records_read(alloc: Global, records: &[&[Field]]) -> Result<usize, FileFault> {
+    let bytes = file_of(alloc, (2, 2), &[(TEST, ONE)], records)?;
+    let file = read(alloc, bytes.as_slice(), &[TEST])?;
+    Ok(file.records.as_slice().len())
+}
+
 #[test]
 fn names_the_first_record_with_a_fault(rt: HostRuntime) -> Result<(), Fail> {
-    let first: &[Field] = &[(TEST, ONE)];
-    let sound: &[Field] = &[(TEST, b"\x01\x1e")];
-    let unread: &[Field] = &[(TEST, b"\x01\x02\x1e")];
-    let open: &[Field] = &[(TEST, b"\x01")];
-    // The data descriptive record has 58 bytes, and a sound data record 35.
-    for (records, wanted) in [
-        ([sound, sound, sound], Ok(3)),
-        ([sound, sound, unread], Err(FileFault::Subfield(3, TEST))),
-        ([sound, unread, open], Err(FileFault::Subfield(2, TEST))),
-        ([open, unread, sound], Err(FileFault::Terminator(82))),
-        ([sound, open, unread], Err(FileFault::Terminator(117))),
-    ] {
-        let bytes = file_of(rt.alloc(), (2, 2), first, &records)?;
-        let found = read(rt.alloc(), bytes.as_slice(), &[TEST]);
-        let found = match found {
-            Ok(file) => Ok(file.records.as_slice().len()),
-            Err(fault) => Err(fault),
-        };
-        assert_eq!(rt; found, wanted);
+    for (at, (records, wanted)) in RECORDS.iter().enumerate() {
+        assert_eq!(rt; records_read(rt.alloc(), records), *wanted, "case {at}");
     }
     Ok(())
 }

@@ -5,4 +5,6 @@
 #![tactic(auto)]
 
 #[cfg(test)]
-mod tests;
+mod refusals;
+#[cfg(test)]
+mod turns;

@@ -2,7 +2,7 @@
 
 use chart_model::{AttrMap, Geom, Octets};
 use lookup_table::TableFault::{BadLine, UnknownName, UnknownProcedure};
-use lookup_table::{Instruction, Procedure, Table, TableFault, read_table};
+use lookup_table::{Instruction, TableFault, read_table, tables_are_read};
 use object_catalogue::{Catalogue, CatalogueFault, read_objects};
 use std::alloc::{AllocError, Global};
 use std::test::Fail;
@@ -85,25 +85,38 @@ static FAULTS: [(&[u8], Option<TableFault>); 48] = [
 #[test]
 fn first_faults(rt: HostRuntime) -> Result<(), Fail> {
     let catalogue = catalogue(rt.alloc())?;
-    for (text, fault) in &FAULTS {
+    for (at, (text, fault)) in FAULTS.iter().enumerate() {
         let found = read_table(rt.alloc(), text, &catalogue).err();
-        assert_eq!(rt; found, *fault, "{text:?}");
+        assert_eq!(rt; found, *fault, "case {at}");
     }
     tables_are_read();
     Ok(())
 }
 
-#[test]
-fn ten_thousand_lines(rt: HostRuntime) -> Result<(), Fail> {
-    let catalogue = catalogue(rt.alloc())?;
-    let mut text = String::new(rt.alloc());
+/// The most lines that a table may have, the last for depth areas.
+fn most_lines(alloc: Global) -> Result<String, AllocError> {
+    let mut text = String::new(alloc);
     for _ in 0u32..9_999 {
         text.push_str("WRECKS L 4 - -\n")?;
     }
     text.push_str("DEPARE A 1 - AC(DEPVS)\n")?;
+    Ok(text)
+}
+
+#[test]
+fn ten_thousand_lines(rt: HostRuntime) -> Result<(), Fail> {
+    let catalogue = catalogue(rt.alloc())?;
+    let text = most_lines(rt.alloc())?;
     let table = read_table(rt.alloc(), text.as_bytes(), &catalogue)?;
     let attrs = AttrMap::new(rt.alloc());
     assert!(rt; table.select(42, Geom::Area, &attrs) == Some(9_999));
+    Ok(())
+}
+
+#[test]
+fn a_line_too_many(rt: HostRuntime) -> Result<(), Fail> {
+    let catalogue = catalogue(rt.alloc())?;
+    let mut text = most_lines(rt.alloc())?;
     text.push_str("\n")?;
     let fault = read_table(rt.alloc(), text.as_bytes(), &catalogue).err();
     assert!(rt; fault == Some(BadLine(10_001)));
@@ -137,16 +150,18 @@ static SELECTED: [Selected; 9] = [
     (71, Geom::Area, Some(b"15"), None),
 ];
 
+/// Lines with conditions and without, from which is selected.
+const CONDITIONS: &[u8] = b"WRECKS P 1 - -\nWRECKS P 2 VALSOU=* -\nWRECKS P 3 VALSOU=? -\n\
+WRECKS P 4 VALSOU=15 -\nWRECKS P 5 - -\nWRECKS L 6 VALSOU=15+WATLEV=3 -\nDEPARE A 7 VALSOU=15 SY(A);AC(B)\n\
+DEPARE A 8 VALSOU=15 -\n";
+
 #[test]
 fn selections(rt: HostRuntime) -> Result<(), Fail> {
     let catalogue = catalogue(rt.alloc())?;
-    let text =
-        b"WRECKS P 1 - -\nWRECKS P 2 VALSOU=* -\nWRECKS P 3 VALSOU=? -\nWRECKS P 4 VALSOU=15 -\n\
-        WRECKS P 5 - -\nWRECKS L 6 VALSOU=15+WATLEV=3 -\nDEPARE A 7 VALSOU=15 SY(A);AC(B)\nDEPARE A 8 VALSOU=15 -\n";
-    let table = read_table(rt.alloc(), text, &catalogue)?;
-    for (class, geom, value, place) in &SELECTED {
+    let table = read_table(rt.alloc(), CONDITIONS, &catalogue)?;
+    for (at, (class, geom, value, place)) in SELECTED.iter().enumerate() {
         let attrs = attributes(rt.alloc(), *value)?;
-        assert!(rt; table.select(*class, *geom, &attrs) == *place);
+        assert!(rt; table.select(*class, *geom, &attrs) == *place, "case {at}");
     }
     Ok(())
 }
@@ -165,10 +180,10 @@ fn lines_keep_their_parts(rt: HostRuntime) -> Result<(), Fail> {
     let text = b"# one\nDEPARE A 7 VALSOU=15 SY(A);AC(B)\n";
     let table = read_table(rt.alloc(), text, &catalogue)?;
     let line = table.line(0).ok_or("a line")?;
+    assert!(rt; table.lines().len() == 1 && line.conditions.as_slice().len() == 1);
     assert!(rt; line.class == 42 && line.priority == 7 && line.geom == Geom::Area);
-    assert!(rt; line.conditions.as_slice().len() == 1);
     let instructions = line.instructions.as_slice();
-    assert!(rt; instructions.len() == 2 && table.lines().len() == 1);
+    assert!(rt; instructions.len() == 2);
     assert!(rt; instructions.first().map(text_of) == Some(b"SY(A)".as_slice()));
     assert!(rt; instructions.last().map(text_of) == Some(b"AC(B)".as_slice()));
     Ok(())

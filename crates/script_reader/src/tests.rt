@@ -48,76 +48,84 @@ fn with_letters(alloc: Global, front: &[u8], count: usize) -> Result<Vec<u8>, Al
     Ok(line)
 }
 
+/// A line, and what it is read as.
+static LINES: [(&[u8], &[u8]); 40] = [
+    (b"", b"nothing"),
+    (b"#", b"nothing"),
+    (b"# cells", b"nothing"),
+    (b"#\r", b"nothing"),
+    (b"info ENC/AA5TEST1.000", b"info ENC/AA5TEST1.000"),
+    (b"load !~", b"load !~"),
+    (b"load #", b"load #"),
+    (b"load load", b"load load"),
+    (b"rollback AA5TEST1 7", b"rollback 7 AA5TEST1"),
+    (b"rollback AA5TEST1 0", b"rollback 0 AA5TEST1"),
+    (b"rollback X 000000012", b"rollback 12 X"),
+    (b"rollback 1 999999999", b"rollback 999999999 1"),
+    (b"drop ZZ", b"drop ZZ"),
+    (
+        b"drop 12345678901234567890123456789012",
+        b"drop 12345678901234567890123456789012",
+    ),
+    (b"cells", b"cells"),
+    (b"draw AA5TEST1", b"draw AA5TEST1"),
+    // no words, or not these
+    (b" ", b"bad 7"),
+    (b"\r", b"bad 7"),
+    (b" #", b"bad 7"),
+    (b" cells", b"bad 7"),
+    (b"cells ", b"bad 7"),
+    (b"cells x", b"bad 7"),
+    (b"Cells", b"bad 7"),
+    (b"cell", b"bad 7"),
+    (b"load", b"bad 7"),
+    (b"load ", b"bad 7"),
+    (b"load  T", b"bad 7"),
+    (b"load T ", b"bad 7"),
+    (b"load T U", b"bad 7"),
+    (b"load\tT", b"bad 7"),
+    (b"load T\xE9", b"bad 7"),
+    (b"drop 123456789012345678901234567890123", b"bad 7"),
+    (b"draw", b"bad 7"),
+    (b"draw X 1", b"bad 7"),
+    (b"Draw X", b"bad 7"),
+    (b"rollback X", b"bad 7"),
+    (b"rollback X 1234567890", b"bad 7"),
+    (b"rollback X +1", b"bad 7"),
+    (b"rollback  1", b"bad 7"),
+    (b"rollback X 1 2", b"bad 7"),
+];
+
 #[test]
 fn lines(rt: HostRuntime) -> Result<(), Fail> {
-    let cases: [(&[u8], &[u8]); 40] = [
-        (b"", b"nothing"),
-        (b"#", b"nothing"),
-        (b"# cells", b"nothing"),
-        (b"#\r", b"nothing"),
-        (b"info ENC/AA5TEST1.000", b"info ENC/AA5TEST1.000"),
-        (b"load !~", b"load !~"),
-        (b"load #", b"load #"),
-        (b"load load", b"load load"),
-        (b"rollback AA5TEST1 7", b"rollback 7 AA5TEST1"),
-        (b"rollback AA5TEST1 0", b"rollback 0 AA5TEST1"),
-        (b"rollback X 000000012", b"rollback 12 X"),
-        (b"rollback 1 999999999", b"rollback 999999999 1"),
-        (b"drop ZZ", b"drop ZZ"),
-        (
-            b"drop 12345678901234567890123456789012",
-            b"drop 12345678901234567890123456789012",
-        ),
-        (b"cells", b"cells"),
-        (b"draw AA5TEST1", b"draw AA5TEST1"),
-        // no words, or not these
-        (b" ", b"bad 7"),
-        (b"\r", b"bad 7"),
-        (b" #", b"bad 7"),
-        (b" cells", b"bad 7"),
-        (b"cells ", b"bad 7"),
-        (b"cells x", b"bad 7"),
-        (b"Cells", b"bad 7"),
-        (b"cell", b"bad 7"),
-        (b"load", b"bad 7"),
-        (b"load ", b"bad 7"),
-        (b"load  T", b"bad 7"),
-        (b"load T ", b"bad 7"),
-        (b"load T U", b"bad 7"),
-        (b"load\tT", b"bad 7"),
-        (b"load T\xE9", b"bad 7"),
-        (b"drop 123456789012345678901234567890123", b"bad 7"),
-        (b"draw", b"bad 7"),
-        (b"draw X 1", b"bad 7"),
-        (b"Draw X", b"bad 7"),
-        (b"rollback X", b"bad 7"),
-        (b"rollback X 1234567890", b"bad 7"),
-        (b"rollback X +1", b"bad 7"),
-        (b"rollback  1", b"bad 7"),
-        (b"rollback X 1 2", b"bad 7"),
-    ];
-    for (line, read) in &cases {
+    for (at, (line, read)) in LINES.iter().enumerate() {
         let text = answer(rt.alloc(), line)?;
-        assert!(rt; text.as_slice() == *read, "{line:?}");
+        assert!(rt; text.as_slice() == *read, "case {at}");
     }
+    Ok(())
+}
+
+#[test]
+fn laws(_rt: HostRuntime) {
     lines_are_read();
     long_lines_are_read_by_their_front();
     replies_are_spoken();
-    Ok(())
 }
+
+/// The front of a line, the number of letters behind it, and what it is read as.
+static LONG_LINES: [(&[u8], usize, &[u8]); 4] = [
+    (b"load ", 256, b"bad 7"),
+    (b"load ", 1019, b"bad 7"),
+    (b"load ", 1020, b"bad 7"),
+    (b"#", 1024, b"nothing"),
+];
 
 #[test]
 fn long_lines(rt: HostRuntime) -> Result<(), Fail> {
     let alloc = rt.alloc();
     let longest_name = with_letters(alloc, b"load ", 255)?;
     assert!(rt; answer(alloc, &longest_name)? == longest_name);
-    let cases: [(&[u8], usize, &[u8]); 4] = [
-        (b"load ", 256, b"bad 7"),
-        (b"load ", 1019, b"bad 7"),
-        (b"load ", 1020, b"bad 7"),
-        (b"#", 1024, b"nothing"),
-    ];
-    for (front, count, read) in &cases {
+    for (front, count, read) in &LONG_LINES {
         let line = with_letters(alloc, front, *count)?;
         let text = answer(alloc, &line)?;
         assert!(rt; text.as_slice() == *read, "{count}");
@@ -125,15 +133,14 @@ fn long_lines(rt: HostRuntime) -> Result<(), Fail> {
     Ok(())
 }
 
+fn octets(alloc: Global, text: &[u8]) -> Result<Octets, AllocError> {
+    Ok(Octets::from_vec(Vec::from_slice(alloc, text)?))
+}
+
 #[test]
 fn replies(rt: HostRuntime) -> Result<(), Fail> {
-    let alloc = rt.alloc();
     let key = Key::from_bytes(b"AA5TEST1").ok_or("a key")?;
-    let lines = Octets::from_vec(Vec::from_slice(alloc, b"cell AA5TEST1 1 0 1 2\n")?);
-    let values = Octets::from_vec(Vec::from_slice(alloc, b"AA5TEST1 7")?);
-    let none = Octets::from_vec(Vec::new(alloc));
-    let items = Octets::from_vec(Vec::from_slice(alloc, b"item 5 P 3 whole SY(QUESMRK1)\n")?);
-    let cases: [(Reply, &[u8]); 9] = [
+    let cases: [(Reply, &[u8]); 5] = [
         (
             Reply::Info(key, 1, 2, 18_446_744_073_709_551_615),
             b"ok info AA5TEST1 1 2 18446744073709551615\n",
@@ -145,22 +152,49 @@ fn replies(rt: HostRuntime) -> Result<(), Fail> {
             b"ok rollback AA5TEST1 3 4294967295\n",
         ),
         (Reply::Drop(key), b"ok drop AA5TEST1\n"),
+    ];
+    for (at, (reply, bytes)) in cases.iter().enumerate() {
+        let text = print_reply(rt.alloc(), reply)?;
+        assert!(rt; text.as_slice() == *bytes, "case {at}");
+    }
+    Ok(())
+}
+
+#[test]
+fn replies_with_lines(rt: HostRuntime) -> Result<(), Fail> {
+    let alloc = rt.alloc();
+    let key = Key::from_bytes(b"AA5TEST1").ok_or("a key")?;
+    let cells = octets(alloc, b"cell AA5TEST1 1 0 1 2\n")?;
+    let items = octets(alloc, b"item 5 P 3 whole SY(QUESMRK1)\n")?;
+    let cases: [(Reply, &[u8]); 2] = [
         (
-            Reply::Cells(1, lines),
+            Reply::Cells(1, cells),
             b"ok cells 1\ncell AA5TEST1 1 0 1 2\n",
         ),
         (
             Reply::Draw(key, 1, items),
             b"ok draw AA5TEST1 1\nitem 5 P 3 whole SY(QUESMRK1)\n",
         ),
-        (Reply::Refused(74, values), b"no 74 AA5TEST1 7\n"),
-        (Reply::Refused(72, none), b"no 72\n"),
     ];
-    for (reply, bytes) in &cases {
-        assert!(rt;
-            print_reply(alloc, reply)?.as_slice() == *bytes,
-            "{reply:?}"
-        );
+    for (at, (reply, bytes)) in cases.iter().enumerate() {
+        let text = print_reply(alloc, reply)?;
+        assert!(rt; text.as_slice() == *bytes, "case {at}");
+    }
+    Ok(())
+}
+
+/// The code of a refusal, what it names, and the reply.
+static REFUSALS: [(u8, &[u8], &[u8]); 2] = [
+    (74, b"AA5TEST1 7", b"no 74 AA5TEST1 7\n"),
+    (72, b"", b"no 72\n"),
+];
+
+#[test]
+fn refusals(rt: HostRuntime) -> Result<(), Fail> {
+    for (code, values, bytes) in &REFUSALS {
+        let reply = Reply::Refused(*code, octets(rt.alloc(), values)?);
+        let text = print_reply(rt.alloc(), &reply)?;
+        assert!(rt; text.as_slice() == *bytes, "{code}");
     }
     Ok(())
 }

@@ -12,7 +12,7 @@ use std::sync::ledger::{Blank, Ledger};
 use std::test::Fail;
 
 /// A line, its reply, and what `cells` lists once it is run, where the line is accepted.
-const LINES: [(&str, &str, Option<&str>); 15] = [
+static LINES: [(&str, &str, Option<&str>); 15] = [
     ("cells\n", "ok cells 0\n", None),
     (
         "load T\n",
@@ -67,7 +67,7 @@ const OPENING: u64 = 8;
 /// The sides that a store shows which is opened after one of a command's calls failed, or its reply, with each fill of
 /// the bytes that are uncertain: what was held before it, or after it. A line that is not accepted has a reply alone, and
 /// shows what was held before it, as the first.
-const FAILED: [&str; 5] = ["bbb", "bbb", "bba", "baa", "aaa"];
+static FAILED: [&str; 5] = ["bbb", "bbb", "bba", "baa", "aaa"];
 
 fn run_with<C: Ledger>(
     alloc: Global,
@@ -128,16 +128,19 @@ fn sides(
     Ok(sides)
 }
 
-/// Runs the script with a desk whose call of this number fails, and tells the sides then.
-fn stopped(
+/// Whether the script ends with this status and these sides, on a desk whose call of this number fails.
+fn stops(
     alloc: Global,
     call: u64,
+    status: Status,
     before: &str,
     after: &str,
-) -> Result<(Status, String), AllocError> {
+    wanted: &str,
+) -> Result<bool, AllocError> {
     let mut desk = MemoryDesk::new(alloc, failing(alloc, call)?);
-    let status = run(alloc, &script(alloc)?, &mut desk)?;
-    Ok((status, sides(alloc, &desk, before, after)?))
+    let ended = run(alloc, &script(alloc)?, &mut desk)?;
+    let sides = sides(alloc, &desk, before, after)?;
+    Ok(ended == status && sides.as_str() == wanted)
 }
 
 /// How many calls a line makes: those of its command and of its reply, where there are such.
@@ -152,29 +155,31 @@ fn calls_of(reply: &str, accepted: Option<&str>) -> usize {
 }
 
 #[test]
+fn a_crash_of_the_opening_leaves_nothing(rt: HostRuntime) -> Result<(), Fail> {
+    for call in 1..=OPENING {
+        let stops = stops(rt.alloc(), call, Status::DeskFault, NOTHING, "", "bbb")?;
+        assert!(rt; stops, "at call {call}");
+    }
+    Ok(())
+}
+
+#[test]
 fn a_crash_leaves_the_commands_that_were_acknowledged(rt: HostRuntime) -> Result<(), Fail> {
     let alloc = rt.alloc();
-    for call in 1..=OPENING {
-        let (status, sides) = stopped(alloc, call, NOTHING, "")?;
-        assert_eq!(rt; status, Status::DeskFault);
-        assert_eq!(rt; sides.as_str(), "bbb", "at call {call}");
-    }
     let mut calls = OPENING;
     let mut before = NOTHING;
     for (line, reply, accepted) in &LINES {
         let after = accepted.unwrap_or(before);
         for wanted in FAILED.iter().take(calls_of(reply, *accepted)) {
             calls = calls.saturating_add(1);
-            let (status, sides) = stopped(alloc, calls, before, after)?;
-            assert_eq!(rt; status, Status::DeskFault);
-            assert_eq!(rt; sides.as_str(), *wanted, "at call {calls}, {line}");
+            let stops = stops(alloc, calls, Status::DeskFault, before, after, wanted)?;
+            assert!(rt; stops, "at call {calls}, {line}");
         }
         before = after;
     }
     // No further call is made, and all commands are there.
-    let (status, sides) = stopped(alloc, calls.saturating_add(1), "", before)?;
-    assert_eq!(rt; status, Status::Done);
-    assert_eq!(rt; sides.as_str(), "aaa");
+    let further = calls.saturating_add(1);
+    assert!(rt; stops(alloc, further, Status::Done, "", before, "aaa")?);
     Ok(())
 }
 

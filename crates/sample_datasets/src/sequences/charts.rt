@@ -98,17 +98,18 @@ fn built(alloc: Global, records: &[&[u8]]) -> Result<Seen, Fail> {
     Ok(seen(&after))
 }
 
+/// The data records of an update, and what it makes of the chart of the base file.
+static UPDATES: [(&[&[u8]], Seen); 3] = [
+    (&[GENERAL, MOVED], (1, 1, 1, Some(8))),
+    (&[GENERAL, HIDDEN], (1, 1, 0, Some(100))),
+    (&[GENERAL, HIDDEN, DELETED, SECOND], (1, 1, 0, None)),
+];
+
 #[test]
 fn a_chart_is_built_on_another(rt: HostRuntime) -> Result<(), Fail> {
-    let alloc = rt.alloc();
-    let table: [(&[&[u8]], Seen); 3] = [
-        (&[GENERAL, MOVED], (1, 1, 1, Some(8))),
-        (&[GENERAL, HIDDEN], (1, 1, 0, Some(100))),
-        (&[GENERAL, HIDDEN, DELETED, SECOND], (1, 1, 0, None)),
-    ];
-    for (records, wanted) in table {
-        assert_eq!(rt; built(alloc, records)?, wanted);
-        assert_eq!(rt; extended(alloc, records)?, Ok(wanted));
+    for (records, wanted) in &UPDATES {
+        assert_eq!(rt; built(rt.alloc(), records)?, *wanted);
+        assert_eq!(rt; extended(rt.alloc(), records)?, Ok(*wanted));
     }
     Ok(())
 }

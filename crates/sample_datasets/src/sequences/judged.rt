@@ -49,66 +49,98 @@ fn first_wrong(alloc: Global, key: Key, table: &[Row]) -> Option<usize> {
     None
 }
 
-fn stale(held: (u32, u32), given: (u32, u32)) -> Result<Effect, SequenceFault> {
-    Err(StaleBase {
-        held_edition: held.0,
-        held_update: held.1,
-        edition: given.0,
-        update: given.1,
-    })
-}
+static BASE_FILES: [Row; 9] = [
+    (None, (true, 1, 3), Ok(Replace)),
+    (Some((1, 2, false)), (true, 1, 2), Ok(Replace)),
+    (Some((1, 2, true)), (true, 1, 2), Ok(Replace)),
+    (Some((1, 2, false)), (true, 1, 3), Ok(Replace)),
+    (Some((1, 2, false)), (true, 2, 0), Ok(Replace)),
+    (Some((1, 2, true)), (true, 2, 0), Ok(Replace)),
+    (Some((1, 2, false)), (true, 1, 1), STALE),
+    (Some((1, 2, true)), (true, 1, 1), STALE),
+    (
+        Some((2, 0, false)),
+        (true, 1, 5),
+        Err(StaleBase {
+            held_edition: 2,
+            held_update: 0,
+            edition: 1,
+            update: 5,
+        }),
+    ),
+];
 
-fn gap(wanted: u64, given: u32) -> Result<Effect, SequenceFault> {
-    Err(Gap { wanted, given })
-}
+/// Update 1 of the edition of which update 2 is held.
+const STALE: Result<Effect, SequenceFault> = Err(StaleBase {
+    held_edition: 1,
+    held_update: 2,
+    edition: 1,
+    update: 1,
+});
 
 #[test]
 fn base_files(rt: HostRuntime) -> Result<(), Fail> {
     let key = Key::from_bytes(b"AA5TEST1").ok_or("it is a key")?;
-    let table: [Row; 9] = [
-        (None, (true, 1, 3), Ok(Replace)),
-        (Some((1, 2, false)), (true, 1, 2), Ok(Replace)),
-        (Some((1, 2, true)), (true, 1, 2), Ok(Replace)),
-        (Some((1, 2, false)), (true, 1, 3), Ok(Replace)),
-        (Some((1, 2, false)), (true, 2, 0), Ok(Replace)),
-        (Some((1, 2, true)), (true, 2, 0), Ok(Replace)),
-        (Some((1, 2, false)), (true, 1, 1), stale((1, 2), (1, 1))),
-        (Some((1, 2, true)), (true, 1, 1), stale((1, 2), (1, 1))),
-        (Some((2, 0, false)), (true, 1, 5), stale((2, 0), (1, 5))),
-    ];
-    assert_eq!(rt; first_wrong(rt.alloc(), key, &table), None);
+    assert_eq!(rt; first_wrong(rt.alloc(), key, &BASE_FILES), None);
     Ok(())
 }
+
+static UPDATES: [Row; 8] = [
+    (Some((1, 0, false)), (false, 0, 9), Ok(Cancel)),
+    (
+        Some((1, 0, false)),
+        (false, 2, 1),
+        Err(Edition { held: 1, given: 2 }),
+    ),
+    (
+        Some((2, 0, false)),
+        (false, 1, 1),
+        Err(Edition { held: 2, given: 1 }),
+    ),
+    (Some((1, 0, false)), (false, 1, 1), Ok(Extend)),
+    (Some((1, 1, false)), (false, 1, 2), Ok(Extend)),
+    (
+        Some((1, 0, false)),
+        (false, 1, 2),
+        Err(Gap {
+            wanted: 1,
+            given: 2,
+        }),
+    ),
+    (
+        Some((1, 1, false)),
+        (false, 1, 1),
+        Err(Gap {
+            wanted: 2,
+            given: 1,
+        }),
+    ),
+    (
+        Some((1, u32::MAX, false)),
+        (false, 1, 0),
+        Err(Gap {
+            wanted: 4_294_967_296,
+            given: 0,
+        }),
+    ),
+];
 
 #[test]
 fn updates(rt: HostRuntime) -> Result<(), Fail> {
     let key = Key::from_bytes(b"AA5TEST1").ok_or("it is a key")?;
-    let table: [Row; 13] = [
+    assert_eq!(rt; first_wrong(rt.alloc(), key, &UPDATES), None);
+    Ok(())
+}
+
+#[test]
+fn updates_of_no_cell(rt: HostRuntime) -> Result<(), Fail> {
+    let key = Key::from_bytes(b"AA5TEST1").ok_or("it is a key")?;
+    let table: [Row; 5] = [
         (None, (false, 1, 1), Err(NoBase(key))),
         (None, (false, 0, 1), Err(NoBase(key))),
         (Some((1, 0, true)), (false, 1, 1), Err(Cancelled(key))),
         (Some((1, 0, true)), (false, 0, 1), Err(Cancelled(key))),
-        (Some((1, 0, false)), (false, 0, 9), Ok(Cancel)),
-        (
-            Some((1, 0, false)),
-            (false, 2, 1),
-            Err(Edition { held: 1, given: 2 }),
-        ),
-        (
-            Some((2, 0, false)),
-            (false, 1, 1),
-            Err(Edition { held: 2, given: 1 }),
-        ),
         (Some((1, 0, true)), (false, 2, 1), Err(Cancelled(key))),
-        (Some((1, 0, false)), (false, 1, 1), Ok(Extend)),
-        (Some((1, 1, false)), (false, 1, 2), Ok(Extend)),
-        (Some((1, 0, false)), (false, 1, 2), gap(1, 2)),
-        (Some((1, 1, false)), (false, 1, 1), gap(2, 1)),
-        (
-            Some((1, u32::MAX, false)),
-            (false, 1, 0),
-            gap(4_294_967_296, 0),
-        ),
     ];
     assert_eq!(rt; first_wrong(rt.alloc(), key, &table), None);
     Ok(())

@@ -136,21 +136,21 @@ fn rebuilt<C: Ledger>(
     Ok(chart.as_ref().map(seen))
 }
 
+/// The data records of updates, and the chart that is rebuilt from the base file and these.
+static LISTS: [(&[&[&[u8]]], Option<Seen>); 3] = [
+    (&[], Some((0, 1, 1, Some(100)))),
+    (
+        &[&[GENERAL, MOVED], &[NEXT, SECOND, POINTING]],
+        Some((2, 2, 2, Some(8))),
+    ),
+    (&[&[GENERAL, MOVED], &[CANCELLING]], None),
+];
+
 #[test]
 fn lists_are_rebuilt(rt: HostRuntime) -> Result<(), Fail> {
-    let table: [(&[&[&[u8]]], Option<Seen>); 3] = [
-        (&[], Some((0, 1, 1, Some(100)))),
-        (
-            &[&[GENERAL, MOVED], &[NEXT, SECOND, POINTING]],
-            Some((2, 2, 2, Some(8))),
-        ),
-        (&[&[GENERAL, MOVED], &[CANCELLING]], None),
-    ];
-    for (updates, wanted) in table {
-        assert_eq!(rt;
-            rebuilt::<Brand>(rt.alloc(), updates, Blank::new(1))?,
-            wanted
-        );
+    for (updates, wanted) in &LISTS {
+        let chart = rebuilt::<Brand>(rt.alloc(), updates, Blank::new(1))?;
+        assert_eq!(rt; chart, *wanted);
     }
     Ok(())
 }

@@ -60,7 +60,7 @@ fn left(alloc: Global, desk: &Untold, calls: u64) -> Result<[u8; 3], Fail> {
 
 /// Opening makes two calls, a length and a read. Appending makes four: the record is written, synced, and its gate is
 /// opened, synced. The gate that a crash may have left open or closed is written by the third.
-const STOPPED: [(u64, [u8; 3]); 7] = [
+static STOPPED: [(u64, [u8; 3]); 7] = [
     (0, *b"000"),
     (1, *b"000"),
     (2, *b"000"),
@@ -76,9 +76,9 @@ fn a_crash_leaves_a_record_or_none(rt: HostRuntime) -> Result<(), Fail> {
     let mut desk = desk_of(alloc, ONE, &[])?;
     let (mut bank, _) = open_bank(alloc, &mut desk, 1)?;
     append(alloc, &mut desk, &mut bank, b"de")?;
-    for (calls, wanted) in STOPPED {
-        let told = left(alloc, &desk, calls)?;
-        assert!(rt; told == wanted, "after {calls}: {told:?}");
+    for (calls, wanted) in &STOPPED {
+        let told = left(alloc, &desk, *calls)?;
+        assert!(rt; told == *wanted, "after {calls}");
     }
     Ok(())
 }
@@ -94,15 +94,14 @@ fn failed(alloc: Global, number: u64) -> Result<(Option<AppendFault>, [u8; 3]), 
 
 /// A write that fails has written the first half of its bytes: three of the record's seven, none of the gate's one. Until a
 /// sync a crash may leave any bytes in its whole range.
-const FAILED: [(u64, [u8; 3]); 4] = [(3, *b"000"), (4, *b"000"), (5, *b"001"), (6, *b"011")];
+static FAILED: [(u64, [u8; 3]); 4] = [(3, *b"000"), (4, *b"000"), (5, *b"001"), (6, *b"011")];
 
 #[test]
 fn a_failing_call_leaves_a_record_or_none(rt: HostRuntime) -> Result<(), Fail> {
-    let alloc = rt.alloc();
-    for (number, wanted) in FAILED {
-        let (fault, told) = failed(alloc, number)?;
-        assert!(rt; fault == Some(AppendFault::DeskFault), "call {number}");
-        assert!(rt; told == wanted, "call {number}: {told:?}");
+    for (number, wanted) in &FAILED {
+        let (fault, told) = failed(rt.alloc(), *number)?;
+        let same = fault == Some(AppendFault::DeskFault) && told == *wanted;
+        assert!(rt; same, "call {number}");
     }
     Ok(())
 }

@@ -5,7 +5,7 @@ use bank_journal::{BankFault, open_bank};
 use std::test::Fail;
 
 /// Banks, and what they read as.
-const READ: [(&[u8], &[u8]); 9] = [
+static READ: [(&[u8], &[u8]); 9] = [
     // Nine bytes or fewer are the empty store, whatever they are.
     (b"", b""),
     (b"123456789", b""),
@@ -31,15 +31,15 @@ const READ: [(&[u8], &[u8]); 9] = [
 
 #[test]
 fn banks_read_as_what_was_written(rt: HostRuntime) -> Result<(), Fail> {
-    let alloc = rt.alloc();
-    for (bank, text) in READ {
-        assert!(rt; read_as(alloc, bank)?.as_slice() == text, "{bank:?}");
+    for (at, (bank, wanted)) in READ.iter().enumerate() {
+        let text = read_as(rt.alloc(), bank)?;
+        assert!(rt; text.as_slice() == *wanted, "case {at}");
     }
     Ok(())
 }
 
 /// Damaged banks, and the places of their first faults.
-const DAMAGED: [(&[u8], u64); 10] = [
+static DAMAGED: [(&[u8], u64); 10] = [
     // Another layout.
     (b"\x01\0\0\0\0\0\0\0\0\0", 0),
     // A checkpoint to the end, where a gate should stand, past the end, and as long as the number can say.
@@ -60,19 +60,15 @@ const DAMAGED: [(&[u8], u64); 10] = [
 
 #[test]
 fn damaged_banks_have_a_first_fault(rt: HostRuntime) -> Result<(), Fail> {
-    let alloc = rt.alloc();
-    for (bank, place) in DAMAGED {
-        let fault = read_as(alloc, bank).err();
-        assert!(rt;
-            fault == Some(BankFault::Foreign(1, place)),
-            "{bank:?}: {fault:?}"
-        );
+    for (at, (bank, place)) in DAMAGED.iter().enumerate() {
+        let fault = read_as(rt.alloc(), bank).err();
+        assert!(rt; fault == Some(BankFault::Foreign(1, *place)), "case {at}");
     }
     Ok(())
 }
 
 /// Banks, and the calls of their opening: a length and a read, and for the empty store a write and a sync.
-const CALLS: [(&[u8], u64); 6] = [
+static CALLS: [(&[u8], u64); 6] = [
     (b"\0\0\0\0\0\0\0\x02cp\0", 1),
     (b"\0\0\0\0\0\0\0\x02cp\0", 2),
     (b"", 1),
@@ -83,14 +79,10 @@ const CALLS: [(&[u8], u64); 6] = [
 
 #[test]
 fn a_failing_call_is_told(rt: HostRuntime) -> Result<(), Fail> {
-    let alloc = rt.alloc();
-    for (bank, number) in CALLS {
-        let mut desk = desk_of(alloc, bank, &[number])?;
-        let fault = open_bank(alloc, &mut desk, 1).err();
-        assert!(rt;
-            fault == Some(BankFault::DeskFault),
-            "call {number}: {fault:?}"
-        );
+    for (at, (bank, number)) in CALLS.iter().enumerate() {
+        let mut desk = desk_of(rt.alloc(), bank, &[*number])?;
+        let fault = open_bank(rt.alloc(), &mut desk, 1).err();
+        assert!(rt; fault == Some(BankFault::DeskFault), "case {at}");
     }
     Ok(())
 }

@@ -13,10 +13,52 @@ use std::marker::Brand;
 use std::sync::ledger::{Blank, Ledger};
 use std::test::Fail;
 
-/// Gives commands one after the other, and tells what each was answered and what was held then.
+const AT_0: &str = "AA5TEST1 1.0 1 1.0 1;";
+
+const AT_1: &str = "AA5TEST1 1.1 2 1.1 1;";
+
+const CANCELLED: &str = "AA5TEST1 1.1 3;";
+
+const SECOND_UPDATE: Given<'static> = Given::Load(&[SECOND, MOVED]);
+
+/// A command, what it is answered, and what is held then. An answer that begins with a digit is whole, and any other is
+/// the start of one.
+type Row = (Given<'static>, &'static str, &'static str);
+
+static COMMANDS: [Row; 18] = [
+    (FIRST_UPDATE, "NoBase", ""),
+    (BASE, "1 0 false 100/1 110/1", AT_0),
+    (BASE, "1 0 false", AT_0),
+    (SECOND_UPDATE, "Gap { wanted: 1, given: 2 }", AT_0),
+    (
+        Given::Load(&[UPDATE, MOVED, INSERTED]),
+        "Present { name: Name { rcnm: 110, rcid: 1 } }",
+        AT_0,
+    ),
+    (FIRST_UPDATE, "1 1 false 110/1", AT_1),
+    (Given::Rollback(2), "NoUpdate", AT_1),
+    (Given::Load(&[CANCEL]), "1 1 true 100/1 110/1", CANCELLED),
+    (SECOND_UPDATE, "Cancelled", CANCELLED),
+    (
+        BASE,
+        "StaleBase { held_edition: 1, held_update: 1, edition: 1, update: 0 }",
+        CANCELLED,
+    ),
+    // The cancelling file has the number 3, and isn't one to roll back to.
+    (Given::Rollback(3), "NoUpdate", CANCELLED),
+    (Given::Rollback(1), "1 1 false 100/1 110/1", AT_1),
+    (Given::Rollback(0), "1 0 false 110/1", AT_0),
+    (FIRST_UPDATE, "1 1 false 110/1", AT_1),
+    (Given::Drop, "1 1 false 100/1 110/1", ""),
+    (Given::Drop, "NoCell", ""),
+    (Given::Rollback(0), "NoCell", ""),
+    (BASE, "1 0 false 100/1 110/1", AT_0),
+];
+
+/// Gives the commands of rows one after the other, and tells what each was answered and what was held then.
 fn tell_with<C: Ledger>(
     alloc: Global,
-    commands: &[Given],
+    rows: &[Row],
     blank: Blank,
 ) -> Result<Vec<(String, String)>, AllocError>
     requires name { blank.name ≡ C.name }
@@ -26,7 +68,7 @@ fn tell_with<C: Ledger>(
     let mut steps = Steps::<C>::new(blank);
     let mut live = LiveCells::new(alloc);
     let mut told = Vec::new(alloc);
-    for given in commands {
+    for (given, _, _) in rows {
         let answer = live.take(alloc, command_of(alloc, *given)?, &mut steps);
         told.push((answered(alloc, answer)?, shown(alloc, live.cells())?))?;
     }
@@ -34,55 +76,23 @@ fn tell_with<C: Ledger>(
 }
 
 /// The same, with a counter of its own.
-fn tell(alloc: Global, commands: &[Given]) -> Result<Vec<(String, String)>, AllocError> {
-    tell_with::<Brand>(alloc, commands, Blank::new(1))
+fn tell(alloc: Global, rows: &[Row]) -> Result<Vec<(String, String)>, AllocError> {
+    tell_with::<Brand>(alloc, rows, Blank::new(1))
+}
+
+/// Whether this was answered, or an answer that starts so.
+fn is_answer(told: &str, answer: &str) -> bool {
+    let whole = answer.starts_with(|first: char| first.is_ascii_digit());
+    told.starts_with(answer) && (!whole || told == answer)
 }
 
 #[test]
 fn commands_are_given_one_after_the_other(rt: HostRuntime) -> Result<(), Fail> {
-    let alloc = rt.alloc();
-    let (at_0, at_1) = ("AA5TEST1 1.0 1 1.0 1;", "AA5TEST1 1.1 2 1.1 1;");
-    let (cancelled, second) = ("AA5TEST1 1.1 3;", Given::Load(&[SECOND, MOVED]));
-    let table: [(Given, &str, &str); 18] = [
-        (FIRST_UPDATE, "NoBase", ""),
-        (BASE, "1 0 false 100/1 110/1", at_0),
-        (BASE, "1 0 false", at_0),
-        (second, "Gap { wanted: 1, given: 2 }", at_0),
-        (
-            Given::Load(&[UPDATE, MOVED, INSERTED]),
-            "Present { name: Name { rcnm: 110, rcid: 1 } }",
-            at_0,
-        ),
-        (FIRST_UPDATE, "1 1 false 110/1", at_1),
-        (Given::Rollback(2), "NoUpdate", at_1),
-        (Given::Load(&[CANCEL]), "1 1 true 100/1 110/1", cancelled),
-        (second, "Cancelled", cancelled),
-        (
-            BASE,
-            "StaleBase { held_edition: 1, held_update: 1, edition: 1, update: 0 }",
-            cancelled,
-        ),
-        // The cancelling file has the number 3, and isn't one to roll back to.
-        (Given::Rollback(3), "NoUpdate", cancelled),
-        (Given::Rollback(1), "1 1 false 100/1 110/1", at_1),
-        (Given::Rollback(0), "1 0 false 110/1", at_0),
-        (FIRST_UPDATE, "1 1 false 110/1", at_1),
-        (Given::Drop, "1 1 false 100/1 110/1", ""),
-        (Given::Drop, "NoCell", ""),
-        (Given::Rollback(0), "NoCell", ""),
-        (BASE, "1 0 false 100/1 110/1", at_0),
-    ];
-    let mut commands = Vec::new(alloc);
-    for (command, _, _) in table {
-        commands.push(command)?;
-    }
-    let told = tell(alloc, commands.as_slice())?;
-    assert_eq!(rt; told.len(), table.len());
-    for (told, (_, answer, held)) in told.iter().zip(table) {
-        let whole = answer.starts_with(|first: char| first.is_ascii_digit());
-        assert!(rt; told.0.as_str().starts_with(answer), "{}", told.0);
-        assert!(rt; !whole || told.0.as_str() == answer, "{}", told.0);
-        assert_eq!(rt; told.1.as_str(), held);
+    let told = tell(rt.alloc(), &COMMANDS)?;
+    assert_eq!(rt; told.len(), COMMANDS.len());
+    for (told, (_, answer, held)) in told.iter().zip(&COMMANDS) {
+        assert!(rt; is_answer(told.0.as_str(), answer), "{}", told.0);
+        assert_eq!(rt; told.1.as_str(), *held);
     }
     Ok(())
 }
@@ -115,12 +125,9 @@ fn last_of(alloc: Global, count: u8) -> Result<(usize, String, String), AllocErr
 
 #[test]
 fn thirty_two_cells_are_held(rt: HostRuntime) -> Result<(), Fail> {
-    let alloc = rt.alloc();
-    let cases = [(32, "1 0 false 100/1 110/1"), (33, "CellsFull(32)")];
-    for (count, answer) in cases {
-        let told = last_of(alloc, count)?;
-        assert_eq!(rt; told.0, 32);
-        assert_eq!(rt; told.1.as_str(), answer);
+    for (count, answer) in [(32, "1 0 false 100/1 110/1"), (33, "CellsFull(32)")] {
+        let told = last_of(rt.alloc(), count)?;
+        assert!(rt; told.0 == 32 && told.1.as_str() == answer, "{}", told.1);
         assert_eq!(rt; told.2.as_str(), "1 0 false");
     }
     Ok(())

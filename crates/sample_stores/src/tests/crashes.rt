@@ -31,11 +31,11 @@ fn sides(
 
 /// The sides after none of a command's calls, after the write of its record and its sync, and after the write of its
 /// gate: before that write nothing counts, and then its byte says whether the command does.
-const LEFT: [&str; 4] = ["bbb", "bbb", "bbb", "baa"];
+static LEFT: [&str; 4] = ["bbb", "bbb", "bbb", "baa"];
 
 /// The sides where one of these calls failed: a write of one byte that failed has written nothing, so a read gives the
 /// closed gate, but a crash may still leave any byte there.
-const FAILED: [&str; 4] = ["bbb", "bbb", "bba", "baa"];
+static FAILED: [&str; 4] = ["bbb", "bbb", "bba", "baa"];
 
 /// The sides of a table with so many calls behind the opening.
 fn wanted(table: &[&'static str], calls: u64) -> &'static str {
@@ -50,8 +50,7 @@ fn a_gate_says_whether_a_cell_is_held(rt: HostRuntime) -> Result<(), Fail> {
     let alloc = rt.alloc();
     let mut desk = failing_desk(alloc, 0)?;
     let _ = tell(alloc, &mut desk, &[BASE])?;
-    let rows = [(9, "bbb"), (10, "bbb"), (11, "baa"), (12, "aaa")];
-    for (calls, wanted) in rows {
+    for (calls, wanted) in [(9, "bbb"), (10, "bbb"), (11, "baa"), (12, "aaa")] {
         let sides = sides(alloc, &desk, calls, "", "AA5TEST1 1.0 1 1.0 1;")?;
         assert_eq!(rt; sides.as_str(), wanted, "after {calls} calls");
     }

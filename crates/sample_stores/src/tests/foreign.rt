@@ -14,7 +14,7 @@ const UNKNOWN: &[u8] = b"\x01\0\0\0\x01\x04";
 const SILENT: &[u8] = b"\x01\0\0\0\0";
 
 /// The head, the bank, and what an opening answers.
-const FILES: [(&[u8], &[&[u8]], &str); 27] = [
+static FILES: [(&[u8], &[&[u8]], &str); 27] = [
     // The head comes before the bank.
     (b"\0", &[], "Foreign(0, 0)"),
     (b"\0", &[b"\x01\0\0\0\0\0\0\0\0\0"], "Foreign(0, 0)"),
@@ -106,10 +106,10 @@ const FILES: [(&[u8], &[&[u8]], &str); 27] = [
 #[test]
 fn the_first_fault_of_files_is_told(rt: HostRuntime) -> Result<(), Fail> {
     let alloc = rt.alloc();
-    for (number, (head, bank, answer)) in FILES.into_iter().enumerate() {
+    for (number, (head, bank, answer)) in FILES.iter().enumerate() {
         let bank = joined(alloc, bank)?;
         let told = opened(alloc, images(alloc, head, bank.as_slice())?)?;
-        assert_eq!(rt; told.as_str(), answer, "row {number}");
+        assert_eq!(rt; told.as_str(), *answer, "row {number}");
     }
     Ok(())
 }

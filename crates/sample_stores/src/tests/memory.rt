@@ -104,9 +104,9 @@ fn see(test: &impl Abort, seen: Result<(bool, Told), AllocError>, answer: &str, 
 }
 
 /// A bank with the base file, and one with the update too.
-const ONE: [&[u8]; 6] = [HEAD, LOADS, FIRST, GENERAL, RECORDS, CLOSED];
+static ONE: [&[u8]; 6] = [HEAD, LOADS, FIRST, GENERAL, RECORDS, CLOSED];
 
-const TWO: [&[u8]; 10] = [
+static TWO: [&[u8]; 10] = [
     HEAD, LOADS, FIRST, GENERAL, RECORDS, EXTENDS, FIRST, UPDATE, MOVED, CLOSED,
 ];
 

@@ -14,7 +14,7 @@ pub const APPENDING: u64 = 4;
 /// How many calls the script makes on empty files.
 pub const CALLS: u64 = 44;
 
-pub const SCRIPT: [Given<'static>; 10] = [
+pub static SCRIPT: [Given<'static>; 10] = [
     BASE,
     FIRST_UPDATE,
     FIRST_UPDATE,
@@ -27,22 +27,23 @@ pub const SCRIPT: [Given<'static>; 10] = [
     BASE,
 ];
 
-/// What each command is answered.
-const ANSWERS: [&str; 10] = [
-    "AA5TEST1 1 over none: 1 0 false 100/1 110/1",
-    "AA5TEST1 2 over a chart: 1 1 false 110/1",
-    "Gap { wanted: 2, given: 1 }",
-    "AA5TEST1 3 over a chart: 1 2 false 110/2",
-    "AA5TEST1 4 over a chart: 1 2 true 100/1 110/1 110/2",
-    "AA5TEST1 5 over none: 1 1 false 100/1 110/1",
-    "AA5TEST1 6 over a chart: 2 0 false 110/1",
-    "AA5TEST2 7 over none: 1 0 false 100/1 110/1",
-    "AA5TEST1 8 over a chart: 2 0 false 100/1 110/1",
-    "AA5TEST1 9 over none: 1 0 false 100/1 110/1",
+/// What is answered to the opening and to each command, and how many commands were accepted then.
+static ANSWERS: [(&str, u64); 11] = [
+    ("open", 0),
+    ("AA5TEST1 1 over none: 1 0 false 100/1 110/1", 1),
+    ("AA5TEST1 2 over a chart: 1 1 false 110/1", 2),
+    ("Gap { wanted: 2, given: 1 }", 2),
+    ("AA5TEST1 3 over a chart: 1 2 false 110/2", 3),
+    ("AA5TEST1 4 over a chart: 1 2 true 100/1 110/1 110/2", 4),
+    ("AA5TEST1 5 over none: 1 1 false 100/1 110/1", 5),
+    ("AA5TEST1 6 over a chart: 2 0 false 110/1", 6),
+    ("AA5TEST2 7 over none: 1 0 false 100/1 110/1", 7),
+    ("AA5TEST1 8 over a chart: 2 0 false 100/1 110/1", 8),
+    ("AA5TEST1 9 over none: 1 0 false 100/1 110/1", 9),
 ];
 
 /// What is held after so many accepted commands.
-pub const HELD: [&str; 10] = [
+pub static HELD: [&str; 10] = [
     "",
     "AA5TEST1 1.0 1 1.0 1;",
     "AA5TEST1 1.1 2 1.1 1;",
@@ -62,18 +63,14 @@ pub fn held_after(commands: u64) -> &'static str {
 
 #[test]
 fn a_script_is_answered(rt: HostRuntime) -> Result<(), Fail> {
-    let alloc = rt.alloc();
-    let mut desk = failing_desk(alloc, CALLS + 1)?;
-    let told = tell(alloc, &mut desk, &SCRIPT)?;
+    let mut desk = failing_desk(rt.alloc(), CALLS + 1)?;
+    let told = tell(rt.alloc(), &mut desk, &SCRIPT)?;
     // There is no call behind the last of those that were counted.
     assert_eq!(rt; desk.faults(), 0);
-    let accepted = [0, 1, 2, 2, 3, 4, 5, 6, 7, 8, 9];
-    assert_eq!(rt; told.len(), accepted.len());
-    for (told, number) in told.iter().zip(accepted) {
-        assert_eq!(rt; told.held.as_str(), held_after(number));
-    }
-    for (told, answer) in told.iter().skip(1).zip(ANSWERS) {
-        assert_eq!(rt; told.answer.as_str(), answer);
+    assert_eq!(rt; told.len(), ANSWERS.len());
+    for (told, (answer, accepted)) in told.iter().zip(&ANSWERS) {
+        assert_eq!(rt; told.answer.as_str(), *answer);
+        assert_eq!(rt; told.held.as_str(), held_after(*accepted));
     }
     Ok(())
 }

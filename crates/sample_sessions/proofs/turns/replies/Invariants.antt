@@ -3,7 +3,7 @@ use Rattle.std.proofs.Common.{◌≤◌, IsTrue}
 use Rattle.chart_ports.specs.MemoryDesk.{contents_of, leaves_of}
 use Rattle.chart_store.specs.Store.{IsKept, count_of, is_sound}
 use Rattle.session_core.specs.Session.{store_of}
-use Rattle.sample_sessions.proofs.tests.replies.Given as goal
+use Rattle.sample_sessions.proofs.turns.replies.Given as goal
 
 abbrev pub invariant-loop-line : goal.invariant-loop-line
 invariant-loop-line g l = record {

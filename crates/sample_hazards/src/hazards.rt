@@ -1,12 +1,12 @@
 //! What is drawn of wrecks, rocks and obstructions.
 
-use super::SETTINGS;
-use super::items::{WHOLE, Wanted, are_items, edges, whole};
-use super::places::{BETWEEN, DEEP, NOWHERE, OUTSIDE, SHALLOW, SQUARES};
+use crate::squares::{BETWEEN, DEEP, NOWHERE, OUTSIDE, SHALLOW, SQUARES};
 use chart_model::{Settings, Target};
 use depth_values::codes::{OBSTRN, UWTROC, WRECKS};
 use hazard_symbology::{obstrn04, wrecks02};
-use sample_rows::{Item, Mark, Row, Setting, chart, feature, name, put};
+use sample_rows::{
+    Drawn, Item, Mark, Row, SETTINGS, Setting, are_items, chart, edges, feature, name, put, whole,
+};
 use std::alloc::Global;
 use std::test::Fail;
 
@@ -19,7 +19,7 @@ type PointCase = (
     u16,
     &'static [Setting],
     &'static [Item],
-    &'static [Wanted],
+    &'static [Drawn],
 );
 
 static POINTS: [PointCase; 47] = [
@@ -251,7 +251,7 @@ static POINTS: [PointCase; 47] = [
 ];
 
 /// Whether these are the items of the feature 9, by both procedures, among the squares.
-fn draws(alloc: Global, contour: i32, row: &Row, wanted: &[Wanted]) -> Result<bool, Fail> {
+fn draws(alloc: Global, contour: i32, row: &Row, wanted: &[Drawn]) -> Result<bool, Fail> {
     let mut cell = chart(alloc, &SQUARES)?;
     put(alloc, &mut cell, &[*row])?;
     let settings = Settings {
@@ -299,7 +299,7 @@ type EdgesCase = (
     &'static [Setting],
     &'static [Item],
     &'static [Mark],
-    &'static [Wanted],
+    &'static [Drawn],
 );
 
 static LINES: [EdgesCase; 20] = [
@@ -364,7 +364,7 @@ static LINES: [EdgesCase; 20] = [
         EDGES,
         &[],
         &[
-            (WHOLE, b"AP(FOULAR01)"),
+            (Target::Whole, b"AP(FOULAR01)"),
             (Target::Edge(1), b"LS(DOTT,2,CHBLK)"),
             (Target::Edge(2), b"LS(DOTT,2,CHBLK)"),
         ],
@@ -396,7 +396,7 @@ static LINES: [EdgesCase; 20] = [
         SIX,
         MARKS,
         &[
-            (WHOLE, b"AP(FOULAR01)"),
+            (Target::Whole, b"AP(FOULAR01)"),
             (Target::Edge(4), b"LS(DOTT,2,CHBLK)"),
             (Target::Edge(5), b"LS(DOTT,2,CHBLK)"),
             (Target::Edge(6), b"LS(DOTT,2,CHBLK)"),

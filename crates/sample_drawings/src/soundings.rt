@@ -1,11 +1,9 @@
 //! What is drawn of soundings.
 
-use super::SETTINGS;
-use super::items::{Wanted, are_items};
-use super::users::find_users;
+use crate::users::find_users;
 use chart_model::{Settings, Target};
 use depth_symbology::soundg02;
-use sample_rows::{Row, chart, feature, name, vector};
+use sample_rows::{Drawn, Row, SETTINGS, are_items, chart, feature, name, vector};
 use std::test::Fail;
 
 /// Five soundings, a place without a depth, and an edge.
@@ -39,7 +37,7 @@ static CHART: [Row; 10] = [
 ];
 
 /// The number of a feature, the safety depth in centimetres, and what is drawn.
-type Case = (u32, i32, &'static [Wanted]);
+type Case = (u32, i32, &'static [Drawn]);
 
 static CASES: [Case; 9] = [
     (

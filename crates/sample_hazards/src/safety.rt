@@ -1,8 +1,7 @@
 //! Which areas are safe.
 
-use super::SETTINGS;
 use depth_values::{is_safe_area, is_unsafe_area};
-use sample_rows::{Row, Setting, chart, feature, name};
+use sample_rows::{Row, SETTINGS, Setting, chart, feature, name};
 use std::test::Fail;
 
 /// A primitive, a group, a class and attributes; whether the area is safe, and whether it is unsafe.

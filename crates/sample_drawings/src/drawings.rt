@@ -1,12 +1,12 @@
 //! Drawings of features by tables.
 
-use crate::tests::users::find_users;
-use chart_model::{Block, Geom, Item, ItemList, Name, Octets, Settings, Shades, Target};
+use crate::users::find_users;
+use chart_model::{Block, Geom, Item, ItemList, Octets, Settings, Shades, Target};
 use draw_list::{block_of, draw_cell, print_drawing, print_item};
 use lookup_table::{Table, read_table};
 use object_catalogue::read_objects;
-use sample_rows::{Row, chart, feature};
-use std::alloc::Global;
+use sample_rows::{Row, chart, feature, name};
+use std::alloc::{AllocError, Global};
 use std::test::Fail;
 
 /// Two areas, two points, a line that is shown up to the display scale 1, and a feature without a geometry.
@@ -118,77 +118,96 @@ fn settings(scale: u32) -> Settings {
     }
 }
 
+/// The number of the items of the chart's drawing by a table, and their lines.
+fn drawing(alloc: Global, text: &[u8], scale: u32) -> Result<(u64, Octets), Fail> {
+    let cell = chart(alloc, &CHART)?;
+    let users = find_users(alloc, &cell)?;
+    let table = table(alloc, text)?;
+    let drawing = draw_cell(alloc, &cell, &users, &table, &settings(scale))?;
+    Ok(print_drawing(alloc, &drawing)?)
+}
+
 #[test]
 fn drawings(rt: HostRuntime) -> Result<(), Fail> {
-    let cell = chart(rt.alloc(), &CHART)?;
-    let users = find_users(rt.alloc(), &cell)?;
-    for (text, scale, count, lines) in &CASES {
-        let table = table(rt.alloc(), text)?;
-        let drawing = draw_cell(rt.alloc(), &cell, &users, &table, &settings(*scale))?;
-        let (items, printed) = print_drawing(rt.alloc(), &drawing)?;
-        assert!(rt; items == *count);
-        assert!(rt; printed.as_slice() == *lines);
+    for (at, (text, scale, count, lines)) in CASES.iter().enumerate() {
+        let (items, printed) = drawing(rt.alloc(), text, *scale)?;
+        assert!(rt;
+            items == *count && printed.as_slice() == *lines,
+            "case {at}"
+        );
     }
     Ok(())
+}
+
+/// The number of a feature, the denominator of a display scale, and how many instructions the feature's block has.
+static BLOCKS: [(u32, u32, Option<usize>); 8] = [
+    (1, 1_000, Some(2)),
+    (2, 2, Some(2)),
+    (2, 3, None),
+    (3, 1, Some(1)),
+    (5, 1, Some(1)),
+    (5, 2, None),
+    (6, 1, None),
+    (7, 1, None),
+];
+
+/// How many instructions the block of a feature has.
+fn block_length(alloc: Global, rcid: u32, scale: u32) -> Result<Option<usize>, Fail> {
+    let cell = chart(alloc, &CHART)?;
+    let users = find_users(alloc, &cell)?;
+    let table = table(alloc, b"DEPARE A 1 - AC(DEPVS);LS(SOLID,1,CHGRD)")?;
+    let settings = settings(scale);
+    let block = block_of(alloc, &cell, &users, &table, &settings, name!(100, rcid))?;
+    Ok(block.as_ref().map(|block| block.items.as_slice().len()))
 }
 
 #[test]
 fn blocks(rt: HostRuntime) -> Result<(), Fail> {
-    let cell = chart(rt.alloc(), &CHART)?;
-    let users = find_users(rt.alloc(), &cell)?;
-    let table = table(rt.alloc(), b"DEPARE A 1 - AC(DEPVS);LS(SOLID,1,CHGRD)")?;
-    // the number of a feature, the denominator of the display scale, and how many instructions its block has
-    let cases: [(u32, u32, Option<usize>); 8] = [
-        (1, 1_000, Some(2)),
-        (2, 2, Some(2)),
-        (2, 3, None),
-        (3, 1, Some(1)),
-        (5, 1, Some(1)),
-        (5, 2, None),
-        (6, 1, None),
-        (7, 1, None),
-    ];
-    for (rcid, scale, count) in &cases {
-        let name = Name {
-            rcnm: 100,
-            rcid: *rcid,
-        };
-        let block = block_of(rt.alloc(), &cell, &users, &table, &settings(*scale), name)?;
-        let found = block.as_ref().map(|block| block.items.as_slice().len());
-        assert!(rt; found == *count);
+    for (rcid, scale, count) in &BLOCKS {
+        let found = block_length(rt.alloc(), *rcid, *scale)?;
+        assert!(rt; found == *count, "feature {rcid} at {scale}");
     }
     Ok(())
 }
 
+/// A geometry, a target, and the line of an item.
+static LINES: [(Geom, Target, &[u8]); 3] = [
+    (Geom::Area, Target::Whole, b"item 4 A 7 whole LS(DASH, 2)\n"),
+    (
+        Geom::Line,
+        Target::Edge(12),
+        b"item 4 L 7 edge 12 LS(DASH, 2)\n",
+    ),
+    (
+        Geom::Point,
+        Target::At(-1_800_000_000, 900_000_000),
+        b"item 4 P 7 at -1800000000 900000000 LS(DASH, 2)\n",
+    ),
+];
+
+/// The line of the feature 7's item behind a byte that is there already.
+fn line_of(alloc: Global, geom: Geom, target: Target) -> Result<Octets, AllocError> {
+    let item = Item {
+        target,
+        text: Octets::from_vec(Vec::from_slice(alloc, b"LS(DASH, 2)")?),
+    };
+    let block = Block {
+        priority: 4,
+        geom,
+        items: ItemList::new(alloc),
+    };
+    let mut out = Octets::from_vec(Vec::from_slice(alloc, b"x")?);
+    print_item(alloc, &mut out, &block, 7, &item)?;
+    Ok(out)
+}
+
 #[test]
 fn items(rt: HostRuntime) -> Result<(), Fail> {
-    let cases: [(Geom, Target, &[u8]); 3] = [
-        (Geom::Area, Target::Whole, b"item 4 A 7 whole LS(DASH, 2)\n"),
-        (
-            Geom::Line,
-            Target::Edge(12),
-            b"item 4 L 7 edge 12 LS(DASH, 2)\n",
-        ),
-        (
-            Geom::Point,
-            Target::At(-1_800_000_000, 900_000_000),
-            b"item 4 P 7 at -1800000000 900000000 LS(DASH, 2)\n",
-        ),
-    ];
-    for (geom, target, line) in &cases {
-        let item = Item {
-            target: *target,
-            text: Octets::from_vec(Vec::from_slice(rt.alloc(), b"LS(DASH, 2)")?),
-        };
-        let block = Block {
-            priority: 4,
-            geom: *geom,
-            items: ItemList::new(rt.alloc()),
-        };
-        let mut out = Octets::from_vec(Vec::from_slice(rt.alloc(), b"x")?);
-        print_item(rt.alloc(), &mut out, &block, 7, &item)?;
+    for (at, (geom, target, line)) in LINES.iter().enumerate() {
+        let out = line_of(rt.alloc(), *geom, *target)?;
         let bytes = out.as_slice();
-        assert!(rt; bytes.first() == Some(&b'x') && bytes.get(1..) == Some(*line));
+        let same = bytes.first() == Some(&b'x') && bytes.get(1..) == Some(*line);
+        assert!(rt; same, "case {at}");
     }
     Ok(())
 }

@@ -1,41 +1,11 @@
-//! The depths of areas and of hazards.
+//! The depths of hazards.
 
-use super::places::{BETWEEN, DEEP, NOWHERE, OUTSIDE, SHALLOW, SQUARES};
+use crate::squares::{BETWEEN, DEEP, NOWHERE, OUTSIDE, SHALLOW, SQUARES};
 use depth_values::codes::{OBSTRN, UWTROC, WRECKS};
-use depth_values::{area_depths, depth_areas, hazard_depth, hazard_depth_among, least_is_least};
+use depth_values::{depth_areas, hazard_depth, hazard_depth_among, least_is_least};
 use sample_rows::{Item, Row, Setting, chart, feature, name};
+use std::alloc::Global;
 use std::test::Fail;
-
-/// Attributes, and the depths in centimetres.
-type RangeCase = (&'static [Setting], (i32, i32));
-
-static RANGES: [RangeCase; 10] = [
-    (&[(87, b"5"), (88, b"10")], (500, 1_000)),
-    (&[(87, b"+0.55"), (88, b".5")], (55, 50)),
-    (&[(87, b"-1.505"), (88, b"-0")], (-151, 0)),
-    (&[], (-100, -99)),
-    (&[(88, b"3")], (-100, 300)),
-    (&[(87, b"20")], (2_000, 2_001)),
-    (&[(87, b""), (88, b"")], (-100, -99)),
-    (&[(87, b"deep"), (88, b"7")], (-100, 700)),
-    (&[(87, b"1,5"), (88, b"7 ")], (-100, -99)),
-    (&[(87, b"999999.999")], (99_999_999, 100_000_000)),
-];
-
-#[test]
-fn ranges(rt: HostRuntime) -> Result<(), Fail> {
-    for (attrs, wanted) in &RANGES {
-        let row = Row {
-            attrs: *attrs,
-            ..feature!(3, 1, [])
-        };
-        let cell = chart(rt.alloc(), &[row])?;
-        let feature = cell.features.get(name!(100, 1)).ok_or("a feature")?;
-        let depths = area_depths(feature);
-        assert_eq!(rt; (depths.d1, depths.d2), *wanted, "{attrs:?}");
-    }
-    Ok(())
-}
 
 /// A class, attributes, a place, and the depth in centimetres.
 type HazardCase = (u16, &'static [Setting], &'static [Item], i32);
@@ -95,23 +65,27 @@ static HAZARDS: [HazardCase; 34] = [
     (WRECKS, &[], DEEP, -1_500),
 ];
 
+/// The depth of the feature 9 among the squares: with the areas to be found, and with those that were found.
+fn depths(alloc: Global, row: &Row) -> Result<(i32, i32), Fail> {
+    let cell = chart(alloc, &SQUARES)?;
+    let object = chart(alloc, &[*row])?;
+    let feature = object.features.get(name!(100, 9)).ok_or("a feature")?;
+    let areas = depth_areas(alloc, &cell)?;
+    let depth = hazard_depth(alloc, &cell, feature)?;
+    let again = hazard_depth_among(alloc, areas.as_slice(), &cell, feature)?;
+    Ok((depth, again))
+}
+
 #[test]
-fn hazards(rt: HostRuntime) -> Result<(), Fail> {
-    let cell = chart(rt.alloc(), &SQUARES)?;
-    let areas = depth_areas(rt.alloc(), &cell)?;
-    for (class, attrs, place, wanted) in &HAZARDS {
+fn depths_of_hazards(rt: HostRuntime) -> Result<(), Fail> {
+    for (at, (class, attrs, place, wanted)) in HAZARDS.iter().enumerate() {
         let row = Row {
             class: *class,
             attrs: *attrs,
             pointers: *place,
             ..feature!(1, 9, [])
         };
-        let object = chart(rt.alloc(), &[row])?;
-        let feature = object.features.get(name!(100, 9)).ok_or("a feature")?;
-        let depth = hazard_depth(rt.alloc(), &cell, feature)?;
-        assert_eq!(rt; depth, *wanted, "{class} {attrs:?}");
-        let again = hazard_depth_among(rt.alloc(), areas.as_slice(), &cell, feature)?;
-        assert_eq!(rt; again, depth, "{class} {attrs:?}");
+        assert_eq!(rt; depths(rt.alloc(), &row)?, (*wanted, *wanted), "case {at}");
     }
     least_is_least();
     Ok(())

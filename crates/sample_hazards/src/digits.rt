@@ -89,8 +89,8 @@ fn digits_of(depth: i32, safety_depth: i32) -> Option<Digits> {
 fn digits(rt: HostRuntime) -> Result<(), Fail> {
     for (depth, safety_depth, prefix, wanted) in &DIGITS {
         let digits = digits_of(*depth, *safety_depth).ok_or("a depth")?;
-        assert!(rt; digits.prefix == **prefix, "{depth} {safety_depth}");
-        assert!(rt; are_cells(digits.cells.as_slice(), wanted), "{depth}");
+        let same = digits.prefix == **prefix && are_cells(digits.cells.as_slice(), wanted);
+        assert!(rt; same, "{depth} {safety_depth}");
     }
     digits_write_depths();
     Ok(())

@@ -1,11 +1,9 @@
 //! What is drawn of depth contours.
 
-use super::SETTINGS;
-use super::items::{Wanted, are_items, edges};
-use super::users::find_users;
+use crate::users::find_users;
 use chart_model::{Settings, Target};
 use depth_symbology::depcnt02;
-use sample_rows::{Row, chart, feature, name, vector};
+use sample_rows::{Drawn, Row, SETTINGS, are_items, chart, edges, feature, name, vector};
 use std::test::Fail;
 
 /// Edges with a quality of position, and contours of these depths along them. There is no record of the edge 7.
@@ -101,7 +99,7 @@ static CHART: [Row; 17] = [
 ];
 
 /// The number of a feature, the safety contour in centimetres, and what is drawn.
-type Case = (u32, i32, &'static [Wanted]);
+type Case = (u32, i32, &'static [Drawn]);
 
 static CASES: [Case; 18] = [
     (

@@ -1,11 +1,10 @@
 //! What is drawn of depth areas.
 
-use super::SETTINGS;
-use super::items::{WHOLE, Wanted, are_items, whole};
-use super::users::find_users;
+use crate::users::find_users;
 use chart_model::{Settings, Shades, Target};
 use depth_symbology::depare01;
-use sample_rows::{Row, Setting, chart, feature, name, vector};
+use sample_rows::{Drawn, Row, SETTINGS, Setting, are_items, chart, feature, name, vector, whole};
+use std::alloc::Global;
 use std::test::Fail;
 
 /// DRVAL1 and DRVAL2, and the colours by two shades and by four.
@@ -43,20 +42,35 @@ static COLOURS: [ColourCase; 24] = [
     (&[(87, b"30"), (88, b"6")], b"AC(DEPVS)", b"AC(DEPMS)"),
 ];
 
+/// Whether the colour of an area is this.
+fn has_colour(
+    alloc: Global,
+    attrs: &'static [Setting],
+    shades: Shades,
+    colour: &'static [u8],
+) -> Result<bool, Fail> {
+    let row = Row {
+        attrs,
+        ..feature!(3, 1, [])
+    };
+    let cell = chart(alloc, &[row])?;
+    let users = find_users(alloc, &cell)?;
+    let settings = Settings { shades, ..SETTINGS };
+    let items = depare01(alloc, &cell, &users, &settings, name!(100, 1))?;
+    Ok(are_items(&items, &[(Target::Whole, colour)]))
+}
+
 #[test]
 fn colours(rt: HostRuntime) -> Result<(), Fail> {
-    for (attrs, two, four) in &COLOURS {
-        let row = Row {
-            attrs: *attrs,
-            ..feature!(3, 1, [])
-        };
-        let cell = chart(rt.alloc(), &[row])?;
-        let users = find_users(rt.alloc(), &cell)?;
-        for (shades, colour) in [(Shades::Two, *two), (Shades::Four, *four)] {
-            let settings = Settings { shades, ..SETTINGS };
-            let items = depare01(rt.alloc(), &cell, &users, &settings, name!(100, 1))?;
-            assert!(rt; are_items(&items, &[(WHOLE, colour)]), "{attrs:?}");
-        }
+    for (at, (attrs, two, four)) in COLOURS.iter().enumerate() {
+        assert!(rt;
+            has_colour(rt.alloc(), attrs, Shades::Two, two)?,
+            "case {at}"
+        );
+        assert!(rt;
+            has_colour(rt.alloc(), attrs, Shades::Four, four)?,
+            "case {at}"
+        );
     }
     Ok(())
 }
@@ -183,7 +197,7 @@ static CHART: [Row; 30] = [
 ];
 
 /// The number of a feature, the safety contour in centimetres, whether the pattern is asked for, and what is drawn.
-type Case = (u32, i32, bool, &'static [Wanted]);
+type Case = (u32, i32, bool, &'static [Drawn]);
 
 static CASES: [Case; 33] = [
     (
@@ -191,7 +205,7 @@ static CASES: [Case; 33] = [
         1_000,
         false,
         &[
-            (WHOLE, b"AC(DEPMD)"),
+            (Target::Whole, b"AC(DEPMD)"),
             (Target::Edge(1), b"LS(SOLID,2,DEPSC)"),
             (Target::Edge(2), b"LS(SOLID,2,DEPSC)"),
             (Target::Edge(3), b"LS(SOLID,2,DEPSC)"),
@@ -220,7 +234,7 @@ static CASES: [Case; 33] = [
         1_000,
         false,
         &[
-            (WHOLE, b"AC(DEPMD)"),
+            (Target::Whole, b"AC(DEPMD)"),
             (Target::Edge(14), b"LS(SOLID,2,DEPSC)"),
         ],
     ),
@@ -230,7 +244,7 @@ static CASES: [Case; 33] = [
         1_000,
         false,
         &[
-            (WHOLE, b"AC(DEPMD)"),
+            (Target::Whole, b"AC(DEPMD)"),
             (Target::Edge(18), b"LS(SOLID,2,DEPSC)"),
             (Target::Edge(19), b"LS(SOLID,2,DEPSC)"),
             (Target::Edge(20), b"LS(SOLID,2,DEPSC)"),
@@ -242,7 +256,7 @@ static CASES: [Case; 33] = [
         1_000,
         true,
         &[
-            (WHOLE, b"AC(DEPMD)"),
+            (Target::Whole, b"AC(DEPMD)"),
             (Target::Edge(21), b"LS(SOLID,2,DEPSC)"),
             (Target::Edge(21), b"LS(SOLID,2,DEPSC)"),
         ],
@@ -253,9 +267,9 @@ static CASES: [Case; 33] = [
         1_000,
         true,
         &[
-            (WHOLE, b"AC(DEPMD)"),
-            (WHOLE, b"AP(DRGARE01)"),
-            (WHOLE, b"LS(DASH,1,CHGRF)"),
+            (Target::Whole, b"AC(DEPMD)"),
+            (Target::Whole, b"AP(DRGARE01)"),
+            (Target::Whole, b"LS(DASH,1,CHGRF)"),
             (Target::Edge(24), b"LS(SOLID,2,DEPSC)"),
         ],
     ),
@@ -288,7 +302,7 @@ static CASES: [Case; 33] = [
         1_000,
         false,
         &[
-            (WHOLE, b"AC(DEPMD)"),
+            (Target::Whole, b"AC(DEPMD)"),
             (Target::Edge(12), b"LS(SOLID,2,DEPSC)"),
             (Target::Edge(14), b"LS(SOLID,2,DEPSC)"),
         ],

@@ -63,8 +63,8 @@ static USERS: [(Name, &[Name]); 6] = [
 fn users(rt: HostRuntime) -> Result<(), Fail> {
     let cell = chart(rt.alloc(), &CHART)?;
     let users = find_users(rt.alloc(), &cell)?;
-    for (edge, wanted) in &USERS {
-        assert!(rt; users.edge_users(*edge) == *wanted, "{edge:?}");
+    for (at, (edge, wanted)) in USERS.iter().enumerate() {
+        assert!(rt; users.edge_users(*edge) == *wanted, "case {at}");
     }
     Ok(())
 }

@@ -1,0 +1,219 @@
+//! Turns of a session.
+
+ghost use Rattle.std.specs.Prelude.{◌≡◌, ◌<◌, IsTrue};
+ghost use Rattle.chart_ports.specs.MemoryDesk.{contents_of, leaves_of};
+ghost use Rattle.chart_store.specs.Store.{IsKept, count_of, is_sound};
+ghost use Rattle.session_core.specs.Session.{store_of};
+
+use chart_model::{Settings, Shades};
+use chart_ports::{FailingCalls, FileBytes, MemoryDesk, MemoryShelf, Steps};
+use chart_store::open_store;
+use lookup_table::{Table, read_table};
+use object_catalogue::read_objects;
+use script_reader::{print_reply, read_line};
+use session_core::{Session, TurnFault, turns_follow_their_commands};
+use std::alloc::{AllocError, Global};
+use std::marker::Brand;
+use std::sync::ledger::{Blank, Ledger};
+use std::test::Fail;
+
+/// The data descriptive record, of 500 bytes.
+const FIRST: &[u8] =
+    b"00500 L   0900106   23 4DSID58000DSSI21058DSPM51079VRID48130SGCC36178SG2D28214FRID69242FOID39311FSPT44350\x1e\
+0000;&   \x1fDSNM!EDTN!UPDN!ISDT!PROF!AGEN\x1f(3A,A(8),b11,b12)\x1e\
+0000;&   \x1fAALL\x1f(b11)\x1e\
+0000;&   \x1fCSCL!DUNI!COUN!COMF!SOMF\x1f(b14,2b11,2b14)\x1e\
+0000;&   \x1fRCNM!RCID!RVER!RUIN\x1f(b11,b14,b12,b11)\x1e\
+0000;&   \x1fCCUI!CCIX!CCNC\x1f(b11,2b12)\x1e\
+0000;&   \x1f*YCOO!XCOO\x1f(2b24)\x1e\
+0000;&   \x1fRCNM!RCID!PRIM!GRUP!OBJL!RVER!RUIN\x1f(b11,b14,2b11,2b12,b11)\x1e\
+0000;&   \x1fAGEN!FIDN!FIDS\x1f(b12,b14,b12)\x1e\
+0000;&   \x1f*NAME!ORNT!USAG!MASK\x1f(B(40),3b11)\x1e";
+
+/// The records of a base file: general information; parameters; an isolated node; a point feature there.
+const BASE: &[u8] = b"00074 D   0900043   23 4DSID29000DSSI02029\x1e\
+AA5TEST1.000\x1f1\x1f0\x1f20240131\x01&\x02\x1e\
+\x01\x1e\
+00049 D   0900034   23 4DSPM15000\x1e\
+\x10'\0\0\x01\x01\x80\x96\x98\0\n\0\0\0\x1e\
+00061 D   0900043   23 4VRID09000SG2D09009\x1e\
+n\x01\0\0\0\x01\0\x01\x1e\
+\0\0\0\0d\0\0\0\x1e\
+00083 D   0900052   23 4FRID13000FOID09013FSPT09022\x1e\
+d\x01\0\0\0\x01\x02*\0\x01\0\x01\x1e\
+&\x02\x01\0\0\0\x01\0\x1e\
+n\x01\0\0\0\xff\xff\xff\x1e";
+
+/// The records of its first update: the node at another place.
+const UPDATE: &[u8] = b"00063 D   0900034   23 4DSID29000\x1e\
+AA5TEST1.001\x1f1\x1f1\x1f20240201\x02&\x02\x1e\
+00076 D   0900052   23 4VRID09000SGCC06009SG2D09015\x1e\
+n\x01\0\0\0\x02\0\x03\x1e\
+\x03\x01\0\x01\0\x1e\
+\x07\0\0\0\x08\0\0\0\x1e";
+
+/// The record of an update that cancels the cell.
+const CANCELLATION: &[u8] = b"00063 D   0900034   23 4DSID29000\x1e\
+AA5TEST1.002\x1f0\x1f2\x1f20240202\x02&\x02\x1e";
+
+/// What the mariner set.
+const SETTINGS: Settings = Settings {
+    safety_contour: 3_000,
+    safety_depth: 3_000,
+    shallow: 200,
+    deep: 3_000,
+    shades: Shades::Four,
+    pattern: false,
+    scale: 1,
+};
+
+/// A table with one line, for points of the class of the base file's feature.
+fn table(alloc: Global) -> Result<Table, AllocError> {
+    let Ok(catalogue) = read_objects(alloc, b"O 42 DEPARE\n") else {
+        return Err(AllocError);
+    };
+    let Ok(table) = read_table(alloc, b"DEPARE P 4 - SY(A);SY(B)\n", &catalogue) else {
+        return Err(AllocError);
+    };
+    Ok(table)
+}
+
+/// The calls of this number fail: numbers from 1, or 0 for none.
+fn failing(alloc: Global, number: u64) -> Result<FailingCalls, AllocError> {
+    Ok(FailingCalls::from_vec([number].to_vec(alloc)?))
+}
+
+/// Puts a file of these records on the shelf.
+fn put(
+    alloc: Global,
+    shelf: &mut MemoryShelf,
+    name: &str,
+    records: &[u8],
+) -> Result<(), AllocError> {
+    let mut bytes = FIRST.to_vec(alloc)?;
+    bytes.extend_from_slice(records)?;
+    shelf.insert(String::from_str(alloc, name)?, FileBytes::from_vec(bytes))
+}
+
+/// A shelf with the files.
+fn shelf(alloc: Global, call: u64) -> Result<MemoryShelf, AllocError> {
+    let mut shelf = MemoryShelf::new(alloc, failing(alloc, call)?);
+    put(alloc, &mut shelf, "T", BASE)?;
+    put(alloc, &mut shelf, "U", UPDATE)?;
+    put(alloc, &mut shelf, "CANCEL", CANCELLATION)?;
+    Ok(shelf)
+}
+
+/// The replies to lines, up to one at which the desk fails.
+fn replies<C: Ledger>(
+    alloc: Global,
+    mut session: Session,
+    shelf: &mut MemoryShelf,
+    desk: &mut MemoryDesk,
+    steps: &mut Steps<C>,
+    lines: &[&[u8]],
+) -> Result<Vec<u8>, AllocError>
+    requires sound { IsTrue (is_sound (store_of session)) }
+    requires count { count_of (store_of session) ≡ 0 }
+    requires kept { IsKept (contents_of desk.old) (leaves_of desk.old) (store_of session) }
+{
+    let mut said = Vec::new(alloc);
+    for line in lines {
+        let Ok(Some(event)) = read_line(alloc, line, 1) else {
+            return Err(AllocError);
+        };
+        match session.turn(alloc, event, shelf, desk, steps) {
+            Ok(reply) => said.extend_from_slice(print_reply(alloc, &reply)?.as_slice())?,
+            Err(TurnFault::DeskFault) => {
+                said.extend_from_slice(b"desk fault")?;
+                return Ok(said);
+            }
+            Err(TurnFault::NoMemory) => return Err(AllocError),
+        }
+    }
+    Ok(said)
+}
+
+/// The replies to lines over a new store, where a call of the shelf and one of the desk fail.
+fn replies_with<C: Ledger>(
+    alloc: Global,
+    lines: &[&[u8]],
+    fetch: u64,
+    call: u64,
+    blank: Blank,
+) -> Result<Vec<u8>, AllocError>
+    requires name { blank.name ≡ C.name }
+    requires parts { blank.parts ≡ C.parts }
+    requires share { 0 < C.parts }
+{
+    let mut steps = Steps::<C>::new(blank);
+    let mut shelf = shelf(alloc, fetch)?;
+    let mut desk = MemoryDesk::new(alloc, failing(alloc, call)?);
+    match open_store(alloc, &mut desk, &mut steps) {
+        Ok(store) => {
+            let session = Session::new(alloc, store, table(alloc)?, SETTINGS)?;
+            replies(alloc, session, &mut shelf, &mut desk, &mut steps, lines)
+        }
+        Err(_) => Vec::from_slice(alloc, b"not opened"),
+    }
+}
+
+fn said(alloc: Global, lines: &[&[u8]], fetch: u64, call: u64) -> Result<Vec<u8>, AllocError> {
+    replies_with::<Brand>(alloc, lines, fetch, call, Blank::new(1))
+}
+
+/// Lines of a session, from one that asks about a file to one that lists the cells when the last is gone.
+static ALL: [&[u8]; 18] = [
+    b"info T",
+    b"cells",
+    b"load T",
+    b"cells",
+    b"draw AA5TEST1",
+    b"draw ZZ",
+    b"rollback AA5TEST1 7",
+    b"drop ZZ",
+    b"load X",
+    b"info X",
+    b"load U",
+    b"load CANCEL",
+    b"cells",
+    b"draw AA5TEST1",
+    b"rollback AA5TEST1 1",
+    b"cells",
+    b"drop AA5TEST1",
+    b"cells",
+];
+
+static TWICE: [&[u8]; 2] = [b"load T", b"info T"];
+
+/// What is replied to all lines.
+const REPLIES: &[u8] = b"ok info AA5TEST1 1 0 4\nok cells 0\nok load AA5TEST1 1 0\n\
+ok cells 1\ncell AA5TEST1 1 0 1 2\nok draw AA5TEST1 2\nitem 4 P 1 whole SY(A)\nitem 4 P 1 whole SY(B)\n\
+no 73 ZZ\nno 74 AA5TEST1 7\nno 73 ZZ\nno 71 X\nno 71 X\nok load AA5TEST1 1 1\nok cancel AA5TEST1\n\
+ok cells 1\ncell AA5TEST1 1 1 3 cancelled\nno 73 AA5TEST1\nok rollback AA5TEST1 1 1\n\
+ok cells 1\ncell AA5TEST1 1 1 2 2\nok drop AA5TEST1\nok cells 0\n";
+
+/// Lines, the calls of the shelf and of the desk that fail, and what is replied.
+static TURNS: [(&[&[u8]], u64, u64, &[u8]); 5] = [
+    (&ALL, 0, 0, REPLIES),
+    (&TWICE, 1, 0, b"no 72\nok info AA5TEST1 1 0 4\n"),
+    (&TWICE, 2, 0, b"ok load AA5TEST1 1 0\nno 72\n"),
+    // The opening makes eight calls of the desk, and a command four.
+    (&TWICE, 0, 12, b"desk fault"),
+    (
+        &TWICE,
+        0,
+        99,
+        b"ok load AA5TEST1 1 0\nok info AA5TEST1 1 0 4\n",
+    ),
+];
+
+#[test]
+fn turns(rt: HostRuntime) -> Result<(), Fail> {
+    for (at, (lines, fetch, call, wanted)) in TURNS.iter().enumerate() {
+        let said = said(rt.alloc(), lines, *fetch, *call)?;
+        assert!(rt; said.as_slice() == *wanted, "case {at}");
+    }
+    turns_follow_their_commands();
+    Ok(())
+}
