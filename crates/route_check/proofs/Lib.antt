@@ -1,0 +1,4 @@
+pub mod Legs
+pub mod RouteLines
+pub mod Drafts
+pub mod Progress

@@ -1,14 +1,15 @@
-//! A route.
+//! A route and its legs.
 
-ghost use Rattle.std.specs.Prelude.{◌≡◌, ◌≤◌, ◌<◌, ◌-◌, length, Some};
-ghost use Rattle.std.specs.List.{slice_get};
-ghost use Rattle.route_check.specs.Route.{legs_of, is_point_count};
+ghost use Rattle.std.specs.Prelude.{◌≡◌, ◌+◌, ◌-◌, length, slice_get, Some};
+ghost use Rattle.std.specs.Option.{SomeIff};
+ghost use Rattle.std.specs.Int.{IsInRange};
+ghost use Rattle.route_check.specs.PointCount.{IsPointCount};
 
 use plane_geometry::Pt;
 use route_geometry::Leg;
 use std::marker::Model;
 
-/// The points of a route in order: 2 to 1,000.
+/// The points of a route in order: 2 to 1,000. Contracts see a list.
 #[derive(Debug, Drop)]
 pub struct PtList {
     points: Vec<Pt>,
@@ -17,7 +18,7 @@ pub struct PtList {
 impl Model for PtList {
     ghost use Rattle.std.specs.Prelude.{List, length};
     ghost use Rattle.plane_geometry.specs.declared.point.Pt.{Pt};
-    ghost use Rattle.route_check.specs.Route.{IsPointCount};
+    ghost use Rattle.route_check.specs.PointCount.{IsPointCount};
 
     ghost Value = { List Pt };
 
@@ -26,11 +27,59 @@ impl Model for PtList {
     ghost invariant = { λ list. IsPointCount (length list.points.items) };
 }
 
-/// A route: the half-widths of the box that its legs are widened by, in longitude and in latitude in degrees times
-/// 10,000,000, and its points.
+impl PtList {
+    /// The points as those of a route; none where they are fewer than 2 or more than 1,000. It takes no memory.
+    pub fn from_vec(points: Vec<Pt>) -> Option<PtList>
+        ensures { SomeIff result (IsPointCount (length points.items)) points.items }
+    {
+        match points.len() {
+            2..=1_000 => Some(PtList { points }),
+            _ => None,
+        }
+    }
+
+    /// The points. It takes no memory.
+    pub fn as_slice(&self) -> &[Pt]
+        ensures points { result.now ≡ self.now }
+        ensures count { IsPointCount (length self.now) }
+    {
+        self.points.as_slice()
+    }
+}
+
+/// A route: the half-widths of the box that its legs are widened by, `w` in longitude and `h` in latitude in degrees
+/// times 10,000,000, and its points.
 #[derive(Debug, Drop)]
 pub struct Route {
     pub w: u32,
     pub h: u32,
     pub points: PtList,
+}
+
+impl Route {
+    ghost use Rattle.route_check.specs.Route.{legs_of};
+
+    /// How many legs there are: one fewer than points.
+    pub fn leg_count(&self) -> u32
+        ensures legs { result ≡ length (legs_of self.now) }
+        ensures points { result + 1 ≡ length self.now.points }
+        ensures range { IsInRange 1 999 result }
+    {
+        self.points.as_slice().len() as u32 - 1
+    }
+
+    /// The leg of a number, counted from 1. It takes no memory.
+    pub fn leg(&self, number: u32) -> Leg
+        requires { IsInRange 1 (length self.now.points - 1) number }
+        ensures { slice_get (legs_of self.now) (number - 1) ≡ Some result }
+    {
+        let points = self.points.as_slice();
+        let end = number as usize;
+        Leg {
+            a: points[end - 1],
+            b: points[end],
+            w: self.w,
+            h: self.h,
+        }
+    }
 }

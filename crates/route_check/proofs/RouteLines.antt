@@ -1,0 +1,227 @@
+-- A line is a box or a point as it is spelled.
+use Rattle.std.proofs.Common.{◌≡◌, ◌≢◌, ℕ, ◌<◌, ◌≤◌, Bool, true, false, cond, eqb, Bor, List, [], ◌∷◌, length, Option, Some, None, refl, sym, ap, ◌∙◌, subst, arith, ◌↔◌, inl, inr}
+use Rattle.std.specs.Prelude.{codes, nat_le, IfSome, option_and_then, ℤ, pos, neg_ℤ, ◌≤ℤ◌, unsigned_abs}
+use Rattle.std.specs.List.{All, join_with_byte}
+use Rattle.std.specs.Str.{bytes_eq}
+use Rattle.std.specs.Char.{digit_value}
+use Rattle.std.specs.Str.Parse.{AllDigits}
+use Rattle.std.proofs.lemmas.Bool.{leb-true, le-leb}
+use Rattle.std.proofs.lemmas.Int.{ints}
+use Rattle.std.proofs.lemmas.List.Elements.{All-nil, All-cons}
+use Rattle.std.proofs.lemmas.List.Splits.{length-slice_split}
+use Rattle.std.proofs.lemmas.Slice.Eq.{bytes_eq-Decides}
+use Rattle.std.proofs.lemmas.Str.Parse.{digit_from_value}
+use Rattle.text_scan.specs.Number.{IsNumber, value_of, number_of, SpellsSigned, signed_of}
+use Rattle.text_lines.specs.Lines.{parts_at, Lacks}
+use Rattle.plane_geometry.specs.declared.point.Pt.{Pt}
+use Rattle.route_check.specs.declared.line.HalfWidths.{HalfWidths}
+use Rattle.route_check.specs.RouteLine.{SpellsHalfWidth, SpellsBox, SpellsCoordinate, SpellsPoint, half_width_of, coordinate_of, widths_with, box_with, box_in, box_of, point_with, point_in, point_of}
+
+-- what the laws of the crates below say of numbers and of parts
+abbrev pub NumbersAreSpelled : Type 0
+NumbersAreSpelled = (text : List ℕ) (n : ℕ) → (number_of text ≡ Some n) ↔ (IsNumber text × (value_of text ≡ n))
+
+abbrev pub SignedAreSpelled : Type 0
+SignedAreSpelled = (text : List ℕ) (z : ℤ) → (signed_of text ≡ Some z) ↔ SpellsSigned text z
+
+abbrev pub PartsAreJoined : Type 0
+PartsAreJoined = (parting : ℕ) (text : List ℕ) → join_with_byte parting (parts_at parting text) ≡ text
+
+abbrev pub PartsAreFound : Type 0
+PartsAreFound = (parting : ℕ) (part : List ℕ) (parts : List (List ℕ)) → All (Lacks parting) (part ∷ parts) → parts_at parting (join_with_byte parting (part ∷ parts)) ≡ part ∷ parts
+
+some_is : {A : Type 0} (x y : A) → ◌≡◌ {A = Option A} (Some x) (Some y) → x ≡ y
+some_is x y e = cc
+
+-- ---- numbers of a range
+
+-- a value that a test lets pass
+tested : {A : Type 0} (test : Bool) (x y : A) → cond test (Some x) None ≡ Some y → (test ≡ true) × (x ≡ y)
+tested true x y e = (refl, some_is x y e)
+tested false x y e = absurd cc
+
+half_width_is : NumbersAreSpelled → (text : List ℕ) (n : ℕ) → half_width_of text ≡ Some n → SpellsHalfWidth text n
+half_width_is spelled text n e = by (number_of text) refl e
+  where
+    by : (o : Option ℕ) → number_of text ≡ o → option_and_then (λ k. cond (nat_le k 100000000) (Some k) None) o ≡ Some n → SpellsHalfWidth text n
+    by None is e = absurd cc
+    by (Some k) is e =
+        let number = (spelled text k).0 is in
+        let range = tested (nat_le k 100000000) k n e in
+        let within : k ≤ 100000000 = leb-true k 100000000 range.0 in
+        record {
+          number = number.0;
+          value = sym (number.1 ∙ range.1);
+          range = subst (λ (m : ℕ). m ≤ 100000000) range.1 within;
+        }
+
+half_width_told : NumbersAreSpelled → (text : List ℕ) (n : ℕ) → SpellsHalfWidth text n → half_width_of text ≡ Some n
+half_width_told spelled text n s =
+    ap (option_and_then (λ k. cond (nat_le k 100000000) (Some k) None)) ((spelled text n).1 (s.number, sym s.value))
+    ∙ ap (λ (b : Bool). cond b (Some n) None) (le-leb n 100000000 s.range)
+
+near-from : (z : ℤ) (most : ℕ) → unsigned_abs z ≤ most → (neg_ℤ (pos most) ≤ℤ z) × (z ≤ℤ pos most)
+near-from z most h = (omega (arith, ints), omega (arith, ints))
+
+near-to : (z : ℤ) (most : ℕ) → neg_ℤ (pos most) ≤ℤ z → z ≤ℤ pos most → unsigned_abs z ≤ most
+near-to z most low high = omega (arith, ints)
+
+coordinate_is : SignedAreSpelled → (most : ℕ) (text : List ℕ) (z : ℤ) → coordinate_of most text ≡ Some z → SpellsCoordinate most text z
+coordinate_is spelled most text z e = by (signed_of text) refl e
+  where
+    by : (o : Option ℤ) → signed_of text ≡ o → option_and_then (λ k. cond (nat_le (unsigned_abs k) most) (Some k) None) o ≡ Some z → SpellsCoordinate most text z
+    by None is e = absurd cc
+    by (Some k) is e =
+        let range = tested (nat_le (unsigned_abs k) most) k z e in
+        let near = near-from k most (leb-true (unsigned_abs k) most range.0) in
+        subst (SpellsCoordinate most text) range.1 (record {
+          spelled = (spelled text k).0 is;
+          low = near.0;
+          high = near.1;
+        })
+
+coordinate_told : SignedAreSpelled → (most : ℕ) (text : List ℕ) (z : ℤ) → SpellsCoordinate most text z → coordinate_of most text ≡ Some z
+coordinate_told spelled most text z s =
+    ap (option_and_then (λ k. cond (nat_le (unsigned_abs k) most) (Some k) None)) ((spelled text z).1 s.spelled)
+    ∙ ap (λ (b : Bool). cond b (Some z) None) (le-leb (unsigned_abs z) most (near-to z most s.low s.high))
+
+-- ---- texts without a space
+
+digit_no_space : (byte : ℕ) → digit_value byte < 10 → byte ≢ 32
+digit_no_space byte h = let r = digit_from_value byte h in omega arith
+
+digits_lack : (text : List ℕ) → AllDigits 10 text → Lacks 32 text
+digits_lack [] h = All-nil (λ b. b ≢ 32)
+digits_lack (c ∷ cs) h = All-cons (λ b. b ≢ 32) c cs (digit_no_space c h.0) (digits_lack cs h.1)
+
+signed_lacks : (text : List ℕ) (z : ℤ) → SpellsSigned text z → Lacks 32 text
+signed_lacks text z (inl s) = digits_lack text s.0.0.1
+signed_lacks text z (inr s) =
+    subst (Lacks 32) (sym s.1) (All-cons (λ b. b ≢ 32) 45 s.0 (omega arith) (digits_lack s.0 s.2.0.1))
+
+box_lacks : Lacks 32 (codes "box")
+box_lacks =
+    All-cons (λ b. b ≢ 32) 98 (111 ∷ 120 ∷ []) (omega arith)
+    (All-cons (λ b. b ≢ 32) 111 (120 ∷ []) (omega arith) (All-cons (λ b. b ≢ 32) 120 [] (omega arith) (All-nil (λ b. b ≢ 32))))
+
+-- ---- boxes
+
+widths_made : (w h : Option ℕ) (box : HalfWidths) → widths_with w h ≡ Some box → (w ≡ Some box.w) × (h ≡ Some box.h)
+widths_made (Some w) (Some h) box e =
+    let same : ◌≡◌ {A = HalfWidths} (record { w = w; h = h }) box = some_is _ _ e in
+    (ap (λ (x : HalfWidths). Some x.w) same, ap (λ (x : HalfWidths). Some x.h) same)
+widths_made (Some w) None box e = absurd cc
+widths_made None h box e = absurd cc
+
+named : (word : List ℕ) (w h : Option ℕ) (box : HalfWidths) → box_with word w h ≡ Some box → (word ≡ codes "box") × (widths_with w h ≡ Some box)
+named word w h box e = by (bytes_eq word (codes "box")) refl e
+  where
+    by : (b : Bool) → bytes_eq word (codes "box") ≡ b → cond b (widths_with w h) None ≡ Some box → (word ≡ codes "box") × (widths_with w h ≡ Some box)
+    by true is e = ((bytes_eq-Decides word (codes "box")).0 is, e)
+    by false is e = absurd cc
+
+box_words : NumbersAreSpelled → (line word w_text h_text : List ℕ) (box : HalfWidths) → line ≡ join_with_byte 32 (word ∷ w_text ∷ h_text ∷ [])
+    → box_with word (half_width_of w_text) (half_width_of h_text) ≡ Some box → SpellsBox line box.w box.h
+box_words spelled line word w_text h_text box parted e =
+    let name = named word (half_width_of w_text) (half_width_of h_text) box e in
+    let made = widths_made (half_width_of w_text) (half_width_of h_text) box name.1 in
+    record {
+      w_text = w_text;
+      h_text = h_text;
+      parted = parted ∙ ap (λ (l : List ℕ). join_with_byte 32 (l ∷ w_text ∷ h_text ∷ [])) name.0;
+      w_spelled = half_width_is spelled w_text box.w made.0;
+      h_spelled = half_width_is spelled h_text box.h made.1;
+    }
+
+in_box_words : NumbersAreSpelled → (line : List ℕ) (words : List (List ℕ)) (box : HalfWidths) → line ≡ join_with_byte 32 words → box_in words ≡ Some box → SpellsBox line box.w box.h
+unfolding box_in
+in_box_words spelled line [] box parted e = absurd cc
+in_box_words spelled line (word ∷ []) box parted e = absurd cc
+in_box_words spelled line (word ∷ w ∷ []) box parted e = absurd cc
+in_box_words spelled line (word ∷ w ∷ h ∷ []) box parted e = box_words spelled line word w h box parted e
+in_box_words spelled line (word ∷ w ∷ h ∷ other ∷ more) box parted e = absurd cc
+
+pub box_spelled : NumbersAreSpelled → PartsAreJoined → (line : List ℕ) (box : HalfWidths) → box_of line ≡ Some box → SpellsBox line box.w box.h
+box_spelled spelled joined line box e = in_box_words spelled line (parts_at 32 line) box (sym (joined 32 line)) e
+
+three : (w_text h_text : List ℕ) (w h : ℕ) → half_width_of w_text ≡ Some w → half_width_of h_text ≡ Some h
+    → box_in (codes "box" ∷ w_text ∷ h_text ∷ []) ≡ Some (record { w = w; h = h })
+unfolding box_in
+three w_text h_text w h we he = λ i. widths_with (we i) (he i)
+
+pub spelled_box : NumbersAreSpelled → PartsAreFound → (line : List ℕ) (w h : ℕ) → SpellsBox line w h → box_of line ≡ Some (record { w = w; h = h })
+spelled_box spelled found line w h s =
+    ap box_of s.parted
+    ∙ ap box_in (found 32 (codes "box") (s.w_text ∷ s.h_text ∷ [])
+    (All-cons (Lacks 32) (codes "box") (s.w_text ∷ s.h_text ∷ []) box_lacks
+    (All-cons (Lacks 32) s.w_text (s.h_text ∷ []) (digits_lack s.w_text s.w_spelled.number.0.1)
+    (All-cons (Lacks 32) s.h_text [] (digits_lack s.h_text s.h_spelled.number.0.1) (All-nil (Lacks 32))))))
+    ∙ three s.w_text s.h_text w h (half_width_told spelled s.w_text w s.w_spelled) (half_width_told spelled s.h_text h s.h_spelled)
+
+-- ---- points
+
+point_made : (x y : Option ℤ) (p : Pt) → point_with x y ≡ Some p → (x ≡ Some p.x) × (y ≡ Some p.y)
+point_made (Some x) (Some y) p e =
+    let same : ◌≡◌ {A = Pt} (record { x = x; y = y }) p = some_is _ _ e in
+    (ap (λ (q : Pt). Some q.x) same, ap (λ (q : Pt). Some q.y) same)
+point_made (Some x) None p e = absurd cc
+point_made None y p e = absurd cc
+
+in_point_words : SignedAreSpelled → (line : List ℕ) (words : List (List ℕ)) (p : Pt) → line ≡ join_with_byte 32 words → point_in words ≡ Some p → SpellsPoint line p
+unfolding point_in
+in_point_words spelled line [] p parted e = absurd cc
+in_point_words spelled line (x ∷ []) p parted e = absurd cc
+in_point_words spelled line (x ∷ y ∷ []) p parted e =
+    let made = point_made (coordinate_of 1800000000 x) (coordinate_of 900000000 y) p e in
+    record {
+      x_text = x;
+      y_text = y;
+      parted = parted;
+      x_spelled = coordinate_is spelled 1800000000 x p.x made.0;
+      y_spelled = coordinate_is spelled 900000000 y p.y made.1;
+    }
+in_point_words spelled line (x ∷ y ∷ other ∷ more) p parted e = absurd cc
+
+pub point_spelled : SignedAreSpelled → PartsAreJoined → (line : List ℕ) (p : Pt) → point_of line ≡ Some p → SpellsPoint line p
+point_spelled spelled joined line p e = in_point_words spelled line (parts_at 32 line) p (sym (joined 32 line)) e
+
+two : (x_text y_text : List ℕ) (x y : ℤ) → coordinate_of 1800000000 x_text ≡ Some x → coordinate_of 900000000 y_text ≡ Some y
+    → point_in (x_text ∷ y_text ∷ []) ≡ Some (record { x = x; y = y })
+unfolding point_in
+two x_text y_text x y xe ye = λ i. point_with (xe i) (ye i)
+
+pub spelled_point : SignedAreSpelled → PartsAreFound → (line : List ℕ) (p : Pt) → SpellsPoint line p → point_of line ≡ Some p
+spelled_point spelled found line p s =
+    ap point_of s.parted
+    ∙ ap point_in (found 32 s.x_text (s.y_text ∷ [])
+    (All-cons (Lacks 32) s.x_text (s.y_text ∷ []) (signed_lacks s.x_text p.x s.x_spelled.spelled)
+    (All-cons (Lacks 32) s.y_text [] (signed_lacks s.y_text p.y s.y_spelled.spelled) (All-nil (Lacks 32)))))
+    ∙ two s.x_text s.y_text p.x p.y (coordinate_told spelled 1800000000 s.x_text p.x s.x_spelled) (coordinate_told spelled 900000000 s.y_text p.y s.y_spelled)
+
+-- ---- a line, word by word
+
+-- what a cut says where there is a rest
+pub cut_gives : (o : Option (Bor (List ℕ))) (rest : Bor (List ℕ)) (text first : List ℕ) → o ≡ Some rest
+    → IfSome o (λ r. parts_at 32 text ≡ first ∷ parts_at 32 r.now) → parts_at 32 text ≡ first ∷ parts_at 32 rest.now
+cut_gives o rest text first e h = subst (λ (x : Option (Bor (List ℕ))). IfSome x (λ r. parts_at 32 text ≡ first ∷ parts_at 32 r.now)) e h
+
+some_part : (text : List ℕ) → 1 ≤ length (parts_at 32 text)
+some_part text = omega (arith, length-slice_split (λ b. eqb b 32) text)
+
+box_too_long : (word w h : List ℕ) (more : List (List ℕ)) → 1 ≤ length more → box_in (word ∷ w ∷ h ∷ more) ≡ None
+unfolding box_in
+box_too_long word w h [] some = absurd (omega (arith, some))
+box_too_long word w h (other ∷ more) some = refl
+
+-- a fourth word
+pub no_box : (words : List (List ℕ)) (word w h rest : List ℕ) → words ≡ word ∷ w ∷ h ∷ parts_at 32 rest → None ≡ box_in words
+no_box words word w h rest e = sym (ap box_in e ∙ box_too_long word w h (parts_at 32 rest) (some_part rest))
+
+point_too_long : (x y : List ℕ) (more : List (List ℕ)) → 1 ≤ length more → point_in (x ∷ y ∷ more) ≡ None
+unfolding point_in
+point_too_long x y [] some = absurd (omega (arith, some))
+point_too_long x y (other ∷ more) some = refl
+
+-- a third word
+pub no_point : (words : List (List ℕ)) (x y rest : List ℕ) → words ≡ x ∷ y ∷ parts_at 32 rest → None ≡ point_in words
+no_point words x y rest e = sym (ap point_in e ∙ point_too_long x y (parts_at 32 rest) (some_part rest))
