@@ -50,9 +50,14 @@ lies_at_bottom feature =
 abbrev pub depth_among : List AreaValue → CellValue → Feature → Option ℤ
 depth_among areas cell feature = option_and_then (least_among areas) (shape_of cell feature)
 
--- the least d1 of the depth areas under the feature, where it lies at their bottom
+-- the least d1 of the areas under a feature of a shape, where it lies at their bottom
+abbrev pub depth_below : List AreaValue → Option Shape → Feature → Option ℤ
+depth_below areas shape feature =
+    if lies_at_bottom feature then option_and_then (least_among areas) shape else None
+
+-- the same of the depth areas of the cell
 abbrev pub depth_under : CellValue → Feature → Option ℤ
-depth_under cell feature = if lies_at_bottom feature then depth_among (areas_of cell) cell feature else None
+depth_under cell feature = depth_below (areas_of cell) (shape_of cell feature) feature
 
 -- what is taken of a hazard of no known depth, by its categories and then by the water level
 abbrev pub assumed : Feature → List (Option ℤ)
@@ -70,9 +75,13 @@ abbrev pub assumed_depth : Feature → ℤ
 assumed_depth feature = unwrap_or (first_of (assumed feature)) (negsuc 1499)
 
 -- the first of these that there is: its own depth, that of the areas under it, an assumed one
+abbrev pub hazard_depth_by : List AreaValue → Option Shape → Feature → ℤ
+hazard_depth_by areas shape feature =
+    unwrap_or (first_of (sounding_of feature ∷ depth_below areas shape feature ∷ assumed feature)) (negsuc 1499)
+
+-- by the depth areas of the cell and the shape that the feature has there
 abbrev pub hazard_depth : CellValue → Feature → ℤ
-hazard_depth cell feature =
-    unwrap_or (first_of (sounding_of feature ∷ depth_under cell feature ∷ assumed feature)) (negsuc 1499)
+hazard_depth cell feature = hazard_depth_by (areas_of cell) (shape_of cell feature) feature
 
 -- ---- a safe area under a feature
 

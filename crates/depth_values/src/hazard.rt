@@ -1,16 +1,17 @@
 //! The depth over a wreck, a rock or an obstruction.
 
-ghost use Rattle.std.specs.Prelude.{◌≡◌, IfOk, IfSome};
+ghost use Rattle.std.specs.Prelude.{◌≡◌, Some, IfOk, IfSome};
 ghost use Rattle.chart_model.specs.Record.{IsWithin};
 ghost use Rattle.depth_values.specs.Under.{areas_of};
 ghost use Rattle.depth_values.specs.Hazard.{sounding_of, is_wreck, is_obstruction, lies_at_bottom};
-ghost use Rattle.depth_values.specs.Hazard.{depth_among, depth_under, assumed_depth, hazard_depth, lies_in_safe_area};
+ghost use Rattle.depth_values.specs.Hazard.{depth_among, depth_under, assumed_depth, lies_in_safe_area};
+ghost use Rattle.depth_values.specs.Hazard.{hazard_depth, hazard_depth_by};
 
 use crate::attributes::{depth_at, has_value};
 use crate::codes::{CATOBS, CATWRK, EXPSOU, OBSTRN, VALSOU, WATLEV, WRECKS};
 use crate::depth_area::{DepthArea, depth_areas};
 use crate::under::{is_safe_among, least_among};
-use area_rings::feature_shape;
+use area_rings::{Shape, feature_shape};
 use chart_model::{Cell, Feature};
 use std::alloc::{AllocError, Global};
 
@@ -131,6 +132,26 @@ pub fn hazard_depth_among(
     }
     if lies_at_bottom(feature)
         && let Some(depth) = depth_among(alloc, areas, cell, feature)?
+    {
+        return Ok(depth);
+    }
+    Ok(assumed_depth(feature))
+}
+
+/// The same of a feature whose shape was made already.
+pub fn hazard_depth_at(
+    alloc: Global,
+    areas: &[DepthArea],
+    feature: &Feature,
+    shape: &Shape,
+) -> Result<i32, AllocError>
+    ensures { IfOk result (λ depth. depth ≡ hazard_depth_by areas.now (Some shape.now) feature.now) }
+{
+    if let Some(depth) = sounding(feature) {
+        return Ok(depth);
+    }
+    if lies_at_bottom(feature)
+        && let Some(depth) = least_among(alloc, areas, shape)?
     {
         return Ok(depth);
     }

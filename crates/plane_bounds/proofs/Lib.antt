@@ -1,4 +1,5 @@
 pub mod Inside
 pub mod Turns
+pub mod Ends
 pub mod Outside
 pub mod Growth

@@ -1,6 +1,6 @@
 -- No point outside a box round rings is inside the rings.
-use Rattle.std.proofs.Common.{◌≡◌, inl, inr, ℕ, ◌+◌, ◌%◌, ◌≤◌, suc, ℤ, pos, ◌-ℤ◌, ◌*ℤ◌, ◌≤ℤ◌, ◌<ℤ◌, int_le, Bool, true, false, cond, ◌||◌, eqb, List, [], ◌∷◌, ◌++◌, zip, count_by, refl, sym, ap, ◌∙◌, arith}
-use Rattle.std.specs.List.{list_any, All}
+use Rattle.std.proofs.Common.{◌≡◌, inl, inr, ℕ, ◌+◌, ◌%◌, ◌≤◌, ℤ, pos, ◌-ℤ◌, ◌*ℤ◌, ◌≤ℤ◌, ◌<ℤ◌, int_le, Bool, true, false, cond, ◌||◌, eqb, List, [], ◌∷◌, ◌++◌, zip, count_by, refl, sym, ap, ◌∙◌, arith}
+use Rattle.std.specs.List.{list_any}
 use Rattle.std.proofs.lemmas.Int.{ints, by_lt_z}
 use Rattle.std.proofs.lemmas.Bool.{false≢true}
 use Rattle.std.proofs.lemmas.List.Sums.{sum_by-cons}
@@ -16,41 +16,7 @@ use Rattle.plane_bounds.specs.Bounds.{IsIn, RingsIn}
 use Rattle.plane_bounds.specs.Inside.{is_on, is_inside}
 use Rattle.plane_bounds.proofs.Inside.{Decides-on, Decides-inside}
 use Rattle.plane_bounds.proofs.Turns.{rising, falling}
-
--- ---- the segments' ends
-
-abbrev AllOf : {X : Type 0} → (X → Type 0) → List X → Type 0
-AllOf P [] = Unit {0}
-AllOf P (x ∷ xs) = P x × AllOf P xs
-
-all_out : {X : Type 0} (P : X → Type 0) (xs : List X) → All P xs → AllOf P xs
-all_out P [] h = tt
-all_out P (x ∷ xs) h = (h 0 x (omega arith), all_out P xs (λ k d lt. h (suc k) d (omega (arith, lt))))
-
-all_append : {X : Type 0} (P : X → Type 0) (xs ys : List X) → AllOf P xs → AllOf P ys → AllOf P (xs ++ ys)
-all_append P [] ys h k = k
-all_append P (x ∷ xs) ys h k = (h.0, all_append P xs ys h.1 k)
-
-all_then : {X : Type 0} (P Q : X → Type 0) (xs : List X) → ((x : X) → P x → Q x) → AllOf P xs → AllOf Q xs
-all_then P Q [] f h = tt
-all_then P Q (x ∷ xs) f h = (f x h.0, all_then P Q xs f h.1)
-
-abbrev Ends : (Pt → Type 0) → Pt × Pt → Type 0
-Ends P s = P s.0 × P s.1
-
-ends_zip : (P : Pt → Type 0) (xs ys : List Pt) → AllOf P xs → AllOf P ys → AllOf (Ends P) (zip xs ys)
-ends_zip P [] ys h k = tt
-ends_zip P (x ∷ xs) [] h k = tt
-ends_zip P (x ∷ xs) (y ∷ ys) h k = ((h.0, k.0), ends_zip P xs ys h.1 k.1)
-
-ends_ring : (P : Pt → Type 0) (ring : List Pt) → AllOf P ring → AllOf (Ends P) (segments ring)
-ends_ring P [] h = tt
-ends_ring P (r ∷ rs) h = ends_zip P (r ∷ rs) (rs ++ r ∷ []) h (all_append P rs (r ∷ []) h.1 (h.0, tt))
-
-ends_rings : (P : Pt → Type 0) (rings : List (List Pt)) → AllOf (All P) rings → AllOf (Ends P) (all_segments rings)
-ends_rings P [] h = tt
-ends_rings P (ring ∷ rings) h =
-    all_append (Ends P) (segments ring) (all_segments rings) (ends_ring P ring (all_out P ring h.0)) (ends_rings P rings h.1)
+use Rattle.plane_bounds.proofs.Ends.{AllOf, all_out, all_then, Ends, ends_rings}
 
 -- ---- tests that hold nowhere
 
@@ -223,8 +189,8 @@ pub inside_in_bounds : (bounds : Bounds) (p : Pt) (rings : List (List Pt)) → R
 inside_in_bounds bounds p rings all inside =
     let never_out : (IsIn bounds p → ⊥) → ⊥ = λ out. false≢true (sym (none_outside bounds p rings all out) ∙ (Decides-inside p rings).1 inside) in
     record {
-      west = by_lt_z p.x bounds.west (λ lt. absurd (never_out (λ q. omega (ints, lt, q.west)))) (λ le. le);
-      east = by_lt_z bounds.east p.x (λ lt. absurd (never_out (λ q. omega (ints, lt, q.east)))) (λ le. le);
-      south = by_lt_z p.y bounds.south (λ lt. absurd (never_out (λ q. omega (ints, lt, q.south)))) (λ le. le);
-      north = by_lt_z bounds.north p.y (λ lt. absurd (never_out (λ q. omega (ints, lt, q.north)))) (λ le. le);
+      west = by_lt_z p.x bounds.west (λ lt. absurd (never_out (λ q. omega (arith, ints, lt, q.west)))) (λ le. le);
+      east = by_lt_z bounds.east p.x (λ lt. absurd (never_out (λ q. omega (arith, ints, lt, q.east)))) (λ le. le);
+      south = by_lt_z p.y bounds.south (λ lt. absurd (never_out (λ q. omega (arith, ints, lt, q.south)))) (λ le. le);
+      north = by_lt_z bounds.north p.y (λ lt. absurd (never_out (λ q. omega (arith, ints, lt, q.north)))) (λ le. le);
     }

@@ -14,14 +14,6 @@ pub struct Bounds {
     pub north: i32,
 }
 
-/// The bounds of no point.
-const NOTHING: Bounds = Bounds {
-    west: i32::MAX,
-    south: i32::MAX,
-    east: i32::MIN,
-    north: i32::MIN,
-};
-
 /// Whether a number lies from one to another.
 fn is_from_to(low: i32, n: i32, high: i32) -> bool
     ensures { IsTrue result ↔ ((low ≤ℤ n) × (n ≤ℤ high)) }
@@ -33,6 +25,14 @@ impl Bounds {
     ghost use Rattle.std.specs.Prelude.{◌≡◌, ◌↔◌, IsTrue};
     ghost use Rattle.plane_bounds.specs.Bounds.{IsIn, Holds, RingsIn};
     ghost use Rattle.plane_bounds.specs.Inside.{is_inside};
+
+    /// The bounds of no point.
+    pub const NOTHING: Bounds = Bounds {
+        west: i32::MAX,
+        south: i32::MAX,
+        east: i32::MIN,
+        north: i32::MIN,
+    };
 
     /// Whether a point is in the box. It takes no memory.
     pub fn holds(self, p: Pt) -> bool
@@ -50,8 +50,8 @@ impl Bounds {
         self.holds(p) && inside_even_odd(p, rings)
     }
 
-    /// The box with one more point.
-    fn with(self, p: Pt) -> Bounds
+    /// The box with one more point. It takes no memory.
+    pub fn with(self, p: Pt) -> Bounds
         ensures kept { Holds result self }
         ensures there { IsIn result p }
     {
@@ -79,7 +79,7 @@ fn with_ring(bounds: Bounds, ring: &[Pt]) -> Bounds
 pub fn bounds_of(rings: &[Ring]) -> Bounds
     ensures { RingsIn result rings.now }
 {
-    let mut bounds = NOTHING;
+    let mut bounds = Bounds::NOTHING;
     for ring in rings {
         bounds = with_ring(bounds, ring.as_slice());
     }
