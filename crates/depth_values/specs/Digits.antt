@@ -22,7 +22,7 @@ metre_cells m f =
     if nat_lt m 10000
     then cell 2 (m / 1000) ∷ cell 1 (m / 100 % 10) ∷ cell 0 (m / 10 % 10) ∷ cell 4 (m % 10) ∷ []
     else cell 3 (m / 10000) ∷ cell 2 (m / 1000 % 10) ∷ cell 1 (m / 100 % 10) ∷ cell 0 (m / 10 % 10)
-        ∷ cell 4 (m % 10) ∷ []))))
+    ∷ cell 4 (m % 10) ∷ []))))
 
 -- the sign's cell, where the depth is above the water
 abbrev pub sign_cells : ℤ → List (List ℕ)

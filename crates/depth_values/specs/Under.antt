@@ -34,7 +34,7 @@ abbrev pub area_at : CellValue → Name × Feature → Option AreaValue
 area_at cell entry =
     if is_depth_area entry.1
     then option_map (λ rings. record { name = entry.0; d1 = d1_of entry.1; rings = rings })
-        (rings_of cell entry.1.pointers)
+    (rings_of cell entry.1.pointers)
     else None
 
 -- the depth areas of the cell, in the order of their names: every feature is looked at

@@ -14,7 +14,7 @@ use Rattle.route_check.specs.declared.draft.Draft.{Draft}
 use Rattle.route_check.specs.declared.fault.RouteFault.{RouteFault}
 use Rattle.route_check.specs.declared.fault.RouteFault.TheVariants.{BadLine, Few, Many}
 use Rattle.route_check.specs.RouteLine.{box_of, point_of}
-use Rattle.route_check.specs.Reading.{saying, is_unread, fault_at, box_on, points_on, route_on, route_with}
+use Rattle.route_check.specs.Reading.{saying, is_misspelled, fault_at, box_on, points_on, route_on, route_with}
 use Rattle.route_check.specs.Draft.{draft_of, IsKept, with_point, said_in, line_in, finished}
 
 -- ---- the first of the points
@@ -61,7 +61,7 @@ HasBox (first ∷ more) = (box : HalfWidths) × (box_of first ≡ Some box)
 
 -- what becomes of lines with one more that is taken
 pub record SaidTaken (said : List (List ℕ)) (line : List ℕ) (next : Draft) : Type 0 where
-  pub sound : is_unread said line ≡ false
+  pub sound : is_misspelled said line ≡ false
   pub drafted : next ≡ draft_of (said ++ line ∷ [])
   pub boxed : HasBox (said ++ line ∷ [])
 
@@ -112,12 +112,12 @@ err_is : (f g : RouteFault) → ◌≡◌ {A = Result Draft RouteFault} (Err f) 
 err_is f g e = cc
 
 pub said_refused : (said : List (List ℕ)) (line : List ℕ) (number : ℕ) (f : RouteFault) → HasBox said → said_in (box_on said) (draft_of said) number line ≡ Err f
-    → (is_unread said line ≡ true) × (BadLine number ≡ f)
+    → (is_misspelled said line ≡ true) × (BadLine number ≡ f)
 said_refused [] line number f boxed e = by (box_of line) refl e
   where
     by : (o : Option HalfWidths) → box_of line ≡ o
         → (or_fault (BadLine number) o >>= (λ box. ok (record { half_widths = Some box; points = take 1000 []; count = 0 }))) ≡ Err f
-        → (is_unread [] line ≡ true) × (BadLine number ≡ f)
+        → (is_misspelled [] line ≡ true) × (BadLine number ≡ f)
     by None is e = (ap is_none is, err_is _ f e)
     by (Some box) is e = absurd cc
 said_refused (first ∷ more) line number f boxed e =
@@ -125,7 +125,7 @@ said_refused (first ∷ more) line number f boxed e =
   where
     by : (o : Option Pt) → point_of line ≡ o
         → (or_fault (BadLine number) o >>= (λ p. ok (with_point (draft_of (first ∷ more)) p))) ≡ Err f
-        → (is_unread (first ∷ more) line ≡ true) × (BadLine number ≡ f)
+        → (is_misspelled (first ∷ more) line ≡ true) × (BadLine number ≡ f)
     by None is e = (ap is_none is, err_is _ f e)
     by (Some p) is e = absurd cc
 
@@ -148,9 +148,9 @@ pub record LineTaken (before : List (List ℕ)) (line : List ℕ) (next : Draft)
   pub boxed : HasBox (saying (before ++ line ∷ []))
 
 fault_silent : (before : List (List ℕ)) (line : List ℕ) → is_silent line ≡ true → fault_at before line ≡ None
-fault_silent before line is = ap (λ (b : Bool). when (not b && is_unread (saying before) line) (BadLine (length before + 1))) is
+fault_silent before line is = ap (λ (b : Bool). when (not b && is_misspelled (saying before) line) (BadLine (length before + 1))) is
 
-fault_said : (before : List (List ℕ)) (line : List ℕ) (b : Bool) → is_silent line ≡ false → is_unread (saying before) line ≡ b
+fault_said : (before : List (List ℕ)) (line : List ℕ) (b : Bool) → is_silent line ≡ false → is_misspelled (saying before) line ≡ b
     → fault_at before line ≡ when b (BadLine (length before + 1))
 fault_said before line b speaks is = λ i. when (not (speaks i) && is i) (BadLine (length before + 1))
 

@@ -149,13 +149,17 @@ three : (w_text h_text : List ℕ) (w h : ℕ) → half_width_of w_text ≡ Some
 unfolding box_in
 three w_text h_text w h we he = λ i. widths_with (we i) (he i)
 
-pub spelled_box : NumbersAreSpelled → PartsAreFound → (line : List ℕ) (w h : ℕ) → SpellsBox line w h → box_of line ≡ Some (record { w = w; h = h })
-spelled_box spelled found line w h s =
-    ap box_of s.parted
-    ∙ ap box_in (found 32 (codes "box") (s.w_text ∷ s.h_text ∷ [])
+box_parts : PartsAreFound → (line : List ℕ) (w h : ℕ) (s : SpellsBox line w h) → parts_at 32 line ≡ codes "box" ∷ s.w_text ∷ s.h_text ∷ []
+box_parts found line w h s =
+    ap (parts_at 32) s.parted
+    ∙ found 32 (codes "box") (s.w_text ∷ s.h_text ∷ [])
     (All-cons (Lacks 32) (codes "box") (s.w_text ∷ s.h_text ∷ []) box_lacks
     (All-cons (Lacks 32) s.w_text (s.h_text ∷ []) (digits_lack s.w_text s.w_spelled.number.0.1)
-    (All-cons (Lacks 32) s.h_text [] (digits_lack s.h_text s.h_spelled.number.0.1) (All-nil (Lacks 32))))))
+    (All-cons (Lacks 32) s.h_text [] (digits_lack s.h_text s.h_spelled.number.0.1) (All-nil (Lacks 32)))))
+
+pub spelled_box : NumbersAreSpelled → PartsAreFound → (line : List ℕ) (w h : ℕ) → SpellsBox line w h → box_of line ≡ Some (record { w = w; h = h })
+spelled_box spelled found line w h s =
+    ap box_in (box_parts found line w h s)
     ∙ three s.w_text s.h_text w h (half_width_told spelled s.w_text w s.w_spelled) (half_width_told spelled s.h_text h s.h_spelled)
 
 -- ---- points
@@ -190,12 +194,16 @@ two : (x_text y_text : List ℕ) (x y : ℤ) → coordinate_of 1800000000 x_text
 unfolding point_in
 two x_text y_text x y xe ye = λ i. point_with (xe i) (ye i)
 
+point_parts : PartsAreFound → (line : List ℕ) (p : Pt) (s : SpellsPoint line p) → parts_at 32 line ≡ s.x_text ∷ s.y_text ∷ []
+point_parts found line p s =
+    ap (parts_at 32) s.parted
+    ∙ found 32 s.x_text (s.y_text ∷ [])
+    (All-cons (Lacks 32) s.x_text (s.y_text ∷ []) (signed_lacks s.x_text p.x s.x_spelled.spelled)
+    (All-cons (Lacks 32) s.y_text [] (signed_lacks s.y_text p.y s.y_spelled.spelled) (All-nil (Lacks 32))))
+
 pub spelled_point : SignedAreSpelled → PartsAreFound → (line : List ℕ) (p : Pt) → SpellsPoint line p → point_of line ≡ Some p
 spelled_point spelled found line p s =
-    ap point_of s.parted
-    ∙ ap point_in (found 32 s.x_text (s.y_text ∷ [])
-    (All-cons (Lacks 32) s.x_text (s.y_text ∷ []) (signed_lacks s.x_text p.x s.x_spelled.spelled)
-    (All-cons (Lacks 32) s.y_text [] (signed_lacks s.y_text p.y s.y_spelled.spelled) (All-nil (Lacks 32)))))
+    ap point_in (point_parts found line p s)
     ∙ two s.x_text s.y_text p.x p.y (coordinate_told spelled 1800000000 s.x_text p.x s.x_spelled) (coordinate_told spelled 900000000 s.y_text p.y s.y_spelled)
 
 -- ---- a line, word by word
@@ -225,3 +233,28 @@ point_too_long x y (other ∷ more) some = refl
 -- a third word
 pub no_point : (words : List (List ℕ)) (x y rest : List ℕ) → words ≡ x ∷ y ∷ parts_at 32 rest → None ≡ point_in words
 no_point words x y rest e = sym (ap point_in e ∙ point_too_long x y (parts_at 32 rest) (some_part rest))
+
+-- ---- laws
+
+pub boxes_are_spelled : NumbersAreSpelled → PartsAreJoined → PartsAreFound
+    → (line : List ℕ) (w h : ℕ) → (box_of line ≡ Some (record { w = w; h = h })) ↔ SpellsBox line w h
+boxes_are_spelled spelled joined found line w h = (box_spelled spelled joined line (record { w = w; h = h }), spelled_box spelled found line w h)
+
+pub points_are_spelled : SignedAreSpelled → PartsAreJoined → PartsAreFound → (line : List ℕ) (p : Pt) → (point_of line ≡ Some p) ↔ SpellsPoint line p
+points_are_spelled spelled joined found line p = (point_spelled spelled joined line p, spelled_point spelled found line p)
+
+pub one_box : ((line : List ℕ) (w h : ℕ) → (box_of line ≡ Some (record { w = w; h = h })) ↔ SpellsBox line w h)
+    → (line : List ℕ) (v h w k : ℕ) → SpellsBox line v h → SpellsBox line w k → (v ≡ w) × (h ≡ k)
+one_box law line v h w k s t =
+    let same : ◌≡◌ {A = HalfWidths} (record { w = v; h = h }) (record { w = w; h = k }) = some_is _ _ (sym ((law line v h).1 s) ∙ (law line w k).1 t) in
+    (ap (λ (x : HalfWidths). x.w) same, ap (λ (x : HalfWidths). x.h) same)
+
+pub one_point : ((line : List ℕ) (p : Pt) → (point_of line ≡ Some p) ↔ SpellsPoint line p)
+    → (line : List ℕ) (p q : Pt) → SpellsPoint line p → SpellsPoint line q → p ≡ q
+one_point law line p q s t = some_is p q (sym ((law line p).1 s) ∙ (law line q).1 t)
+
+-- three words aren't two
+pub no_both : PartsAreFound → (line : List ℕ) (w h : ℕ) (p : Pt) → SpellsBox line w h → ¬ SpellsPoint line p
+no_both found line w h p s t =
+    let three = ap (λ (l : List (List ℕ)). length l) (sym (box_parts found line w h s) ∙ point_parts found line p t) in
+    omega (arith, three)

@@ -1,5 +1,6 @@
 -- A route line by line, as its reader keeps it.
-use Rattle.std.specs.Prelude.{◌≡◌, ℕ, ◌+◌, min, if◌then◌else◌, List, [], ◌∷◌, ◌++◌, length, take, Option, Some, None, Result, Ok}
+use Rattle.std.specs.Prelude.{◌≡◌, ℕ, ◌+◌, min, if◌then◌else◌, List, [], ◌∷◌, ◌++◌, length, take}
+use Rattle.std.specs.Prelude.{Option, Some, None, Result, Ok}
 use Rattle.chart_model.specs.Answers.{◌>>=◌, or_fault}
 use Rattle.text_lines.specs.Lines.{is_silent}
 use Rattle.plane_geometry.specs.declared.point.Pt.{Pt}

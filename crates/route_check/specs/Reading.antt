@@ -58,13 +58,14 @@ pub record HasFirstBad (all : List (List ℕ)) (n : ℕ) : Type 0 where
 
 -- ---- as functions
 
--- a line that says something is bad: where nothing was said before it, it is no box; else it is no point
-abbrev pub is_unread : List (List ℕ) → List ℕ → Bool
-is_unread [] line = is_none (box_of line)
-is_unread (first ∷ more) line = is_none (point_of line)
+-- behind lines that say this, the line is no box where they say nothing, and else no point
+abbrev pub is_misspelled : List (List ℕ) → List ℕ → Bool
+is_misspelled [] line = is_none (box_of line)
+is_misspelled (first ∷ more) line = is_none (point_of line)
 
+-- a line that says something and is not what it has to be behind others
 abbrev pub is_bad : List (List ℕ) → List ℕ → Bool
-is_bad before line = not (is_silent line) && is_unread (saying before) line
+is_bad before line = not (is_silent line) && is_misspelled (saying before) line
 
 -- what is wrong with a line behind others
 abbrev pub fault_at : List (List ℕ) → List ℕ → Option RouteFault

@@ -3,10 +3,12 @@
 
 mod draft;
 mod fault;
+mod laws;
 mod line;
 mod read;
 mod route;
 
 pub use fault::RouteFault;
+pub use laws::routes_are_read;
 pub use read::read_route;
 pub use route::{PtList, Route};

@@ -19,7 +19,7 @@ const MOST_LATITUDE: u64 = 900_000_000;
 /// The half-widths of the box that legs are widened by: `w` in longitude and `h` in latitude, in degrees times
 /// 10,000,000.
 #[derive(Clone, Copy, Debug, PartialEq, Eq)]
-pub struct HalfWidths {
+pub(crate) struct HalfWidths {
     pub w: u32,
     pub h: u32,
 }

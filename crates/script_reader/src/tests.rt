@@ -26,6 +26,7 @@ fn shown(alloc: Global, event: &Event) -> Result<Vec<u8>, AllocError> {
             text.extend_from_slice(cell.as_slice())?;
             Ok(text)
         }
+        Event::Route(name) => Ok(format!(in alloc; "route {}", name.as_str())?.into_bytes()),
     }
 }
 
@@ -49,7 +50,7 @@ fn with_letters(alloc: Global, front: &[u8], count: usize) -> Result<Vec<u8>, Al
 }
 
 /// A line, and what it is read as.
-static LINES: [(&[u8], &[u8]); 40] = [
+static LINES: [(&[u8], &[u8]); 44] = [
     (b"", b"nothing"),
     (b"#", b"nothing"),
     (b"# cells", b"nothing"),
@@ -69,6 +70,7 @@ static LINES: [(&[u8], &[u8]); 40] = [
     ),
     (b"cells", b"cells"),
     (b"draw AA5TEST1", b"draw AA5TEST1"),
+    (b"route passages/1", b"route passages/1"),
     // no words, or not these
     (b" ", b"bad 7"),
     (b"\r", b"bad 7"),
@@ -89,6 +91,9 @@ static LINES: [(&[u8], &[u8]); 40] = [
     (b"draw", b"bad 7"),
     (b"draw X 1", b"bad 7"),
     (b"Draw X", b"bad 7"),
+    (b"route", b"bad 7"),
+    (b"route X Y", b"bad 7"),
+    (b"routes X", b"bad 7"),
     (b"rollback X", b"bad 7"),
     (b"rollback X 1234567890", b"bad 7"),
     (b"rollback X +1", b"bad 7"),
@@ -166,7 +171,8 @@ fn replies_with_lines(rt: HostRuntime) -> Result<(), Fail> {
     let key = Key::from_bytes(b"AA5TEST1").ok_or("a key")?;
     let cells = octets(alloc, b"cell AA5TEST1 1 0 1 2\n")?;
     let items = octets(alloc, b"item 5 P 3 whole SY(QUESMRK1)\n")?;
-    let cases: [(Reply, &[u8]); 2] = [
+    let dangers = octets(alloc, b"danger 2 AA5TEST1 4 1\n")?;
+    let cases: [(Reply, &[u8]); 3] = [
         (
             Reply::Cells(1, cells),
             b"ok cells 1\ncell AA5TEST1 1 0 1 2\n",
@@ -174,6 +180,10 @@ fn replies_with_lines(rt: HostRuntime) -> Result<(), Fail> {
         (
             Reply::Draw(key, 1, items),
             b"ok draw AA5TEST1 1\nitem 5 P 3 whole SY(QUESMRK1)\n",
+        ),
+        (
+            Reply::Route(2, 1, dangers),
+            b"ok route 2 1\ndanger 2 AA5TEST1 4 1\n",
         ),
     ];
     for (at, (reply, bytes)) in cases.iter().enumerate() {
