@@ -19,7 +19,7 @@ def program(description):
     words.add_argument("--program", default=os.path.join(HERE, "..", "crates", "ecdis_cli", "out", "ecdis_cli"))
     path = os.path.abspath(words.parse_args().program)
     if not os.access(path, os.X_OK):
-        raise SystemExit("no program at " + path)
+        raise SystemExit("no program at %s: demo/build makes it" % path)
     return path
 
 
