@@ -2,7 +2,7 @@
 
 use crate::records::Want::{Bits, Number, Text};
 use crate::records::{Field, Want, has_values, read};
-use iso8211_records::FileFault;
+use iso8211_records::{FileFault, RecordFile};
 use std::alloc::{AllocError, Global};
 use std::test::Fail;
 

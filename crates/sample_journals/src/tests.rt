@@ -3,6 +3,7 @@
 ghost use Rattle.std.specs.Prelude.{◌≡◌, ◌≤◌, length};
 
 mod appending;
+mod far;
 mod opening;
 mod untold;
 

@@ -2,6 +2,7 @@
 
 ghost use Rattle.std.specs.Prelude.{◌≤◌, length};
 
+use super::far::Far;
 use super::untold::Untold;
 use super::{desk_of, read_as};
 use bank_journal::{AppendFault, Bank, frame, open_bank};
@@ -109,15 +110,23 @@ fn a_failing_call_leaves_a_record_or_none(rt: HostRuntime) -> Result<(), Fail> {
 /// The place of the last closed gate before which a body of two bytes has room: 268,435,456 - 6 - 2.
 const LAST: u64 = 268_435_448;
 
+/// Why a body of two bytes isn't appended to the bank whose closed gate stands at a place. No file is so long, so the desk
+/// fails where it is written.
+fn refused(alloc: Global, gate: u64) -> Result<Option<AppendFault>, Fail> {
+    let mut desk = Far {
+        desk: desk_of(alloc, b"", &[])?,
+        gate,
+    };
+    let (mut bank, _) = open_bank(alloc, &mut desk, 1)?;
+    let framed = frame(alloc, b"de")?;
+    Ok(bank.append(&mut desk, &framed).err())
+}
+
 #[test]
 fn a_record_has_room_or_is_refused(rt: HostRuntime) -> Result<(), Fail> {
-    let alloc = rt.alloc();
-    let mut desk = desk_of(alloc, b"", &[])?;
-    let framed = frame(alloc, b"de")?;
-    // There is no such place in this file, so the desk fails where it is written.
-    let there = Bank::at(1, LAST).append(&mut desk, &framed).err();
+    let there = refused(rt.alloc(), LAST)?;
     assert!(rt; there == Some(AppendFault::DeskFault));
-    let full = Bank::at(1, LAST + 1).append(&mut desk, &framed).err();
+    let full = refused(rt.alloc(), LAST + 1)?;
     assert!(rt;
         full == Some(AppendFault::Full {
             length: 268_435_450,
