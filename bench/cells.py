@@ -117,3 +117,8 @@ def area_update(count, number):
             add((b"FRID", struct.pack("<BIBBHHB", 100, i, 3, 1, 42, version, 3) + FIELD),
                 (b"ATTF", struct.pack("<H", 87) + b"%d" % (number % 50) + UNIT + FIELD))
     return descriptive_record() + b"".join(records)
+
+
+def passage(points):
+    """A route of so many points through the row of 13,000 areas, with a box of 100 to each side."""
+    return b"box 100 100\n" + b"".join(b"%d 450\n" % (13_000 * at) for at in range(1, points + 1))
