@@ -1,4 +1,14 @@
 pub mod Legs
+pub mod Lines
+pub mod Reaches
+pub mod Far
+pub mod Members
+pub mod Numbered
+pub mod Held
+pub mod Dangerous
+pub mod Meets
+pub mod InOrder
+pub mod Rows
 pub mod RouteLines
 pub mod Drafts
 pub mod Progress

@@ -1,5 +1,10 @@
 pub mod PointCount
 pub mod Route
+pub mod Reach
+pub mod Meeting
+pub mod Object
+pub mod Danger
+pub mod Report
 pub mod RouteLine
 pub mod Reading
 pub mod Draft

@@ -1,0 +1,18 @@
+use mir.Val.{SFits}
+use Rattle.std.proofs.Common.{w32, w64, rules}
+use Rattle.std.proofs.lemmas.Int.{to_z-of_z}
+use Rattle.route_check.proofs.reach.Reach.of.Goals as goal
+
+pub invariant_of-result : goal.invariant_of-result
+invariant_of-result c =
+    let west : SFits w64 c.round-across.result.low = search rules in
+    let east : SFits w64 c.round-across.result.high = search rules in
+    let south : SFits w64 c.round-along.result.low = search rules in
+    let north : SFits w64 c.round-along.result.high = search rules in
+    let ax : SFits w32 c.args.leg.a.x = search rules in
+    let ay : SFits w32 c.args.leg.a.y = search rules in
+    let bx : SFits w32 c.args.leg.b.x = search rules in
+    let by : SFits w32 c.args.leg.b.y = search rules in
+    let across = simp to_z-of_z at c.round-across.ensures in
+    let along = simp to_z-of_z at c.round-along.ensures in
+    simp to_z-of_z (record { covers = record { across = across; along = along } })
