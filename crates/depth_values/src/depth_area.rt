@@ -37,7 +37,7 @@ impl Model for DepthArea {
 pub type DepthAreas = Sequence<DepthArea>;
 
 impl DepthArea {
-    ghost use Rattle.std.specs.Prelude.{◌≡◌};
+    ghost use Rattle.std.specs.Prelude.{◌≡◌, IfOk};
     ghost use Rattle.std.specs.List.{list_any};
     ghost use Rattle.plane_bounds.specs.Inside.{is_inside};
 
@@ -53,6 +53,17 @@ impl DepthArea {
         ensures { result ≡ self.now.d1 }
     {
         self.d1
+    }
+
+    /// The rings of the area, copied point by point: no edge is followed for them again.
+    pub fn copy_rings(&self, alloc: Global) -> Result<RingList, AllocError>
+        ensures { IfOk result (λ rings. rings ≡ self.now.rings) }
+    {
+        let mut rings = Sequence::new(alloc);
+        for ring in self.rings.as_slice() {
+            rings.push(Sequence::from_vec(Vec::from_slice(alloc, ring.as_slice())?))?;
+        }
+        Ok(rings)
     }
 
     /// Whether a point lies in or on the area. The box round the area is asked first.
