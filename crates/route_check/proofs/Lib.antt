@@ -13,3 +13,4 @@ pub mod RouteLines
 pub mod Drafts
 pub mod Progress
 pub mod Files
+pub mod Areas

@@ -1,7 +1,8 @@
 //! The dangerous objects of charts.
 
-ghost use Rattle.std.specs.Prelude.{◌≡◌, ◌++◌, Some, IfOk, OnOk};
-ghost use Rattle.std.specs.List.{flat_map, enumerate_from};
+ghost use Rattle.std.specs.Prelude.{◌≡◌, ◌++◌, Some, IfOk, IfSome, OnOk};
+ghost use Rattle.std.specs.List.{Contains, flat_map, enumerate_from};
+ghost use Rattle.std.specs.FinMap as map;
 ghost use Rattle.chart_model.specs.State.{IsState};
 ghost use Rattle.area_rings.specs.Shape.{shape_of};
 ghost use Rattle.depth_values.specs.Under.{areas_of};
@@ -11,7 +12,7 @@ ghost use Rattle.route_check.specs.Danger.{objects_at, objects_on, objects_of};
 use crate::object::Object;
 use area_rings::{Shape, feature_shape};
 use chart_model::codes::{AREA, POINT};
-use chart_model::{Cell, Coord, Coords, Feature, Key, Settings, State};
+use chart_model::{Cell, Coord, Coords, Feature, Key, Name, Settings, State};
 use depth_values::codes::{OBSTRN, UWTROC, WRECKS};
 use depth_values::{DepthArea, depth_areas, hazard_depth_at, is_unsafe_area};
 use std::alloc::{AllocError, Global};
@@ -47,20 +48,51 @@ fn is_shallow(safety_depth: i32, depth: Option<i32>) -> bool
     }
 }
 
-/// Adds a whole feature as an object, where it has a shape.
-fn push_whole(
+/// The depth area with a name, where it is among these.
+fn area_named<'a>(areas: &'a [DepthArea], name: Name) -> Option<&'a DepthArea>
+    ensures named { IfSome result (λ area. area.now.name ≡ name) }
+    ensures there { IfSome result (λ area. Contains areas.now area.now) }
+{
+    let at = areas.binary_search_by_key(&name, |area| area.name()).ok()?;
+    let area = areas.get(at)?;
+    if area.name() == name {
+        Some(area)
+    } else {
+        None
+    }
+}
+
+/// The shape of an area. The rings of a depth area, which were made already, are copied.
+fn area_shape(
+    alloc: Global,
+    from: &Sources,
+    name: Name,
+    feature: &Feature,
+) -> Result<Option<Shape>, AllocError>
+    requires { map.get from.now.cell.now.features name ≡ Some feature.now }
+    ensures { IfOk result (λ shape. shape ≡ shape_of from.now.cell.now feature.now) }
+{
+    match area_named(from.areas, name) {
+        Some(area) => Ok(Some(Shape::Rings(area.copy_rings(alloc)?))),
+        None => feature_shape(alloc, from.cell, feature),
+    }
+}
+
+/// Adds an unsafe area as an object, where it has a shape.
+fn push_area(
     alloc: Global,
     objects: &mut Vec<Object>,
     from: &Sources,
-    rcid: u32,
+    name: Name,
     feature: &Feature,
 ) -> Result<(), AllocError>
+    requires { map.get from.now.cell.now.features name ≡ Some feature.now }
     ensures { OnOk result (objects.new.items
-        ≡ objects.old.items ++ whole_of from.now.key rcid (shape_of from.now.cell.now feature.now)) }
+        ≡ objects.old.items ++ whole_of from.now.key name.rcid (shape_of from.now.cell.now feature.now)) }
 {
-    match feature_shape(alloc, from.cell, feature)? {
+    match area_shape(alloc, from, name, feature)? {
         Some(shape) => {
-            objects.push(Object::new(from.key, rcid, 0, shape))?;
+            objects.push(Object::new(from.key, name.rcid, 0, shape))?;
             Ok(())
         }
         None => Ok(()),
@@ -143,23 +175,24 @@ fn push_soundings(
     }
 }
 
-/// Adds the dangerous objects of a feature. Its shape is made where it may be dangerous.
+/// Adds the dangerous objects of the feature with a name. Its shape is made where it may be dangerous.
 fn push_feature(
     alloc: Global,
     objects: &mut Vec<Object>,
     from: &Sources,
-    rcid: u32,
+    name: Name,
     feature: &Feature,
 ) -> Result<(), AllocError>
+    requires { map.get from.now.cell.now.features name ≡ Some feature.now }
     ensures { OnOk result (objects.new.items ≡ objects.old.items
-        ++ objects_at from.now.settings.now from.now.key from.now.cell.now rcid feature.now) }
+        ++ objects_at from.now.settings.now from.now.key from.now.cell.now name.rcid feature.now) }
 {
     if is_unsafe_area(feature, from.settings.safety_contour) {
-        push_whole(alloc, objects, from, rcid, feature)
+        push_area(alloc, objects, from, name, feature)
     } else if is_hazard(feature) {
-        push_hazard(alloc, objects, from, rcid, feature)
+        push_hazard(alloc, objects, from, name.rcid, feature)
     } else if feature.class == SOUNDG {
-        push_soundings(alloc, objects, from, rcid, feature)
+        push_soundings(alloc, objects, from, name.rcid, feature)
     } else {
         Ok(())
     }
@@ -172,12 +205,13 @@ fn push_features(alloc: Global, objects: &mut Vec<Object>, from: &Sources) -> Re
 {
     let cell = from.cell;
     for (name, feature) in cell.features.iter() {
-        push_feature(alloc, objects, from, name.rcid, feature)?;
+        push_feature(alloc, objects, from, *name, feature)?;
     }
     Ok(())
 }
 
-/// Adds the dangerous objects of a chart. Its depth areas are made once, for all hazards that lie at their bottom.
+/// Adds the dangerous objects of a chart. Its depth areas are made once: for the unsafe ones among them, and for all hazards
+/// that lie at their bottom.
 fn push_chart(
     alloc: Global,
     objects: &mut Vec<Object>,
