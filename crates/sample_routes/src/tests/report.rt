@@ -1,0 +1,448 @@
+//! Reports worked out by hand over small charts.
+
+ghost use Rattle.std.specs.Prelude.{◌≡◌, ◌↔◌, ◌≤◌, None, true, length, All, IfOk, IfSome};
+ghost use Rattle.chart_model.specs.State.{IsHeld, IsChartOf, IsFileLength};
+
+use chart_model::{
+    Cell, FileList, Header, Held, Holding, HoldingMap, Key, Octets, Settings, Shades, Shared, State,
+};
+use plane_geometry::Pt;
+use route_check::{Danger, DangerList, PtList, Route, report, reports_are_exact};
+use sample_rows::{Row, feature, name, put, vector};
+use std::alloc::{AllocError, Global};
+use std::test::Fail;
+
+const OBSTRN: u16 = 86;
+
+const UWTROC: u16 = 153;
+
+const WRECKS: u16 = 159;
+
+const SOUNDG: u16 = 129;
+
+const LNDARE: u16 = 71;
+
+/// A safety contour and a safety depth, in centimetres.
+fn settings(safety_contour: i32, safety_depth: i32) -> Settings {
+    Settings {
+        safety_contour,
+        safety_depth,
+        shallow: 200,
+        deep: 3_000,
+        shades: Shades::Two,
+        pattern: false,
+        scale: 1,
+    }
+}
+
+/// Two wrecks side by side, of 5 m and of 5.01 m; soundings of 3 m, 3.1 m and 5 m behind two coordinates without a
+/// depth; an obstruction along two lines; and three squares of land, of depths from 10 m on with a rock at their
+/// bottom, and of an obstruction on land that is no part of the skin of the earth.
+static HARBOUR: [Row; 26] = [
+    vector!(110, 1, [], [(10, 10, 0)]),
+    vector!(110, 2, [], [(12, 10, 0)]),
+    vector!(110, 3, [], [(26, 20, 0), (28, 20, 0)]),
+    Row {
+        deep: true,
+        depths: &[30, 31],
+        ..vector!(110, 4, [], [(20, 20, 0), (22, 20, 0), (24, 20, 0)])
+    },
+    vector!(110, 5, [], [(150, 165, 0)]),
+    vector!(110, 6, [], [(6, 3, 0)]),
+    vector!(120, 1, [], [(30, 50, 0)]),
+    vector!(120, 2, [], [(40, 50, 0)]),
+    vector!(120, 3, [], [(50, 50, 0)]),
+    vector!(120, 4, [], [(60, 50, 0)]),
+    vector!(120, 5, [], [(100, 150, 0)]),
+    vector!(120, 6, [], [(140, 150, 0)]),
+    vector!(120, 7, [], [(180, 150, 0)]),
+    vector!(130, 1, [(120, 1, 1), (120, 2, 2)], [(35, 60, 0)]),
+    vector!(130, 2, [(120, 3, 1), (120, 4, 2)], [(55, 60, 0)]),
+    vector!(
+        130,
+        5,
+        [(120, 5, 1), (120, 5, 2)],
+        [(120, 150, 0), (120, 170, 0), (100, 170, 0)],
+    ),
+    vector!(
+        130,
+        6,
+        [(120, 6, 1), (120, 6, 2)],
+        [(160, 150, 0), (160, 170, 0), (140, 170, 0)],
+    ),
+    vector!(
+        130,
+        7,
+        [(120, 7, 1), (120, 7, 2)],
+        [(200, 150, 0), (200, 170, 0), (180, 170, 0)],
+    ),
+    Row {
+        class: WRECKS,
+        attrs: &[(179, b"5")],
+        ..feature!(1, 1, [(110, 1, 255)])
+    },
+    Row {
+        class: WRECKS,
+        attrs: &[(179, b"5.01")],
+        ..feature!(1, 2, [(110, 2, 255)])
+    },
+    Row {
+        class: OBSTRN,
+        ..feature!(2, 3, [(130, 1, 1), (130, 2, 1)])
+    },
+    Row {
+        class: SOUNDG,
+        ..feature!(1, 7, [(110, 3, 255), (110, 4, 255)])
+    },
+    Row {
+        class: LNDARE,
+        grup: 1,
+        ..feature!(3, 10, [(130, 5, 1)])
+    },
+    Row {
+        grup: 1,
+        attrs: &[(87, b"10")],
+        ..feature!(3, 11, [(130, 6, 1)])
+    },
+    Row {
+        class: LNDARE,
+        ..feature!(3, 12, [(130, 7, 1)])
+    },
+    Row {
+        class: OBSTRN,
+        attrs: &[(179, b"5")],
+        ..feature!(3, 13, [(130, 7, 1)])
+    },
+];
+
+/// A rock at the bottom of the second square, a wreck of unknown depth on the way across the globe, one at a node that
+/// isn't there, and a wreck without a geometry.
+static ROCKS: [Row; 4] = [
+    Row {
+        class: UWTROC,
+        attrs: &[(187, b"3"), (93, b"1")],
+        ..feature!(1, 14, [(110, 5, 255)])
+    },
+    Row {
+        class: WRECKS,
+        ..feature!(1, 5, [(110, 6, 255)])
+    },
+    Row {
+        class: WRECKS,
+        ..feature!(1, 20, [(110, 9, 255)])
+    },
+    Row {
+        class: WRECKS,
+        ..feature!(255, 21, [])
+    },
+];
+
+/// The number of a leg, of a feature and of a place.
+type Wanted = (u32, u32, u64);
+
+/// A safety contour and a safety depth, the half-widths of a route, its points, and its rows.
+type Case = (i32, i32, [u32; 2], &'static [[i32; 2]], &'static [Wanted]);
+
+const WEST: i32 = -1_800_000_000;
+
+const EAST: i32 = 1_800_000_000;
+
+const SOUTH: i32 = -900_000_000;
+
+const NORTH: i32 = 900_000_000;
+
+static CASES: [Case; 43] = [
+    // a leg of length 0, at a wreck that is as deep as the safety contour, less deep, and deeper
+    (500, 0, [0, 0], &[[10, 10], [10, 10]], &[(1, 1, 0)]),
+    (501, 0, [0, 0], &[[10, 10], [10, 10]], &[(1, 1, 0)]),
+    (499, 0, [0, 0], &[[10, 10], [10, 10]], &[]),
+    // up to the second wreck, one unit short of it, and nearer by the box; beside both, and behind them on their line
+    (
+        501,
+        0,
+        [0, 0],
+        &[[0, 10], [12, 10]],
+        &[(1, 1, 0), (1, 2, 0)],
+    ),
+    (501, 0, [0, 0], &[[0, 10], [11, 10]], &[(1, 1, 0)]),
+    (
+        501,
+        0,
+        [1, 0],
+        &[[0, 10], [11, 10]],
+        &[(1, 1, 0), (1, 2, 0)],
+    ),
+    (501, 0, [9, 0], &[[0, 11], [20, 11]], &[]),
+    (501, 0, [0, 0], &[[13, 10], [19, 10]], &[]),
+    (501, 0, [1, 0], &[[13, 10], [19, 10]], &[(1, 2, 0)]),
+    // two legs that meet at a wreck, and there and back
+    (
+        500,
+        0,
+        [0, 0],
+        &[[0, 10], [10, 10], [20, 11]],
+        &[(1, 1, 0), (2, 1, 0)],
+    ),
+    (
+        500,
+        0,
+        [0, 0],
+        &[[0, 10], [20, 10], [20, 9], [20, 10], [0, 10]],
+        &[(1, 1, 0), (4, 1, 0)],
+    ),
+    // soundings, at the safety depth and over it, by their places among all coordinates
+    (0, 299, [0, 0], &[[19, 20], [29, 20]], &[]),
+    (0, 300, [0, 0], &[[19, 20], [29, 20]], &[(1, 7, 3)]),
+    (
+        0,
+        310,
+        [0, 0],
+        &[[29, 20], [19, 20]],
+        &[(1, 7, 3), (1, 7, 4)],
+    ),
+    (
+        0,
+        9_999,
+        [0, 0],
+        &[[19, 20], [29, 20]],
+        &[(1, 7, 3), (1, 7, 4), (1, 7, 5)],
+    ),
+    (0, 9_999, [0, 0], &[[21, 20], [22, 20]], &[(1, 7, 4)]),
+    (0, 9_999, [0, 0], &[[25, 20], [29, 20]], &[]),
+    // the safety contour is none of soundings, and the safety depth none of wrecks
+    (9_999, 299, [0, 0], &[[19, 20], [29, 20]], &[]),
+    (499, 9_999, [0, 0], &[[10, 10], [10, 10]], &[]),
+    // the lines of an obstruction: both, each segment of one, an end, and where only a closed line would be met
+    (500, 0, [0, 0], &[[20, 55], [70, 55]], &[(1, 3, 0)]),
+    (500, 0, [0, 0], &[[30, 52], [32, 52]], &[(1, 3, 0)]),
+    (500, 0, [0, 0], &[[38, 52], [40, 52]], &[(1, 3, 0)]),
+    (500, 0, [0, 0], &[[60, 50], [70, 40]], &[(1, 3, 0)]),
+    (500, 0, [0, 0], &[[35, 45], [35, 52]], &[]),
+    (500, 0, [0, 0], &[[45, 40], [45, 70]], &[]),
+    (-1_501, 0, [0, 0], &[[20, 55], [70, 55]], &[]),
+    (-1_500, 0, [0, 0], &[[20, 55], [70, 55]], &[(1, 3, 0)]),
+    // wholly on land, onto it, off it, to its corner, and one unit from that
+    (500, 0, [0, 0], &[[105, 155], [110, 160]], &[(1, 10, 0)]),
+    (500, 0, [0, 0], &[[90, 155], [110, 160]], &[(1, 10, 0)]),
+    (500, 0, [0, 0], &[[110, 160], [90, 155]], &[(1, 10, 0)]),
+    (500, 0, [0, 0], &[[90, 140], [100, 150]], &[(1, 10, 0)]),
+    (500, 0, [0, 0], &[[90, 140], [99, 149]], &[]),
+    (500, 0, [1, 0], &[[90, 140], [99, 150]], &[(1, 10, 0)]),
+    // depths from 10 m on are safe at 10 m; the rock at their bottom is as deep
+    (999, 0, [0, 0], &[[145, 155], [150, 165]], &[]),
+    (1_000, 0, [0, 0], &[[145, 155], [150, 165]], &[(1, 14, 0)]),
+    (
+        1_001,
+        0,
+        [0, 0],
+        &[[145, 155], [150, 165]],
+        &[(1, 11, 0), (1, 14, 0)],
+    ),
+    // an obstruction's area; the land under it is no part of the skin of the earth
+    (500, 0, [0, 0], &[[185, 155], [190, 160]], &[(1, 13, 0)]),
+    (499, 0, [0, 0], &[[185, 155], [190, 160]], &[]),
+    // across the globe, and with the widest box
+    (
+        500,
+        300,
+        [0, 0],
+        &[[WEST, SOUTH], [EAST, NORTH]],
+        &[(1, 5, 0)],
+    ),
+    (
+        500,
+        300,
+        [100_000_000, 100_000_000],
+        &[[WEST, SOUTH], [EAST, NORTH]],
+        &[
+            (1, 1, 0),
+            (1, 3, 0),
+            (1, 5, 0),
+            (1, 7, 3),
+            (1, 10, 0),
+            (1, 13, 0),
+        ],
+    ),
+    (
+        500,
+        0,
+        [100_000_000, 0],
+        &[[100_000_010, 10], [100_000_010, 10]],
+        &[(1, 1, 0)],
+    ),
+    (
+        500,
+        0,
+        [100_000_000, 0],
+        &[[100_000_011, 10], [100_000_011, 10]],
+        &[],
+    ),
+    (500, 0, [0, 0], &[[EAST, NORTH], [EAST, NORTH]], &[]),
+];
+
+/// The route of half-widths over points.
+fn route_over(alloc: Global, half: [u32; 2], points: &[[i32; 2]]) -> Result<Route, Fail> {
+    let mut list = Vec::new(alloc);
+    for point in points {
+        list.push(Pt {
+            x: point[0],
+            y: point[1],
+        })?;
+    }
+    let points = PtList::from_vec(list).ok_or("points of a route")?;
+    Ok(Route {
+        w: half[0],
+        h: half[1],
+        points,
+    })
+}
+
+/// The chart of rows under a key.
+fn chart_under(alloc: Global, key: Key, rows: &[Row]) -> Result<Cell, Fail> {
+    let header = Header {
+        key,
+        edition: 1,
+        update: 0,
+        issued: *b"20260101",
+        agency: 1,
+        scale: 50_000,
+    };
+    let _ = key.as_slice();
+    let mut cell = Cell::new(alloc, header);
+    put(alloc, &mut cell, rows)?;
+    Ok(cell)
+}
+
+/// No cell.
+fn nothing_held(alloc: Global) -> State {
+    State {
+        cells: HoldingMap::new(alloc),
+    }
+}
+
+/// The files of a cell: one without a byte.
+fn one_file(alloc: Global) -> Result<FileList, AllocError>
+    ensures nonempty { IfOk result (λ files. 1 ≤ length files) }
+    ensures files { IfOk result (All (λ file. IsFileLength (length file))) }
+{
+    let mut files = FileList::new(alloc);
+    files.push(Shared::of(alloc, Octets::from_vec(Vec::new(alloc)))?)?;
+    Ok(files)
+}
+
+/// Holds a cell under a key, with one file.
+fn hold(
+    alloc: Global,
+    state: &mut State,
+    key: Key,
+    held: Held,
+    chart: Option<Cell>,
+) -> Result<(), AllocError>
+    requires held { IsHeld held }
+    requires cancelled { (chart ≡ None) ↔ (held.cancelled ≡ true) }
+    requires chart { IfSome chart (IsChartOf key held) }
+{
+    let _ = key.as_slice();
+    let files = one_file(alloc)?;
+    state.cells.insert(key, Holding { held, files, chart })?;
+    Ok(())
+}
+
+/// Holds a chart.
+fn hold_chart(alloc: Global, state: &mut State, chart: Cell) -> Result<(), AllocError> {
+    let header = chart.header;
+    let held = Held {
+        edition: header.edition,
+        update: header.update,
+        cancelled: false,
+    };
+    hold(alloc, state, header.key, held, Some(chart))
+}
+
+/// Whether the rows are these, all of one chart.
+fn are_rows(found: &DangerList, key: Key, wanted: &[Wanted]) -> bool {
+    let found = found.as_slice();
+    found.len() == wanted.len()
+        && found
+            .iter()
+            .zip(wanted)
+            .all(|(row, want)| is_row(row, key, want))
+}
+
+/// Whether the row is this one.
+fn is_row(row: &Danger, key: Key, wanted: &Wanted) -> bool {
+    row.key == key && (row.leg, row.rcid, row.place) == *wanted
+}
+
+#[test]
+fn rows_of_a_chart(rt: HostRuntime) -> Result<(), Fail> {
+    let key = Key::from_bytes(b"AA5TEST1").ok_or("a key")?;
+    let mut chart = chart_under(rt.alloc(), key, &HARBOUR)?;
+    put(rt.alloc(), &mut chart, &ROCKS)?;
+    let mut state = nothing_held(rt.alloc());
+    hold_chart(rt.alloc(), &mut state, chart)?;
+    for (at, (contour, depth, half, points, wanted)) in CASES.iter().enumerate() {
+        let route = route_over(rt.alloc(), *half, points)?;
+        let found = report(rt.alloc(), &state, &settings(*contour, *depth), &route)?;
+        assert!(rt; are_rows(&found, key, wanted), "case {at}");
+    }
+    reports_are_exact();
+    Ok(())
+}
+
+/// A wreck of unknown depth, of the number 9 and of the number 3.
+static NINE: [Row; 2] = [
+    vector!(110, 1, [], [(10, 10, 0)]),
+    Row {
+        class: WRECKS,
+        ..feature!(1, 9, [(110, 1, 255)])
+    },
+];
+
+static THREE: [Row; 2] = [
+    vector!(110, 1, [], [(10, 10, 0)]),
+    Row {
+        class: WRECKS,
+        ..feature!(1, 3, [(110, 1, 255)])
+    },
+];
+
+/// The row of a whole feature.
+fn whole(leg: u32, key: Key, rcid: u32) -> Danger {
+    Danger {
+        leg,
+        key,
+        rcid,
+        place: 0,
+    }
+}
+
+#[test]
+fn rows_of_charts(rt: HostRuntime) -> Result<(), Fail> {
+    let first = Key::from_bytes(b"AA1").ok_or("a key")?;
+    let cancelled = Key::from_bytes(b"AA2").ok_or("a key")?;
+    let last = Key::from_bytes(b"B").ok_or("a key")?;
+    let route = route_over(rt.alloc(), [0, 0], &[[0, 10], [10, 10], [20, 10]])?;
+    let mut state = nothing_held(rt.alloc());
+    let found = report(rt.alloc(), &state, &settings(0, 0), &route)?;
+    assert!(rt; found.as_slice().is_empty());
+    let chart = chart_under(rt.alloc(), last, &THREE)?;
+    hold_chart(rt.alloc(), &mut state, chart)?;
+    let held = Held {
+        edition: 1,
+        update: 1,
+        cancelled: true,
+    };
+    hold(rt.alloc(), &mut state, cancelled, held, None)?;
+    let chart = chart_under(rt.alloc(), first, &NINE)?;
+    hold_chart(rt.alloc(), &mut state, chart)?;
+    let found = report(rt.alloc(), &state, &settings(0, 0), &route)?;
+    let wanted = [
+        whole(1, first, 9),
+        whole(1, last, 3),
+        whole(2, first, 9),
+        whole(2, last, 3),
+    ];
+    assert!(rt; found.as_slice() == wanted.as_slice());
+    Ok(())
+}
