@@ -256,13 +256,22 @@ drawn-apart model key values e =
     drawn_by : Option CellValue → Result Reply Refusal
     drawn_by o = or_fault (Store (refuses.NoCell key)) o >>= λ chart. Ok (reply_with key (drawing_by model.portrayal chart))
 
+apart-66 : ◌≡◌ {A = ℕ} 66 72 → ⊥
+apart-66 e = omega (arith, e)
+
+apart-67 : ◌≡◌ {A = ℕ} 67 72 → ⊥
+apart-67 e = omega (arith, e)
+
+apart-68 : ◌≡◌ {A = ℕ} 68 72 → ⊥
+apart-68 e = omega (arith, e)
+
 along-apart : (model : Model) (settings : Settings) (state : StateValue) (values : List ℕ) (r : Result Route RouteFault)
     → Is72 values (replied model (or_unread r >>= λ route. Ok (reply_along route (report_of state settings route)))).reply → ⊥
 along-apart model settings state values (Ok route) e = cc
-along-apart model settings state values (Err (of_route.BadLine line)) e = let f : 66 ≡ 72 = code_is e in omega arith
-along-apart model settings state values (Err (of_route.Few points)) e = let f : 67 ≡ 72 = code_is e in omega arith
-along-apart model settings state values (Err (of_route.Many points)) e = let f : 68 ≡ 72 = code_is e in omega arith
-along-apart model settings state values (Err of_route.NoMemory) e = let f : 67 ≡ 72 = code_is e in omega arith
+along-apart model settings state values (Err (of_route.BadLine line)) e = apart-66 (code_is e)
+along-apart model settings state values (Err (of_route.Few points)) e = apart-67 (code_is e)
+along-apart model settings state values (Err (of_route.Many points)) e = apart-68 (code_is e)
+along-apart model settings state values (Err of_route.NoMemory) e = apart-67 (code_is e)
 
 route-failed : (model : Model) (settings : Settings) (state : StateValue) (name : List ℕ) (o : Option Fetched) (values : List ℕ)
     → Is72 values (replied model (route_of settings state name o)).reply → o ≡ None
@@ -275,8 +284,8 @@ route-failed model settings state name (Some Long) values e = absurd (let f : 60
 pub turn-failed : (fetches : Fetches) (model : Model) (event : Event) (values : List ℕ)
     → (turn_of fetches model event).reply ≡ replies.Refused 72 values → (limit : ℕ) × ((name : List ℕ) × (fetches limit name ≡ None))
 unfolding turn_of
-turn-failed fetches model (asks.Info name) values e = (FILE_LIMIT, name, informed-failed model name (fetches FILE_LIMIT name) values e)
-turn-failed fetches model (asks.Load name) values e = (FILE_LIMIT, name, loaded-failed model name (fetches FILE_LIMIT name) values e)
+turn-failed fetches model (asks.Info name) values e = (FILE_LIMIT, (name, informed-failed model name (fetches FILE_LIMIT name) values e))
+turn-failed fetches model (asks.Load name) values e = (FILE_LIMIT, (name, loaded-failed model name (fetches FILE_LIMIT name) values e))
 turn-failed fetches model (asks.Rollback key update) values e =
     absurd (decided-apart model (commands.Rollback key update) rollback_reply values (λ done f. cc) (accepted model.state model.room (commands.Rollback key update)) e)
 turn-failed fetches model (asks.Drop key) values e =
@@ -284,4 +293,4 @@ turn-failed fetches model (asks.Drop key) values e =
 turn-failed fetches model asks.Cells values e = absurd cc
 turn-failed fetches model (asks.Draw key) values e = absurd (drawn-apart model key values e)
 turn-failed fetches model (asks.Route name) values e =
-    (ROUTE_LIMIT, name, route-failed model model.portrayal.settings model.state name (fetches ROUTE_LIMIT name) values e)
+    (ROUTE_LIMIT, (name, route-failed model model.portrayal.settings model.state name (fetches ROUTE_LIMIT name) values e))

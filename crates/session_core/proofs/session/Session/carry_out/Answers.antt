@@ -105,7 +105,7 @@ returns-in-Draw-clause-turned g c =
 
 pub returns-in-Route-clause-turned : goal.returns-in-Route-clause-turned
 returns-in-Route-clause-turned g c =
-    route-gives _ _ _ c.args.event (model_of c.args.self.now) c.in-Route.name c.state-in-Route.result.now c.check_route.result c.in-Route.is c.state-in-Route.ensures.state c.check_route.ensures.found (λ after tells.
+    route-gives _ _ _ c.args.event (model_of c.args.self.now) c.in-Route.name c.state-state.result.now c.check_route.result c.in-Route.is c.state-state.ensures.state c.check_route.ensures.found (λ after tells.
     no-call g.D.Desk.clock g.D.Desk.might c.args.desk.now (g.D.Desk.may_leave c.args.desk.now) (g.D.Desk.said c.args.desk.now)
     (model_of c.args.self.now).state after
     (λ images bytes left. g.met.D.Desk.only_now c.args.desk.now images bytes tells left)
