@@ -1,9 +1,9 @@
 //! The depths of hazards.
 
-use crate::squares::{BETWEEN, DEEP, NOWHERE, OUTSIDE, SHALLOW, SQUARES};
+use crate::squares::{BETWEEN, DEEP, NOWHERE, OUTSIDE, SHALLOW, SQUARES, object};
 use depth_values::codes::{OBSTRN, UWTROC, WRECKS};
 use depth_values::{depth_areas, hazard_depth, hazard_depth_among, least_is_least};
-use sample_rows::{Item, Row, Setting, chart, feature, name};
+use sample_rows::{Item, Row, Setting, chart, name};
 use std::alloc::Global;
 use std::test::Fail;
 
@@ -79,12 +79,7 @@ fn depths(alloc: Global, row: &Row) -> Result<(i32, i32), Fail> {
 #[test]
 fn depths_of_hazards(rt: HostRuntime) -> Result<(), Fail> {
     for (at, (class, attrs, place, wanted)) in HAZARDS.iter().enumerate() {
-        let row = Row {
-            class: *class,
-            attrs: *attrs,
-            pointers: *place,
-            ..feature!(1, 9, [])
-        };
+        let row = object(*class, attrs, place);
         assert_eq!(rt; depths(rt.alloc(), &row)?, (*wanted, *wanted), "case {at}");
     }
     least_is_least();

@@ -1,6 +1,6 @@
 //! What is drawn of wrecks, rocks and obstructions.
 
-use crate::squares::{BETWEEN, DEEP, NOWHERE, OUTSIDE, SHALLOW, SQUARES};
+use crate::squares::{BETWEEN, DEEP, NOWHERE, OUTSIDE, SHALLOW, SQUARES, object};
 use chart_model::{Settings, Target};
 use depth_values::codes::{OBSTRN, UWTROC, WRECKS};
 use hazard_symbology::{obstrn04, wrecks02};
@@ -266,12 +266,7 @@ fn draws(alloc: Global, contour: i32, row: &Row, wanted: &[Drawn]) -> Result<boo
 #[test]
 fn points(rt: HostRuntime) -> Result<(), Fail> {
     for (at, (contour, class, attrs, place, wanted)) in POINTS.iter().enumerate() {
-        let row = Row {
-            class: *class,
-            attrs: *attrs,
-            pointers: *place,
-            ..feature!(1, 9, [])
-        };
+        let row = object(*class, attrs, place);
         assert!(rt; draws(rt.alloc(), *contour, &row, wanted)?, "case {at}");
     }
     Ok(())

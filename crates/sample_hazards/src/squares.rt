@@ -1,6 +1,6 @@
 //! Depth areas side by side, and places for objects.
 
-use sample_rows::{Item, Row, feature, name, vector};
+use sample_rows::{Item, Row, Setting, feature, name, vector};
 
 /// Two squares with the edge 1 between them, of 5 metres and of 2, and over both a dredged area of unknown depth with a
 /// hole. A land area in the same place, and a line of the class of depth areas, are no depth areas.
@@ -66,3 +66,13 @@ pub const OUTSIDE: &[Item] = &[(110, 4, 255)];
 
 /// At a node that isn't there.
 pub const NOWHERE: &[Item] = &[(110, 9, 255)];
+
+/// The point feature 9 at a place.
+pub fn object(class: u16, attrs: &'static [Setting], place: &'static [Item]) -> Row {
+    Row {
+        class,
+        attrs,
+        pointers: place,
+        ..feature!(1, 9, [])
+    }
+}

@@ -49,7 +49,7 @@ fn first_wrong(alloc: Global, key: Key, table: &[Row]) -> Option<usize> {
     None
 }
 
-static BASE_FILES: [Row; 9] = [
+const BASE_FILES: [Row; 9] = [
     (None, (true, 1, 3), Ok(Replace)),
     (Some((1, 2, false)), (true, 1, 2), Ok(Replace)),
     (Some((1, 2, true)), (true, 1, 2), Ok(Replace)),
@@ -85,7 +85,7 @@ fn base_files(rt: HostRuntime) -> Result<(), Fail> {
     Ok(())
 }
 
-static UPDATES: [Row; 8] = [
+const UPDATES: [Row; 8] = [
     (Some((1, 0, false)), (false, 0, 9), Ok(Cancel)),
     (
         Some((1, 0, false)),
