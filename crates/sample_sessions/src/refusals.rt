@@ -31,7 +31,10 @@ const GIVEN: Foid = Foid {
 };
 
 /// Refusals, and the replies to them.
-static REFUSALS: [(Refusal, &[u8]); 31] = [
+const REFUSALS: [(Refusal, &[u8]); 34] = [
+    (Refusal::RouteLine(3), b"no 66 3\n"),
+    (Refusal::RouteFew(1), b"no 67 1\n"),
+    (Refusal::RouteMany(1_001), b"no 68 1001\n"),
     (
         Refusal::BadLine(18_446_744_073_709_551_615),
         b"no 70 18446744073709551615\n",

@@ -52,6 +52,20 @@ n\x01\0\0\0\x02\0\x03\x1e\
 \x03\x01\0\x01\0\x1e\
 \x07\0\0\0\x08\0\0\0\x1e";
 
+/// The records of the same cell with a wreck there, of which nothing more is known.
+const WRECK: &[u8] = b"00074 D   0900043   23 4DSID29000DSSI02029\x1e\
+AA5TEST1.000\x1f1\x1f0\x1f20240131\x01&\x02\x1e\
+\x01\x1e\
+00049 D   0900034   23 4DSPM15000\x1e\
+\x10'\0\0\x01\x01\x80\x96\x98\0\n\0\0\0\x1e\
+00061 D   0900043   23 4VRID09000SG2D09009\x1e\
+n\x01\0\0\0\x01\0\x01\x1e\
+\0\0\0\0d\0\0\0\x1e\
+00083 D   0900052   23 4FRID13000FOID09013FSPT09022\x1e\
+d\x01\0\0\0\x01\x02\x9f\0\x01\0\x01\x1e\
+&\x02\x01\0\0\0\x01\0\x1e\
+n\x01\0\0\0\xff\xff\xff\x1e";
+
 /// The record of an update that cancels the cell.
 const CANCELLATION: &[u8] = b"00063 D   0900034   23 4DSID29000\x1e\
 AA5TEST1.002\x1f0\x1f2\x1f20240202\x02&\x02\x1e";
@@ -95,9 +109,24 @@ fn put(
     shelf.insert(String::from_str(alloc, name)?, FileBytes::from_vec(bytes))
 }
 
+/// Puts the file of a route on the shelf.
+fn put_route(
+    alloc: Global,
+    shelf: &mut MemoryShelf,
+    name: &str,
+    text: &[u8],
+) -> Result<(), AllocError> {
+    let bytes = FileBytes::from_vec(text.to_vec(alloc)?);
+    shelf.insert(String::from_str(alloc, name)?, bytes)
+}
+
 /// A shelf with the files.
 fn shelf(alloc: Global, call: u64) -> Result<MemoryShelf, AllocError> {
     let mut shelf = MemoryShelf::new(alloc, failing(alloc, call)?);
+    put_route(alloc, &mut shelf, "WAY", b"box 0 0\n100 0\n100 0\n100 5\n")?;
+    put_route(alloc, &mut shelf, "BAD", b"box 0 0\n100\n")?;
+    put_route(alloc, &mut shelf, "SHORT", b"box 0 0\n100 0\n")?;
+    put(alloc, &mut shelf, "W", WRECK)?;
     put(alloc, &mut shelf, "T", BASE)?;
     put(alloc, &mut shelf, "U", UPDATE)?;
     put(alloc, &mut shelf, "CANCEL", CANCELLATION)?;
@@ -193,9 +222,28 @@ no 73 ZZ\nno 74 AA5TEST1 7\nno 73 ZZ\nno 71 X\nno 71 X\nok load AA5TEST1 1 1\nok
 ok cells 1\ncell AA5TEST1 1 1 3 cancelled\nno 73 AA5TEST1\nok rollback AA5TEST1 1 1\n\
 ok cells 1\ncell AA5TEST1 1 1 2 2\nok drop AA5TEST1\nok cells 0\n";
 
+/// A route along which nothing is held, and then a wreck; and routes that aren't read.
+static ROUTES: [&[u8]; 6] = [
+    b"route WAY",
+    b"load W",
+    b"route WAY",
+    b"route BAD",
+    b"route SHORT",
+    b"route X",
+];
+
+static ONE_ROUTE: [&[u8]; 1] = [b"route WAY"];
+
+/// What is replied to the routes.
+const DANGERS: &[u8] = b"ok route 2 0\nok load AA5TEST1 1 0\n\
+ok route 2 2\ndanger 1 AA5TEST1 1 0\ndanger 2 AA5TEST1 1 0\n\
+no 66 2\nno 67 1\nno 71 X\n";
+
 /// Lines, the calls of the shelf and of the desk that fail, and what is replied.
-static TURNS: [(&[&[u8]], u64, u64, &[u8]); 5] = [
+static TURNS: [(&[&[u8]], u64, u64, &[u8]); 7] = [
     (&ALL, 0, 0, REPLIES),
+    (&ROUTES, 0, 0, DANGERS),
+    (&ONE_ROUTE, 1, 0, b"no 72\n"),
     (&TWICE, 1, 0, b"no 72\nok info AA5TEST1 1 0 4\n"),
     (&TWICE, 2, 0, b"ok load AA5TEST1 1 0\nno 72\n"),
     // The opening makes eight calls of the desk, and a command four.
