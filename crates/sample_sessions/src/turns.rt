@@ -192,7 +192,7 @@ fn said(alloc: Global, lines: &[&[u8]], fetch: u64, call: u64) -> Result<Vec<u8>
 }
 
 /// Lines of a session, from one that asks about a file to one that lists the cells when the last is gone.
-static ALL: [&[u8]; 18] = [
+const ALL: [&[u8]; 18] = [
     b"info T",
     b"cells",
     b"load T",
@@ -213,7 +213,7 @@ static ALL: [&[u8]; 18] = [
     b"cells",
 ];
 
-static TWICE: [&[u8]; 2] = [b"load T", b"info T"];
+const TWICE: [&[u8]; 2] = [b"load T", b"info T"];
 
 /// What is replied to all lines.
 const REPLIES: &[u8] = b"ok info AA5TEST1 1 0 4\nok cells 0\nok load AA5TEST1 1 0\n\
@@ -223,7 +223,7 @@ ok cells 1\ncell AA5TEST1 1 1 3 cancelled\nno 73 AA5TEST1\nok rollback AA5TEST1 
 ok cells 1\ncell AA5TEST1 1 1 2 2\nok drop AA5TEST1\nok cells 0\n";
 
 /// A route along which nothing is held, and then a wreck; and routes that aren't read.
-static ROUTES: [&[u8]; 6] = [
+const ROUTES: [&[u8]; 6] = [
     b"route WAY",
     b"load W",
     b"route WAY",
@@ -232,7 +232,7 @@ static ROUTES: [&[u8]; 6] = [
     b"route X",
 ];
 
-static ONE_ROUTE: [&[u8]; 1] = [b"route WAY"];
+const ONE_ROUTE: [&[u8]; 1] = [b"route WAY"];
 
 /// What is replied to the routes.
 const DANGERS: &[u8] = b"ok route 2 0\nok load AA5TEST1 1 0\n\
@@ -240,7 +240,7 @@ ok route 2 2\ndanger 1 AA5TEST1 1 0\ndanger 2 AA5TEST1 1 0\n\
 no 66 2\nno 67 1\nno 71 X\n";
 
 /// Lines, the calls of the shelf and of the desk that fail, and what is replied.
-static TURNS: [(&[&[u8]], u64, u64, &[u8]); 7] = [
+const TURNS: [(&[&[u8]], u64, u64, &[u8]); 7] = [
     (&ALL, 0, 0, REPLIES),
     (&ROUTES, 0, 0, DANGERS),
     (&ONE_ROUTE, 1, 0, b"no 72\n"),
