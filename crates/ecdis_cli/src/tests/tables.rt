@@ -150,25 +150,27 @@ fn remark(alloc: Global, count: usize) -> Result<Vec<u8>, AllocError> {
     Ok(bytes)
 }
 
-/// The lengths of a catalogue and a table, how the run ends, and what is said.
-static LENGTHS: [(usize, usize, Status, &[u8]); 4] = [
-    (MOST, MOST, Status::Done, b"ok cells 0\n"),
-    (MORE, MOST, Status::Tables(0, TablesFault::Long), b""),
-    (MOST, MORE, Status::Tables(1, TablesFault::Long), b""),
-    (MORE, MORE, Status::Tables(0, TablesFault::Long), b""),
-];
-
 #[test]
 fn files_have_a_limit(rt: HostRuntime) -> Result<(), Fail> {
-    for (at, (catalogue, table, status, said)) in LENGTHS.iter().enumerate() {
-        let catalogue = remark(rt.alloc(), *catalogue)?;
-        let table = remark(rt.alloc(), *table)?;
+    let alloc = rt.alloc();
+    let at_limit = remark(alloc, MOST)?;
+    let above_limit = remark(alloc, MORE)?;
+    let (longest, longer) = (at_limit.as_slice(), above_limit.as_slice());
+    let long = TablesFault::Long;
+    let whole = Case::of(b"cells\n");
+    let cases: [(&[u8], &[u8], Status, &[u8]); 4] = [
+        (longest, longest, Status::Done, b"ok cells 0\n"),
+        (longer, longest, Status::Tables(0, long), b""),
+        (longest, longer, Status::Tables(1, long), b""),
+        (longer, longer, Status::Tables(0, long), b""),
+    ];
+    for (catalogue, table, status, said) in cases {
         let case = Case {
-            catalogue: Some(catalogue.as_slice()),
-            table: Some(table.as_slice()),
-            ..Case::of(b"cells\n")
+            catalogue: Some(catalogue),
+            table: Some(table),
+            ..whole
         };
-        assert!(rt; ends(rt.alloc(), &case, *status, said)?, "case {at}");
+        assert!(rt; ends(alloc, &case, status, said)?);
     }
     Ok(())
 }
