@@ -1,5 +1,6 @@
 -- The depth over a wreck, a rock or an obstruction, in centimetres.
-use Rattle.std.specs.Prelude.{ℕ, ℤ, pos, negsuc, ◌≤ℤ◌, unsigned_abs, nat_le, Bool, false, ◌&&◌, ◌||◌, ◌==◌, if◌then◌else◌}
+use Rattle.std.specs.Prelude.{ℕ, ℤ, pos, negsuc, ◌≤ℤ◌, unsigned_abs}
+use Rattle.std.specs.Prelude.{nat_le, Bool, false, ◌&&◌, ◌||◌, ◌==◌, if◌then◌else◌}
 use Rattle.std.specs.Prelude.{List, [], ◌∷◌, All, codes, Option, Some, None, option_and_then, unwrap_or}
 use Rattle.std.specs.List.{Contains}
 use Rattle.chart_model.specs.declared.cell.Feature.{Feature}

@@ -7,7 +7,8 @@ use Rattle.chart_model.specs.declared.settings.Settings.{Settings}
 use Rattle.lookup_table.specs.declared.instruction.Instruction.{Instruction}
 use Rattle.lookup_table.specs.declared.instruction.Instruction.TheVariants.{Draw, Call}
 use Rattle.lookup_table.specs.declared.instruction.Procedure.{Procedure}
-use Rattle.lookup_table.specs.declared.instruction.Procedure.TheVariants.{Depare01, Depcnt02, Soundg02, Obstrn04, Wrecks02}
+use Rattle.lookup_table.specs.declared.instruction.Procedure.TheVariants.{Depare01, Depcnt02}
+use Rattle.lookup_table.specs.declared.instruction.Procedure.TheVariants.{Soundg02, Obstrn04, Wrecks02}
 use Rattle.draw_items.specs.Items.{whole}
 use Rattle.depth_symbology.specs.DepthArea.{depare01_of}
 use Rattle.depth_symbology.specs.Contours.{depcnt02_of}

@@ -9,7 +9,8 @@ use Rattle.lookup_table.specs.declared.condition.Condition.{Condition}
 use Rattle.lookup_table.specs.declared.instruction.Instruction.{Instruction}
 use Rattle.lookup_table.specs.declared.instruction.Instruction.TheVariants.{Draw, Call}
 use Rattle.lookup_table.specs.declared.instruction.Procedure.{Procedure}
-use Rattle.lookup_table.specs.declared.instruction.Procedure.TheVariants.{Depare01, Depcnt02, Soundg02, Obstrn04, Wrecks02}
+use Rattle.lookup_table.specs.declared.instruction.Procedure.TheVariants.{Depare01, Depcnt02}
+use Rattle.lookup_table.specs.declared.instruction.Procedure.TheVariants.{Soundg02, Obstrn04, Wrecks02}
 use Rattle.lookup_table.specs.declared.line.TableLine.{TableLine}
 use Rattle.lookup_table.specs.declared.written.WrittenCondition.{WrittenCondition}
 use Rattle.lookup_table.specs.declared.written.WrittenLine.{WrittenLine}

@@ -7,7 +7,8 @@ use Rattle.script_reader.specs.Reply.{number}
 use Rattle.script_reader.specs.declared.reply.Reply.{Reply}
 use Rattle.script_reader.specs.declared.reply.Reply.TheVariants.{Refused}
 use Rattle.session_core.specs.declared.refusal.Refusal.{Refusal}
-use Rattle.session_core.specs.declared.refusal.Refusal.TheVariants.{RouteLine, RouteFew, RouteMany, BadLine, NoFile, ShelfFault, Store}
+use Rattle.session_core.specs.declared.refusal.Refusal.TheVariants.{RouteLine, RouteFew, RouteMany}
+use Rattle.session_core.specs.declared.refusal.Refusal.TheVariants.{BadLine, NoFile, ShelfFault, Store}
 
 -- numbers as they are printed
 abbrev pub numbers : List ℕ → List (List ℕ)

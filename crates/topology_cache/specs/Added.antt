@@ -1,5 +1,6 @@
 -- Users that are added one after the other.
-use Rattle.std.specs.Prelude.{Bool, false, ◌-◌, if◌then◌else◌, List, [], ◌∷◌, ◌++◌, length, slice_get, Option, Some, None}
+use Rattle.std.specs.Prelude.{Bool, false, ◌-◌, if◌then◌else◌, List, []}
+use Rattle.std.specs.Prelude.{◌∷◌, ◌++◌, length, slice_get, Option, Some, None}
 use Rattle.chart_model.specs.declared.name.Name.{Name}
 use Rattle.topology_cache.specs.Users.{same_name}
 
