@@ -8,7 +8,7 @@ use Rattle.area_rings.specs.declared.trace.OpenRing.{OpenRing}
 use Rattle.area_rings.specs.Choice.{◌>>=◌}
 use Rattle.area_rings.specs.Edge.{EdgeValue}
 use Rattle.area_rings.specs.Rings.{same_name, followed, before_rings, chains_of}
-use Rattle.area_rings.proofs.Rests.{Rest, Whole}
+use Rattle.area_rings.proofs.RestOfRing.{Rest, Whole}
 
 -- ---- names
 

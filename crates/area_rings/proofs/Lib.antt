@@ -2,8 +2,8 @@ pub mod Edges
 pub mod Traces
 pub mod Shapes
 pub mod Lines
-pub mod Rounds
-pub mod Rests
+pub mod RingsSoFar
+pub mod RestOfRing
 pub mod Chains
 pub mod RingLaw
-pub mod Kept
+pub mod KeptShapes

@@ -8,7 +8,7 @@ use Rattle.plane_geometry.specs.declared.point.Pt.{Pt}
 use Rattle.area_rings.specs.Choice.{◌>>=◌, each}
 use Rattle.area_rings.specs.Edge.{EdgeValue, edge_along}
 use Rattle.area_rings.specs.Rings.{IsRing, HasRings, ring_points, chains_of, rings_of}
-use Rattle.area_rings.proofs.Rests.{Whole, ring-whole, whole-ring}
+use Rattle.area_rings.proofs.RestOfRing.{Whole, ring-whole, whole-ring}
 use Rattle.area_rings.proofs.Chains.{chains_told, chains_read}
 
 -- ---- what there is of each item

@@ -3,4 +3,4 @@ pub mod Edge
 pub mod Direction
 pub mod Rings
 pub mod Shape
-pub mod Kept
+pub mod KeptEdges

@@ -6,7 +6,7 @@ ghost use Rattle.chart_model.specs.declared.record.Pointer.{Pointer};
 ghost use Rattle.chart_model.specs.declared.cell.Feature.{Feature};
 ghost use Rattle.chart_model.specs.Cell.{CellValue};
 ghost use Rattle.plane_geometry.specs.declared.point.Pt.{Pt};
-ghost use Rattle.area_rings.specs.Kept.{KeepsVectors};
+ghost use Rattle.area_rings.specs.KeptEdges.{KeepsVectors};
 ghost use Rattle.area_rings.specs.Rings.{HasRings};
 ghost use Rattle.area_rings.specs.Shape.{line_of, rings_of, shape_of};
 

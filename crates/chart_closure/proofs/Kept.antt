@@ -10,7 +10,7 @@ use Rattle.chart_model.specs.declared.cell.Vector.{Vector}
 use Rattle.chart_model.specs.declared.cell.Feature.{Feature}
 use Rattle.chart_model.specs.Cell.{CellValue}
 use Rattle.area_rings.specs.Shape.{line_of, shape_of}
-use Rattle.area_rings.specs.Kept.{KeepsVectors, StandsFor}
+use Rattle.area_rings.specs.KeptEdges.{KeepsVectors, StandsFor}
 use Rattle.chart_closure.specs.declared.fault.ClosureFault.{ClosureFault}
 use Rattle.chart_closure.specs.declared.fault.ClosureFault.TheVariants.{Dangling, EdgeNodes, RingOpen, WrongPointer}
 use Rattle.chart_model.specs.Answers.{when, first_of}

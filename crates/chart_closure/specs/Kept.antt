@@ -4,7 +4,7 @@ use Rattle.std.specs.FinMap as finite
 use Rattle.chart_model.specs.declared.name.Name.{Name}
 use Rattle.chart_model.specs.declared.cell.Feature.{Feature}
 use Rattle.chart_model.specs.Cell.{CellValue}
-use Rattle.area_rings.specs.Kept.{KeepsVectors, StandsFor}
+use Rattle.area_rings.specs.KeptEdges.{KeepsVectors, StandsFor}
 
 -- each record has one under its name, and of vector records one that stands for it
 pub record KeepsRecords (before after : CellValue) : Type 0 where

@@ -13,7 +13,7 @@ use Rattle.update_sequence.specs.Rebuilt.{held_by, rebuilt}
 use Rattle.update_sequence.specs.Sound.{IsSoundList}
 use Rattle.chart_store.specs.declared.refusal.Refusal.{Refusal}
 use Rattle.chart_store.specs.declared.refusal.Refusal.TheVariants.{NoCell, NoUpdate}
-use Rattle.chart_store.specs.Kept.{kept_by}
+use Rattle.chart_store.specs.KeptFiles.{kept_by}
 use Rattle.chart_store.specs.Live.{IsLive, AreLive, state_or}
 use Rattle.chart_store.specs.Loaded.{Outcome, HoldingsByKey, nothing_held}
 use Rattle.chart_store.specs.Next.{cells_with, outcome_by}

@@ -24,7 +24,7 @@ use Rattle.chart_store.specs.Next.{cells_with, CanStand}
 use Rattle.chart_store.specs.Taken.{replaced_bytes}
 use Rattle.chart_store.specs.declared.refusal.Refusal.TheVariants.{StoreFull}
 use Rattle.std.proofs.lemmas.Bool.Decides.{nat_tests}
-use Rattle.chart_store.proofs.Weights.{weight_found, weight-insert, weight-get}
+use Rattle.chart_store.proofs.MapSums.{weight_found, weight-insert, weight-get}
 
 -- ---- bytes
 

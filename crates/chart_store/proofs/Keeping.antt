@@ -14,8 +14,8 @@ use Rattle.update_sequence.specs.Reading.{data_set_in, tags_read}
 use Rattle.update_sequence.specs.Rebuilt.{data_records_of}
 use Rattle.update_sequence.specs.Sound.{IsSoundList, is_sound}
 use Rattle.update_sequence.specs.declared.fault.ReadFault.{ReadFault}
-use Rattle.chart_store.specs.Kept.{is_update, has_update, ends_with, beginnings, may_keep, kept_by}
-use Rattle.chart_store.specs.Kept.{EndsWith, MayKeep, IsKept}
+use Rattle.chart_store.specs.KeptFiles.{is_update, has_update, ends_with, beginnings, may_keep, kept_by}
+use Rattle.chart_store.specs.KeptFiles.{EndsWith, MayKeep, IsShortestKept}
 
 -- ---- the first list that passes a test
 
@@ -300,7 +300,7 @@ may-tested sounds key number files h =
     (ends-tested number files h.ends)
 
 pub kept-is : (sounds : Sounds) (key : List ℕ) (number : ℕ) (files kept : List (List ℕ)) →
-    kept_by key number files ≡ Some kept → IsKept key number files kept
+    kept_by key number files ≡ Some kept → IsShortestKept key number files kept
 unfolding kept_by
 kept-is sounds key number files kept e =
     let f = first-found (may_keep key number) files kept e in

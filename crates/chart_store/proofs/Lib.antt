@@ -1,4 +1,4 @@
-mod Weights
+mod MapSums
 mod Holdings
 mod Answering
 mod Judging

@@ -3,7 +3,7 @@ pub mod Fault
 pub mod Loaded
 pub mod Live
 pub mod Taken
-pub mod Kept
+pub mod KeptFiles
 pub mod Outcome
 pub mod Next
 pub mod Images

@@ -15,7 +15,7 @@ use Rattle.update_sequence.specs.Reading.{data_set_in}
 use Rattle.update_sequence.specs.Rebuilt.{held_by, rebuilt, data_records_of}
 use Rattle.chart_store.specs.declared.refusal.Refusal.{Refusal}
 use Rattle.chart_store.specs.declared.refusal.Refusal.TheVariants.{BankFull, NoCell, NoUpdate}
-use Rattle.chart_store.specs.Kept.{kept_by}
+use Rattle.chart_store.specs.KeptFiles.{kept_by}
 use Rattle.chart_store.specs.Live.{state_or}
 use Rattle.chart_store.specs.Loaded.{files_of, Outcome, loaded, come_to}
 

@@ -8,7 +8,7 @@ ghost use Rattle.chart_model.specs.declared.command.Command.{Command};
 ghost use Rattle.update_sequence.specs.Reading.{data_set_in};
 ghost use Rattle.chart_store.specs.declared.refusal.Refusal.{Refusal};
 ghost use Rattle.chart_store.specs.Loaded.{Outcome, nothing_held, loaded};
-ghost use Rattle.chart_store.specs.Kept.{MayKeep, IsKept, kept_by};
+ghost use Rattle.chart_store.specs.KeptFiles.{MayKeep, IsShortestKept, kept_by};
 ghost use Rattle.chart_store.specs.Live.{AreLive, state_after, state_by};
 ghost use Rattle.chart_store.specs.Outcome.{IsKeyOf, outcome, state_with, after, charts};
 ghost use Rattle.chart_store.specs.Taken.{chart_of};
@@ -75,7 +75,7 @@ pub fn commands_change_their_cell_alone()
 /// that has the number and doesn't cancel the cell. It keeps none only where there is no such list.
 pub fn rollbacks_keep_the_shortest_list()
     ensures kept { (key : List ℕ) (number : ℕ) (files kept : List (List ℕ)) →
-        kept_by key number files ≡ Some kept → IsKept key number files kept }
+        kept_by key number files ≡ Some kept → IsShortestKept key number files kept }
     ensures none { (key : List ℕ) (number : ℕ) (files kept rest : List (List ℕ)) →
         kept_by key number files ≡ None → files ≡ kept ++ rest → ¬ MayKeep key number kept }
 {

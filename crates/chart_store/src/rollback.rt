@@ -5,7 +5,7 @@ ghost use Rattle.std.specs.FinMap as map;
 ghost use Rattle.update_sequence.specs.Rebuilt.{held_by, rebuilt, data_records_of};
 ghost use Rattle.update_sequence.specs.Sound.{IsSoundList};
 ghost use Rattle.chart_difference.specs.Difference.{AreChanged};
-ghost use Rattle.chart_store.specs.Kept.{kept_by};
+ghost use Rattle.chart_store.specs.KeptFiles.{kept_by};
 ghost use Rattle.chart_store.specs.Loaded.{files_of};
 ghost use Rattle.chart_store.specs.Next.{IsNext, GivesNext};
 ghost use Rattle.chart_store.specs.Outcome.{rolled_back};

@@ -3,7 +3,7 @@ mod Crashes
 mod Taking
 mod Failures
 mod Lines
-mod Steps
+mod ScriptSteps
 mod Runs
 mod Answering
 mod Opening

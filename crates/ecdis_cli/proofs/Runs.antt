@@ -33,7 +33,7 @@ use Rattle.ecdis_cli.specs.World.{Standing, World, at_start}
 use Rattle.ecdis_cli.proofs.Crashes.{prefix-extended}
 use Rattle.ecdis_cli.proofs.Failures.{Serves, TellsFailure, served-none}
 use Rattle.ecdis_cli.proofs.Lists.{failures-append, output-append}
-use Rattle.ecdis_cli.proofs.Steps.{Advanced-then, Stopped-then}
+use Rattle.ecdis_cli.proofs.ScriptSteps.{Advanced-then, Stopped-then}
 use Rattle.ecdis_cli.proofs.Taking.{IsAfter-then, Taken-then, answers-same, front-after, front-append, front-none, front-same, front-whole}
 
 -- ---- statuses

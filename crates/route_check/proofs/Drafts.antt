@@ -15,7 +15,7 @@ use Rattle.route_check.specs.declared.fault.RouteFault.{RouteFault}
 use Rattle.route_check.specs.declared.fault.RouteFault.TheVariants.{BadLine, Few, Many}
 use Rattle.route_check.specs.RouteLine.{box_of, point_of}
 use Rattle.route_check.specs.Reading.{saying, is_misspelled, fault_at, box_on, points_on, route_on, route_with}
-use Rattle.route_check.specs.Draft.{draft_of, IsKept, with_point, said_in, line_in, finished}
+use Rattle.route_check.specs.Draft.{draft_of, KeepsFirstPoints, with_point, said_in, line_in, finished}
 
 -- ---- the first of the points
 
@@ -49,7 +49,7 @@ first_of_first points p = ⊎_elim few many (cases_lt (length points) 1000)
         ∙ take_all 1000 (take 1000 points) (omega (arith, length-take 1000 points))
         ∙ sym (take-append-le 1000 points (p ∷ []) h)
 
-pub kept : (said : List (List ℕ)) → IsKept (draft_of said)
+pub kept : (said : List (List ℕ)) → KeepsFirstPoints (draft_of said)
 kept said = length-take 1000 (points_on said)
 
 -- ---- one more line that says something

@@ -12,7 +12,7 @@ use Rattle.route_check.specs.declared.fault.RouteFault.{RouteFault}
 use Rattle.route_check.specs.declared.fault.RouteFault.TheVariants.{BadLine, Few, Many, NoMemory}
 use Rattle.route_check.specs.RouteLine.{point_of}
 use Rattle.route_check.specs.Reading.{saying, fault_at, points_on, route_on, route_in}
-use Rattle.route_check.specs.Draft.{draft_of, IsKept, line_in, finished}
+use Rattle.route_check.specs.Draft.{draft_of, KeepsFirstPoints, line_in, finished}
 use Rattle.route_check.specs.Answers.{told, Answers}
 use Rattle.route_check.proofs.Drafts.{HasBox, kept, line_taken, line_refused, finished-draft_of}
 
@@ -37,8 +37,8 @@ read_none bytes draft e = record {
   sound = no_lines fault_at [];
 }
 
-pub is_kept : (bytes rest : List ℕ) (draft : Draft) (number : ℕ) → IsReadSoFar bytes draft number rest → IsKept draft
-is_kept bytes rest draft number so_far = subst IsKept (sym so_far.drafted) (kept (saying so_far.before))
+pub is_kept : (bytes rest : List ℕ) (draft : Draft) (number : ℕ) → IsReadSoFar bytes draft number rest → KeepsFirstPoints draft
+is_kept bytes rest draft number so_far = subst KeepsFirstPoints (sym so_far.drafted) (kept (saying so_far.before))
 
 -- ---- no more points than lines
 

@@ -21,8 +21,8 @@ draft_of said = record {
 }
 
 -- all points are kept up to 1,000
-abbrev pub IsKept : Draft → Type 0
-IsKept draft = length draft.points ≡ min 1000 draft.count
+abbrev pub KeepsFirstPoints : Draft → Type 0
+KeepsFirstPoints draft = length draft.points ≡ min 1000 draft.count
 
 -- with one point more
 abbrev pub with_point : Draft → Pt → Draft

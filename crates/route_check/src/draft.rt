@@ -3,7 +3,7 @@
 ghost use Rattle.std.specs.Prelude.{◌≡◌, ◌+◌, ◌<◌, ◌≤◌, ◌^◌, [], OnOk, MatchResult, Ok};
 ghost use Rattle.chart_model.specs.Answers.{FailsBy};
 ghost use Rattle.route_check.specs.Answers.{told};
-ghost use Rattle.route_check.specs.Draft.{draft_of, IsKept, with_point, line_in, finished};
+ghost use Rattle.route_check.specs.Draft.{draft_of, KeepsFirstPoints, with_point, line_in, finished};
 
 use crate::fault::RouteFault;
 use crate::line::{HalfWidths, read_box, read_point};
@@ -40,7 +40,7 @@ impl Draft {
 
     /// Adds a point, which is kept where it is one of the first 1,000.
     fn add_point(&mut self, point: Pt) -> Result<(), AllocError>
-        requires kept { IsKept self.old }
+        requires kept { KeepsFirstPoints self.old }
         requires fits { self.old.count + 1 < 2 ^ 64 }
         ensures { OnOk result (self.new ≡ with_point self.old point) }
     {
@@ -53,7 +53,7 @@ impl Draft {
 
     /// Takes what the line of this number says.
     pub(crate) fn take_line(&mut self, number: u64, line: &[u8]) -> Result<(), RouteFault>
-        requires kept { IsKept self.old }
+        requires kept { KeepsFirstPoints self.old }
         requires counted { self.old.count < number }
         ensures { MatchResult result
             (λ _. line_in self.old number line.now ≡ Ok self.new)
@@ -75,7 +75,7 @@ impl Draft {
 
     /// The route of the lines.
     pub(crate) fn finish(self) -> Result<Route, RouteFault>
-        requires { IsKept self }
+        requires { KeepsFirstPoints self }
         ensures { result ≡ finished self }
     {
         let Draft {

@@ -13,7 +13,7 @@ use Rattle.chart_model.specs.declared.update_record.Control.{Control}
 use Rattle.chart_model.specs.Cell.{CellValue}
 use Rattle.chart_model.specs.Change.{Change}
 use Rattle.chart_model.specs.Names.{name_cmp, edited_at, edited_in}
-use Rattle.area_rings.specs.Kept.{StandsFor}
+use Rattle.area_rings.specs.KeptEdges.{StandsFor}
 use Rattle.chart_closure.specs.Closed.{fault_at, IsClosed}
 use Rattle.chart_closure.specs.Kept.{KeepsRecords, ShowsTheSame, StandsStill, StandsAsBefore}
 use Rattle.update_apply.specs.declared.fault.ChangeFault.{ChangeFault}

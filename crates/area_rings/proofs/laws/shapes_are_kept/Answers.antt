@@ -1,4 +1,4 @@
-use Rattle.area_rings.proofs.Kept.{line_kept, shape_kept}
+use Rattle.area_rings.proofs.KeptShapes.{line_kept, shape_kept}
 use Rattle.area_rings.proofs.laws.shapes_are_kept.Goals as goal
 
 pub returns-clause-line : goal.returns-clause-line

@@ -5,7 +5,7 @@ use Rattle.chart_model.specs.declared.record.Pointer.{Pointer}
 use Rattle.area_rings.specs.Direction.{value_of}
 use Rattle.area_rings.specs.Rings.{rings_of}
 use Rattle.area_rings.proofs.Traces.{no_pointers}
-use Rattle.area_rings.proofs.Rounds.{at_first, one_more, stopped, astray, left_open, all_closed, none_open}
+use Rattle.area_rings.proofs.RingsSoFar.{at_first, one_more, stopped, astray, left_open, all_closed, none_open}
 use Rattle.area_rings.proofs.ring.rings.Goals as goal
 
 -- what stands past the end of a list of pointers

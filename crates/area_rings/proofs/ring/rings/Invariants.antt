@@ -1,5 +1,5 @@
 use Rattle.std.proofs.Common.{drop}
-use Rattle.area_rings.proofs.Rounds.{Rounds}
+use Rattle.area_rings.proofs.RingsSoFar.{Rounds}
 use Rattle.area_rings.proofs.ring.rings.Given as goal
 
 abbrev pub invariant-loop-pointer : goal.invariant-loop-pointer

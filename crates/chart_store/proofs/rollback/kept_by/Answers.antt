@@ -4,7 +4,7 @@ use Rattle.std.proofs.lemmas.List.{take_all}
 use Rattle.std.specs.List.{AllByRecursion}
 use Rattle.chart_model.specs.Dataset.{DatasetValue}
 use Rattle.update_sequence.specs.Reading.{data_set_in}
-use Rattle.chart_store.specs.Kept.{has_update}
+use Rattle.chart_store.specs.KeptFiles.{has_update}
 use Rattle.chart_store.proofs.Keeping.{Sounds, kept-first, kept-none, records-within, has-number}
 use Rattle.chart_store.proofs.rollback.kept_by.Goals as goal
 

@@ -2,7 +2,7 @@
 use Rattle.std.proofs.Common.{◌≡◌, ◌+◌, ◌≤◌, false, take}
 use Rattle.std.specs.List.{AllByRecursion}
 use Rattle.update_sequence.specs.Rebuilt.{data_records_of}
-use Rattle.chart_store.specs.Kept.{has_update}
+use Rattle.chart_store.specs.KeptFiles.{has_update}
 use Rattle.chart_store.proofs.rollback.kept_by.Given as goal
 
 abbrev pub invariant-loop-file : goal.invariant-loop-file

@@ -3,7 +3,7 @@ use Rattle.std.proofs.Common.{◌≡◌, Option, Some, IfSome, sym, ◌∙◌, a
 use Rattle.std.specs.FinMap as map
 use Rattle.chart_model.specs.declared.state.Holding.{Holding}
 use Rattle.update_sequence.specs.Rebuilt.{held_by}
-use Rattle.chart_store.specs.Kept.{kept_by}
+use Rattle.chart_store.specs.KeptFiles.{kept_by}
 use Rattle.chart_store.specs.Live.{IsLive}
 use Rattle.chart_store.specs.Loaded.{HoldingsByKey}
 use Rattle.chart_store.specs.declared.rollback.Kept.{Kept}

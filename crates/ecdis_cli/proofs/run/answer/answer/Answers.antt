@@ -5,7 +5,7 @@ use Rattle.session_core.specs.Session.{model_of, store_of}
 use Rattle.ecdis_cli.specs.Replied.{GivesStep}
 use Rattle.ecdis_cli.specs.World.{world_of}
 use Rattle.ecdis_cli.proofs.Answering.{Replied-told, answered-said, answered-silent, interrupted-before, interrupted-said}
-use Rattle.ecdis_cli.proofs.Steps.{OnErr-from, OnErr-map, OnOk-from, OnOk-map}
+use Rattle.ecdis_cli.proofs.ScriptSteps.{OnErr-from, OnErr-map, OnOk-from, OnOk-map}
 use Rattle.ecdis_cli.proofs.run.answer.answer.Goals as goal
 
 pub returns-in_err-reply-clause-front : goal.returns-in_err-reply-clause-front

@@ -7,7 +7,7 @@ use Rattle.session_core.specs.declared.session.Session.{Session}
 use Rattle.ecdis_cli.specs.Run.{outside_of}
 use Rattle.ecdis_cli.specs.Standing.{standing}
 use Rattle.ecdis_cli.specs.World.{IsReady, Standing, at_start, world_of}
-use Rattle.ecdis_cli.proofs.Steps.{Advanced-start}
+use Rattle.ecdis_cli.proofs.ScriptSteps.{Advanced-start}
 use Rattle.ecdis_cli.proofs.Taking.{quiet, rose-fewer}
 use Rattle.ecdis_cli.proofs.Runs.{Underway-start, Underway-next, Underway-fault, Underway-long, Underway-halted, Underway-done, Underway-cut, pull-part, pull-whole, length-pull, given-more, read-within}
 use Rattle.ecdis_cli.proofs.run.rounds.run_script.Goals as goal

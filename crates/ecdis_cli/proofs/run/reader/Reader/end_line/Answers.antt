@@ -5,7 +5,7 @@ use Rattle.chart_ports.specs.Moments.{LeavesOnly}
 use Rattle.ecdis_cli.specs.World.{world_of}
 use Rattle.ecdis_cli.specs.Progress.{Advanced}
 use Rattle.ecdis_cli.specs.Standing.{standing}
-use Rattle.ecdis_cli.proofs.Steps.{Advanced-feed, Stopped-feed, OnErr-from}
+use Rattle.ecdis_cli.proofs.ScriptSteps.{Advanced-feed, Stopped-feed, OnErr-from}
 use Rattle.ecdis_cli.proofs.run.reader.Reader.end_line.Goals as goal
 
 pub returns-in_err-answer-clause-err : goal.returns-in_err-answer-clause-err

@@ -4,7 +4,7 @@ use Rattle.std.proofs.lemmas.List.{nil_from_length}
 use Rattle.chart_ports.specs.Moments.{LeavesOnly}
 use Rattle.ecdis_cli.specs.World.{world_of}
 use Rattle.ecdis_cli.specs.Standing.{standing}
-use Rattle.ecdis_cli.proofs.Steps.{Finished-none, Finished-last, Unfinished-last, OnOk-map, OnErr-map, emptied, filled}
+use Rattle.ecdis_cli.proofs.ScriptSteps.{Finished-none, Finished-last, Unfinished-last, OnOk-map, OnErr-map, emptied, filled}
 use Rattle.ecdis_cli.proofs.Taking.{quiet}
 use Rattle.ecdis_cli.proofs.run.reader.Reader.finish.Goals as goal
 

@@ -8,7 +8,7 @@ use Rattle.ecdis_cli.specs.Limits.{KEPT_LIMIT}
 use Rattle.ecdis_cli.specs.World.{world_of}
 use Rattle.ecdis_cli.specs.Progress.{Advanced}
 use Rattle.ecdis_cli.specs.Standing.{standing}
-use Rattle.ecdis_cli.proofs.Steps.{Advanced-byte, Stopped-start, OnErr-from, OnOk-map}
+use Rattle.ecdis_cli.proofs.ScriptSteps.{Advanced-byte, Stopped-start, OnErr-from, OnOk-map}
 use Rattle.ecdis_cli.proofs.Taking.{quiet}
 use Rattle.ecdis_cli.proofs.run.reader.Reader.take.Goals as goal
 

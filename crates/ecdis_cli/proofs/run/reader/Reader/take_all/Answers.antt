@@ -5,7 +5,7 @@ use Rattle.chart_ports.specs.Moments.{LeavesOnly}
 use Rattle.ecdis_cli.specs.Progress.{Advanced}
 use Rattle.ecdis_cli.specs.World.{world_of}
 use Rattle.ecdis_cli.specs.Standing.{standing}
-use Rattle.ecdis_cli.proofs.Steps.{Advanced-start, Advanced-next, Stopped-next, OnErr-from}
+use Rattle.ecdis_cli.proofs.ScriptSteps.{Advanced-start, Advanced-next, Stopped-next, OnErr-from}
 use Rattle.ecdis_cli.proofs.Taking.{quiet}
 use Rattle.ecdis_cli.proofs.run.reader.Reader.take_all.Goals as goal
 

@@ -15,7 +15,7 @@ use Rattle.area_rings.specs.Choice.{◌>>=◌}
 use Rattle.area_rings.specs.Edge.{is_node, node_of, point_of, place_of, ends_of, EdgeValue, edge_of, turned, line_of, edge_along}
 use Rattle.area_rings.specs.Rings.{followed, before_rings, rings_of}
 use Rattle.area_rings.specs.Shape.{shape_of}
-use Rattle.area_rings.specs.Kept.{StandsFor, KeepsVectors}
+use Rattle.area_rings.specs.KeptEdges.{StandsFor, KeepsVectors}
 use Rattle.area_rings.proofs.Edges.{no_edge_name, no_edge, no_ends, no_begin, no_end, whole_edge}
 use Rattle.area_rings.proofs.Traces.{chains_at, no_line, broken, goes_on, at_end, is_some-option_map, has_rings, no_pointers}
 use Rattle.area_rings.proofs.Shapes.{point_shape, line_shape, area_shape, bare_shape}

@@ -52,7 +52,7 @@ pub record MayKeep (key : List ℕ) (number : ℕ) (files : List (List ℕ)) : T
   pub ends : EndsWith number files
 
 -- the shortest of those that the files begin with
-pub record IsKept (key : List ℕ) (number : ℕ) (files kept : List (List ℕ)) : Type 0 where
+pub record IsShortestKept (key : List ℕ) (number : ℕ) (files kept : List (List ℕ)) : Type 0 where
   pub rest : List (List ℕ)
   pub begins : files ≡ kept ++ rest
   pub may : MayKeep key number kept
