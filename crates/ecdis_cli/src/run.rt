@@ -84,9 +84,13 @@ pub fn run_ecdis<S: Source, L: Shelf, D: Desk, C: Ledger>(
     ensures short { IsTrue S.tells → result ≡ Status.Done → length (S.left script.old) ≤ SCRIPT_LIMIT }
     ensures same { IsTrue L.tells → L.files shelf.new ≡ L.files shelf.old }
 
-    // Each other end has its cause. Want of memory alone needs none.
+    // Each other end has its cause. Want of memory alone needs none. Files that are no store's end the run before
+    // anything is read of the script, or said.
     ensures foreign { (bank at : ℕ) → IsTrue D.tells → result ≡ Status.Foreign bank at →
         read_of (images_of (D.contents desk.old)) ≡ Err (record { bank = bank; at = at }) }
+    ensures unread { (bank at : ℕ) → result ≡ Status.Foreign bank at → script.new ≡ script.old }
+    ensures unsaid { (bank at : ℕ) → IsTrue D.tells → result ≡ Status.Foreign bank at →
+        D.said desk.new ≡ D.said desk.old }
     ensures script_failed { result ≡ Status.ScriptFault → Rose (S.faults script.old) (S.faults script.new) }
     ensures script_long { result ≡ Status.ScriptLong →
         RoseBy (SCRIPT_LIMIT + 1) (S.given script.old) (S.given script.new) }

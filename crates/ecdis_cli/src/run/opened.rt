@@ -47,6 +47,9 @@ pub fn run_opened<S: Source, L: Shelf, D: Desk, C: Ledger>(
     ensures same { IsTrue L.tells → L.files shelf.new ≡ L.files shelf.old }
     ensures foreign { (bank at : ℕ) → IsTrue D.tells → result ≡ Status.Foreign bank at →
         read_of (images_of (D.contents desk.old)) ≡ Err (record { bank = bank; at = at }) }
+    ensures unread { (bank at : ℕ) → result ≡ Status.Foreign bank at → script.new ≡ script.old }
+    ensures unsaid { (bank at : ℕ) → IsTrue D.tells → result ≡ Status.Foreign bank at →
+        D.said desk.new ≡ D.said desk.old }
     ensures script_failed { result ≡ Status.ScriptFault → Rose (S.faults script.old) (S.faults script.new) }
     ensures script_long { result ≡ Status.ScriptLong →
         RoseBy (SCRIPT_LIMIT + 1) (S.given script.old) (S.given script.new) }

@@ -59,3 +59,9 @@ returns-clause-desk_failed g c = λ is. rose-later _ _ _ _ c.open_store.ensures.
 
 pub returns-clause-foreign : goal.returns-clause-foreign
 returns-clause-foreign g c = λ bank at d is. absurd (c.run_script.ensures.opened bank at is)
+
+pub returns-clause-unread : goal.returns-clause-unread
+returns-clause-unread g c = λ bank at is. absurd (c.run_script.ensures.opened bank at is)
+
+pub returns-clause-unsaid : goal.returns-clause-unsaid
+returns-clause-unsaid g c = λ bank at d is. absurd (c.run_script.ensures.opened bank at is)
