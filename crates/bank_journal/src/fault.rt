@@ -14,7 +14,7 @@ pub enum BankFault {
     /// A call of the desk failed.
     #[error("the disk failed")]
     DeskFault,
-    /// 80: the file of this number is no bank. Its first fault is at this place, counted from 0.
+    /// The file of this number is no bank. Its first fault is at this place, counted from 0.
     #[error("file {0} is no bank from byte {1} on")]
     Foreign(u8, u64),
     #[error("there was no memory")]
