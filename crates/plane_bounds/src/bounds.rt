@@ -1,7 +1,8 @@
 //! The box round rings.
 
 ghost use Rattle.std.specs.Prelude.{◌↔◌, ◌≤ℤ◌, IsTrue};
-ghost use Rattle.plane_bounds.specs.Bounds.{HasGrown, RingsIn};
+ghost use Rattle.plane_bounds.specs.declared.bounds.Bounds.{Bounds};
+ghost use Rattle.plane_bounds.specs.Bounds.{HasGrown, Holds, IsBox, RingsIn};
 
 use plane_geometry::{Pt, Ring, inside_even_odd};
 
@@ -54,6 +55,7 @@ impl Bounds {
     pub fn with(self, p: Pt) -> Bounds
         ensures kept { Holds result self }
         ensures there { IsIn result p }
+        ensures least { (other : Bounds) → Holds other self → IsIn other p → Holds other result }
     {
         Bounds {
             west: self.west.min(p.x),
@@ -75,9 +77,10 @@ fn with_ring(bounds: Bounds, ring: &[Pt]) -> Bounds
     grown
 }
 
-/// The box round all points of rings: of none, one that no point is in. It takes no memory.
+/// The least box round all points of rings: of none, one that no point is in. It takes no memory.
 pub fn bounds_of(rings: &[Ring]) -> Bounds
-    ensures { RingsIn result rings.now }
+    ensures all { RingsIn result rings.now }
+    ensures least { (other : Bounds) → IsBox other → RingsIn other rings.now → Holds other result }
 {
     let mut bounds = Bounds::NOTHING;
     for ring in rings {

@@ -17,3 +17,11 @@ returns-clause-there c = record {
   south = omega (arith, ints, clamps);
   north = omega (arith, ints, clamps);
 }
+
+pub returns-clause-least : goal.returns-clause-least
+returns-clause-least c = λ other h q. record {
+  west = omega (arith, ints, clamps, h.west, q.west);
+  east = omega (arith, ints, clamps, h.east, q.east);
+  south = omega (arith, ints, clamps, h.south, q.south);
+  north = omega (arith, ints, clamps, h.north, q.north);
+}
