@@ -1,6 +1,7 @@
 //! A shelf in memory, which tells contracts its files.
 
-ghost use Rattle.std.specs.Prelude.{◌≡◌, ◌≤◌, ℕ, List, None, Some, true, IfOk, OnErr, OnOk, IsErrOf, string_bytes, if◌then◌else◌};
+ghost use Rattle.std.specs.Prelude.{◌≡◌, ◌≤◌, ℕ, List, None, Some, true};
+ghost use Rattle.std.specs.Prelude.{IfOk, OnErr, OnOk, IsErrOf, string_bytes, if◌then◌else◌};
 ghost use Rattle.std.specs.Str.{bytes_eq};
 ghost use Rattle.chart_ports.specs.Count.{Rose};
 ghost use Rattle.chart_ports.specs.Fetched.{fetched_of, IsWithin};

@@ -1,6 +1,7 @@
 //! A source in memory, which tells contracts its bytes.
 
-ghost use Rattle.std.specs.Prelude.{◌≡◌, ◌+◌, ◌<◌, ◌≤◌, ◌++◌, ◌↔◌, [], true, IsTrue, IsErr, IfOk, OnErr, OnOk, Ok, length, min, take, drop, vec_len};
+ghost use Rattle.std.specs.Prelude.{◌≡◌, ◌+◌, ◌<◌, ◌≤◌, ◌++◌, ◌↔◌, [], true, IsTrue, IsErr};
+ghost use Rattle.std.specs.Prelude.{IfOk, OnErr, OnOk, Ok, length, min, take, drop, vec_len};
 ghost use Rattle.chart_ports.specs.Count.{HasCause, LAST};
 
 use crate::calls::{Calls, FailingCalls};

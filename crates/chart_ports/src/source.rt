@@ -1,6 +1,7 @@
 //! A stream of bytes that is read once, from front to end.
 
-ghost use Rattle.std.specs.Prelude.{◌≡◌, ◌+◌, ◌<◌, ◌≤◌, ◌++◌, ◌↔◌, Bool, List, ℕ, [], IsTrue, IfOk, IfErr, OnErr, Ok, length, min, take};
+ghost use Rattle.std.specs.Prelude.{◌≡◌, ◌+◌, ◌<◌, ◌≤◌, ◌++◌, ◌↔◌, Bool, List, ℕ};
+ghost use Rattle.std.specs.Prelude.{[], IsTrue, IfOk, IfErr, OnErr, Ok, length, min, take};
 ghost use Rattle.chart_ports.specs.Count.{HasCause, LAST};
 
 use thiserror::Error;

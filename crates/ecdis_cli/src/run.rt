@@ -11,7 +11,8 @@ mod stop;
 mod tables;
 pub mod tables_fault;
 
-ghost use Rattle.std.specs.Prelude.{◌≡◌, ◌+◌, ◌<◌, ◌≤◌, ◌⊎◌, [], List, ℕ, IsTrue, length, map, string_bytes, Some, None, Ok, Err};
+ghost use Rattle.std.specs.Prelude.{◌≡◌, ◌+◌, ◌<◌, ◌≤◌, ◌⊎◌, [], List, ℕ};
+ghost use Rattle.std.specs.Prelude.{IsTrue, length, map, string_bytes, Some, None, Ok, Err};
 ghost use Rattle.chart_ports.specs.Count.{IsSteady, Rose, RoseBy};
 ghost use Rattle.chart_ports.specs.Moments.{LeavesOnly, MayBeLeft, images_of};
 ghost use Rattle.chart_store.specs.Images.{Reading, read_of};
@@ -39,8 +40,8 @@ use std::sync::ledger::Ledger;
 /// Runs the program: it reads the catalogue and the table that the words name, opens the store on the desk, and answers
 /// the script line by line. Each reply is said before the next line is run.
 ///
-/// `words` are those of the command line, the program's name first. The files that words and lines name are those of the
-/// shelf. `steps` counts the data records that are decoded.
+/// `words` are those of the command line, the program's name first. The files that words and lines name are those of
+/// the shelf. `steps` counts the data records that are decoded.
 pub fn run_ecdis<S: Source, L: Shelf, D: Desk, C: Ledger>(
     alloc: Global,
     words: &[String],
@@ -51,12 +52,13 @@ pub fn run_ecdis<S: Source, L: Shelf, D: Desk, C: Ledger>(
 ) -> Status
     // Words that don't fit end the run before anything is read, written or said, and no others do.
     ensures words { result ≡ Status.Words → words_of (map string_bytes words.now) ≡ None }
-    ensures wordless { words_of (map string_bytes words.now) ≡ None → (result ≡ Status.Words) ⊎ (result ≡ Status.NoMemory) }
+    ensures wordless { words_of (map string_bytes words.now) ≡ None →
+        (result ≡ Status.Words) ⊎ (result ≡ Status.NoMemory) }
     ensures untouched { words_of (map string_bytes words.now) ≡ None →
         (script.new ≡ script.old) × (shelf.new ≡ shelf.old) × (desk.new ≡ desk.old) }
 
-    // A catalogue or a table that isn't there, is too long or has a fault ends it too, and no other does: nothing of the
-    // script is read and nothing is written or said, here and wherever the words or a fetch of these files end it.
+    // A catalogue or a table that isn't there, is too long or has a fault ends it too, and no other does: nothing of
+    // the script is read and nothing is written or said, here and wherever the words or a fetch of these files end it.
     ensures tables { (which : ℕ) (fault : FaultValue) → IsTrue L.tells → result ≡ Status.Tables which fault →
         (said : WordsValue) × (words_of (map string_bytes words.now) ≡ Some said)
         × (table_in (L.files shelf.old) said ≡ Err (record { which = which; fault = fault })) }
@@ -67,9 +69,9 @@ pub fn run_ecdis<S: Source, L: Shelf, D: Desk, C: Ledger>(
 
     // From files that read as what is held, the output is the replies to the script's lines, all of them where the run
     // is done and else a front. At every moment a crash leaves files that stand for what the first accepted commands
-    // leave: as many as have a reply that was begun, or one more; or the files as one might have left them at the start.
-    // At the end of a run that is done it leaves what all of them leave. Cells are drawn by the table that was read and
-    // by the settings of the words.
+    // leave: as many as have a reply that was begun, or one more; or the files as one might have left them at the
+    // start. At the end of a run that is done it leaves what all of them leave. Cells are drawn by the table that was
+    // read and by the settings of the words.
     ensures ran { IsTrue S.tells → IsTrue D.tells → (opening : Reading) →
         read_of (images_of (D.contents desk.old)) ≡ Ok opening →
         (portrayal : Portrayal)
@@ -101,7 +103,8 @@ pub fn run_ecdis<S: Source, L: Shelf, D: Desk, C: Ledger>(
     ensures shelf_later { L.faults shelf.old ≤ L.faults shelf.new }
     ensures desk_later { D.faults desk.old ≤ D.faults desk.new }
 
-    // Where none of these holds, the run is done, unless memory runs out or a fetch of the catalogue or the table fails.
+    // Where none of these holds, the run is done, unless memory runs out or a fetch of the catalogue or the table
+    // fails.
     ensures complete { (said : WordsValue) (lines : List LineValue) (opening : Reading) →
         IsTrue S.tells → IsTrue L.tells → IsTrue D.tells → words_of (map string_bytes words.now) ≡ Some said →
         table_in (L.files shelf.old) said ≡ Ok lines → read_of (images_of (D.contents desk.old)) ≡ Ok opening →

@@ -140,7 +140,8 @@ impl Table {
     }
 
     /// The place of the line for an object of a class and a geometry with these attributes, from 0: the first line for
-    /// them with a condition at least, all of which hold; else the first without conditions; none where neither is there.
+    /// them with a condition at least, all of which hold; else the first without conditions; none where neither is
+    /// there.
     ///
     /// It takes no memory, and looks at the lines of the class and the geometry alone.
     pub fn select(&self, class: u16, geom: Geom, attrs: &AttrMap) -> Option<usize>

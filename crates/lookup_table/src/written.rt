@@ -4,7 +4,8 @@ ghost use Rattle.std.specs.Prelude.{◌≡◌, ◌∷◌, [], IfOk, IsTrue};
 ghost use Rattle.std.specs.List.{list_all};
 ghost use Rattle.object_catalogue.specs.Acronym.{acronym_of};
 ghost use Rattle.lookup_table.specs.Written.{is_text_byte, is_plain, is_closed, is_instruction};
-ghost use Rattle.lookup_table.specs.Reading.{test_of, condition_with, condition_of, conditions_of, instruction_of, instructions_of};
+ghost use Rattle.lookup_table.specs.Reading.{test_of, condition_with, condition_of};
+ghost use Rattle.lookup_table.specs.Reading.{conditions_of, instruction_of, instructions_of};
 ghost use Rattle.lookup_table.specs.Reading.{geom_of, priority_of, written_with, written_of};
 
 use crate::condition::Test;

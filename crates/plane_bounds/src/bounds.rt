@@ -42,8 +42,8 @@ impl Bounds {
         is_from_to(self.west, p.x, self.east) && is_from_to(self.south, p.y, self.north)
     }
 
-    /// Whether a point is inside rings, by the even-odd rule, whose points are all in the box: the box is asked first. It
-    /// takes no memory.
+    /// Whether a point is inside rings, by the even-odd rule, whose points are all in the box: the box is asked first.
+    /// It takes no memory.
     pub fn holds_inside(self, p: Pt, rings: &[Ring]) -> bool
         requires { RingsIn self rings.now }
         ensures { result ≡ is_inside p rings.now }

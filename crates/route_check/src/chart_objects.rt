@@ -210,8 +210,8 @@ fn push_features(alloc: Global, objects: &mut Vec<Object>, from: &Sources) -> Re
     Ok(())
 }
 
-/// Adds the dangerous objects of a chart. Its depth areas are made once: for the unsafe ones among them, and for all hazards
-/// that lie at their bottom.
+/// Adds the dangerous objects of a chart. Its depth areas are made once: for the unsafe ones among them, and for all
+/// hazards that lie at their bottom.
 fn push_chart(
     alloc: Global,
     objects: &mut Vec<Object>,

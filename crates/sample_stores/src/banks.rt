@@ -6,8 +6,8 @@ pub const HEAD: &[u8] = b"\0\0\0\0\0\0\0\0";
 /// A closed gate.
 pub const CLOSED: &[u8] = b"\0";
 
-/// What stands before a base file of 500 + 74 + 193 bytes: an open gate, the length 768, and the first byte of a load. The
-/// record has 773 bytes.
+/// What stands before a base file of 500 + 74 + 193 bytes: an open gate, the length 768, and the first byte of a load.
+/// The record has 773 bytes.
 pub const LOADS: &[u8] = b"\x01\0\0\x03\0\x01";
 
 /// The same before an update of 500 + 63 + 76 bytes: the length is 640, and the record has 645 bytes.

@@ -4,9 +4,9 @@
 //! bytes and places that were worked out by hand. `chart_store` has no tests of its own, since it would be proved again
 //! for them; this crate is tests alone, and is proved once.
 //!
-//! A command is a few records of a small cell (`files`), and a bank is a few pieces (`banks`). What is answered and what
-//! is held is compared as a text (`texts`), on a desk in memory or in a folder (`stores`). A test is a table of commands,
-//! moments or bytes, each with what has to come of it.
+//! A command is a few records of a small cell (`files`), and a bank is a few pieces (`banks`). What is answered and
+//! what is held is compared as a text (`texts`), on a desk in memory or in a folder (`stores`). A test is a table of
+//! commands, moments or bytes, each with what has to come of it.
 #![tactic(auto)]
 
 #[cfg(test)]

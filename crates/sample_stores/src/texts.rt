@@ -22,8 +22,8 @@ pub fn answered(alloc: Global, answer: Result<Taken, TakeFault>) -> Result<Strin
     }
 }
 
-/// What an accepted command did: the cell, the count, whether there was a chart before, the numbers, and the names whose
-/// records differ.
+/// What an accepted command did: the cell, the count, whether there was a chart before, the numbers, and the names
+/// whose records differ.
 fn accepted(alloc: Global, done: &Accepted) -> Result<String, AllocError> {
     let key = String::from_utf8_lossy(alloc, done.key.as_slice())?;
     let numbers = numbers(alloc, &done.held, &done.changed)?;

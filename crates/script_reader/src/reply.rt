@@ -25,8 +25,8 @@ pub enum Reply {
     Cells(u64, Octets),
     /// The drawing of this cell has so many instructions, with the lines that follow, each ended by a line feed.
     Draw(Key, u64, Octets),
-    /// So many legs of a route were checked, and so many dangers lie along them, with the lines that follow, each ended by a
-    /// line feed.
+    /// So many legs of a route were checked, and so many dangers lie along them, with the lines that follow, each ended
+    /// by a line feed.
     Route(u64, u64, Octets),
     /// The line is refused: the refusal's code, and what it names, parted by single spaces.
     Refused(u8, Octets),

@@ -50,7 +50,8 @@ impl Session {
     ghost use Rattle.session_core.specs.declared.fault.EventFault.TheVariants.{DeskFault as EventFailed};
     ghost use Rattle.session_core.specs.declared.fault.TurnFault.TheVariants.{DeskFault};
     ghost use Rattle.session_core.specs.Fetch.{AreFetched};
-    ghost use Rattle.session_core.specs.Session.{GivesEvent, GivesTurn, Turned, model_of, portrayal_of, reply_by, store_of};
+    ghost use Rattle.session_core.specs.Session.{GivesEvent, GivesTurn, Turned, model_of};
+    ghost use Rattle.session_core.specs.Session.{portrayal_of, reply_by, store_of};
     ghost use Rattle.session_core.specs.Model.{portrayal_with};
     ghost use Rattle.session_core.specs.Turn.{commanded};
 

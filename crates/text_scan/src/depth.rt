@@ -1,6 +1,7 @@
 //! Depths: decimals of a unit, in hundredths of it.
 
-ghost use Rattle.std.specs.Prelude.{◌≡◌, ◌+◌, ◌-◌, ◌*◌, ◌/◌, ◌^◌, ◌<◌, ◌≤◌, ◌++◌, ◌↔◌, ℤ, pos, List, ℕ, length, Some, IfSome, IsTrue, option_map};
+ghost use Rattle.std.specs.Prelude.{◌≡◌, ◌+◌, ◌-◌, ◌*◌, ◌/◌, ◌^◌, ◌<◌, ◌≤◌, ◌++◌, ◌↔◌};
+ghost use Rattle.std.specs.Prelude.{ℤ, pos, List, ℕ, length, Some, IfSome, IsTrue, option_map};
 ghost use Rattle.std.specs.Str.{all_ascii_digits};
 ghost use Rattle.text_scan.specs.Number.{value_of};
 ghost use Rattle.text_scan.specs.Depth.{SpellsDepth, digits_of, decimals_of, hundredths, depth_of};

@@ -1,6 +1,7 @@
 //! One line's reply.
 
-ghost use Rattle.std.specs.Prelude.{◌≡◌, ◌+◌, ◌^◌, ◌<◌, ◌≤◌, ◌++◌, IsTrue, IfOk, OnOk, OnErr, IsErrOf, min, take, length};
+ghost use Rattle.std.specs.Prelude.{◌≡◌, ◌+◌, ◌^◌, ◌<◌, ◌≤◌, ◌++◌, IsTrue};
+ghost use Rattle.std.specs.Prelude.{IfOk, OnOk, OnErr, IsErrOf, min, take, length};
 ghost use Rattle.chart_ports.specs.Count.{Rose};
 ghost use Rattle.chart_ports.specs.Disk.{LeavesNoMore, SameFiles};
 ghost use Rattle.chart_ports.specs.Moments.{Elapses, LeavesOnly};

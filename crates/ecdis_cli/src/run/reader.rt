@@ -1,6 +1,7 @@
 //! The script as it is read, byte by byte.
 
-ghost use Rattle.std.specs.Prelude.{◌≡◌, ◌+◌, ◌^◌, ◌<◌, ◌≤◌, ◌∷◌, ◌++◌, [], IsTrue, OnOk, OnErr, IsErrOf, IsOkUnless, length, All, vec_len, ◌==◌, nat_lt, false, if◌then◌else◌, List, ℕ};
+ghost use Rattle.std.specs.Prelude.{◌≡◌, ◌+◌, ◌^◌, ◌<◌, ◌≤◌, ◌∷◌, ◌++◌, [], IsTrue, OnOk, OnErr, IsErrOf, IsOkUnless};
+ghost use Rattle.std.specs.Prelude.{length, All, vec_len, ◌==◌, nat_lt, false, if◌then◌else◌, List, ℕ};
 ghost use Rattle.chart_ports.specs.Count.{Rose};
 ghost use Rattle.ecdis_cli.specs.declared.run.reader.TheConstants.{KEPT};
 ghost use Rattle.chart_ports.specs.Moments.{LeavesOnly};
@@ -38,7 +39,8 @@ impl Reader {
 
     /// At the start of the first line.
     pub fn new(alloc: Global, session: Session) -> Reader
-        ensures start { (said : List ℕ) (faults : ℕ) → standing result said faults ≡ at_start (model_of session) said faults }
+        ensures start { (said : List ℕ) (faults : ℕ) → standing result said faults
+            ≡ at_start (model_of session) said faults }
         ensures session { result.session ≡ session }
     {
         Reader {

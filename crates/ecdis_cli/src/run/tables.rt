@@ -86,8 +86,8 @@ fn take_table<L: Shelf>(
     }
 }
 
-/// The table that the words name, read with the catalogue that they name, or how the run ends. Where the catalogue has a
-/// fault the table is not fetched.
+/// The table that the words name, read with the catalogue that they name, or how the run ends. Where the catalogue has
+/// a fault the table is not fetched.
 pub fn fetch_tables<L: Shelf>(alloc: Global, words: &Words, shelf: &mut L) -> Result<Table, Status>
     ensures found { IsTrue L.tells → GivesTable result (table_in (L.files shelf.old) (value_of words.now)) }
     ensures ends { IfErr result EndsAtFile }

@@ -65,8 +65,8 @@ const NOTHING: &str = "ok cells 0\n";
 const OPENING: u64 = 8;
 
 /// The sides that a store shows which is opened after one of a command's calls failed, or its reply, with each fill of
-/// the bytes that are uncertain: what was held before it, or after it. A line that is not accepted has a reply alone, and
-/// shows what was held before it, as the first.
+/// the bytes that are uncertain: what was held before it, or after it. A line that is not accepted has a reply alone,
+/// and shows what was held before it, as the first.
 static FAILED: [&str; 5] = ["bbb", "bbb", "bba", "baa", "aaa"];
 
 fn run_with<C: Ledger>(

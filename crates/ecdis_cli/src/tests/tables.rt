@@ -117,7 +117,8 @@ fn the_first_fault_ends_the_run(rt: HostRuntime) -> Result<(), Fail> {
     Ok(())
 }
 
-/// A catalogue, the call of the shelf that fails, how the run ends, and the faults of the source, the shelf and the desk.
+/// A catalogue, the call of the shelf that fails, how the run ends, and the faults of the source, the shelf and the
+/// desk.
 static SHELF_FAULTS: [(Option<&[u8]>, u64, Status, [u64; 3]); 4] = [
     (Some(CATALOGUE), 1, Status::ShelfFault, [0, 1, 0]),
     (Some(CATALOGUE), 2, Status::ShelfFault, [0, 1, 0]),

@@ -44,8 +44,8 @@ fn records_are_appended_byte_for_byte(rt: HostRuntime) -> Result<(), Fail> {
 /// A bank with one record.
 const ONE: &[u8] = b"\0\0\0\0\0\0\0\x02cp\x01\0\0\0\x03abc\0";
 
-/// What is left of it after so many calls: of each fill, 0 where it reads as before a second record, 1 where it reads as with
-/// it, and ? otherwise.
+/// What is left of it after so many calls: of each fill, 0 where it reads as before a second record, 1 where it reads
+/// as with it, and ? otherwise.
 fn left(alloc: Global, desk: &Untold, calls: u64) -> Result<[u8; 3], Fail> {
     let mut told = [b'?'; 3];
     for (each, fill) in told.iter_mut().zip([Fill::Old, Fill::New, Fill::Ones]) {
@@ -93,8 +93,8 @@ fn failed(alloc: Global, number: u64) -> Result<(Option<AppendFault>, [u8; 3]), 
     Ok((fault, left(alloc, &desk, u64::MAX)?))
 }
 
-/// A write that fails has written the first half of its bytes: three of the record's seven, none of the gate's one. Until a
-/// sync a crash may leave any bytes in its whole range.
+/// A write that fails has written the first half of its bytes: three of the record's seven, none of the gate's one.
+/// Until a sync a crash may leave any bytes in its whole range.
 static FAILED: [(u64, [u8; 3]); 4] = [(3, *b"000"), (4, *b"000"), (5, *b"001"), (6, *b"011")];
 
 #[test]
@@ -110,8 +110,8 @@ fn a_failing_call_leaves_a_record_or_none(rt: HostRuntime) -> Result<(), Fail> {
 /// The place of the last closed gate before which a body of two bytes has room: 268,435,456 - 6 - 2.
 const LAST: u64 = 268_435_448;
 
-/// Why a body of two bytes isn't appended to the bank whose closed gate stands at a place. No file is so long, so the desk
-/// fails where it is written.
+/// Why a body of two bytes isn't appended to the bank whose closed gate stands at a place. No file is so long, so the
+/// desk fails where it is written.
 fn refused(alloc: Global, gate: u64) -> Result<Option<AppendFault>, Fail> {
     let mut desk = Far {
         desk: desk_of(alloc, b"", &[])?,

@@ -68,8 +68,8 @@ fn records_are_appended_byte_for_byte(rt: HostRuntime) -> Result<(), Fail> {
     Ok(())
 }
 
-/// After so many calls, the length of the bank. The base file has 767 bytes: 15 more with what stands around it, and 14 of
-/// the drop.
+/// After so many calls, the length of the bank. The base file has 767 bytes: 15 more with what stands around it, and 14
+/// of the drop.
 static LENGTHS: [(u64, usize); 4] = [(6, 0), (8, 9), (12, 782), (16, 796)];
 
 #[test]

@@ -40,8 +40,8 @@ fn pictured<D: Debug>(alloc: Global, desk: &D, store: &Store) -> Result<String, 
     format!(in alloc; "{desk:?} {store:?}")
 }
 
-/// Gives a command, once more where there was no memory: whether it had then left all as it was, and what is told in the
-/// end.
+/// Gives a command, once more where there was no memory: whether it had then left all as it was, and what is told in
+/// the end.
 fn submit_again<D: Desk + Debug, C: Ledger>(
     alloc: Global,
     desk: &mut D,

@@ -50,7 +50,8 @@ fn version_case(kept: u16, ruin: u8, given: u16, after: &Result<Option<u16>, ()>
     }
 }
 
-/// Settings of attributes, and the attributes afterwards, where 7 is there before. The delete character alone removes one.
+/// Settings of attributes, and the attributes afterwards, where 7 is there before. The delete character alone removes
+/// one.
 static SETTINGS: [(&'static [Setting], &'static [Setting]); 7] = [
     (&[], &[(7, b"1")]),
     (&[(7, b"2")], &[(7, b"2")]),
