@@ -1,5 +1,5 @@
 -- Attributes in the order of their codes, found and changed.
-use Rattle.std.proofs.Common.{◌≡◌, ℕ, ◌<◌, ◌≤◌, List, length, slice_index_or, slice_set, Some, None}
+use Rattle.std.proofs.Common.{◌≡◌, ℕ, ◌<◌, ◌≤◌, List, [], length, slice_index_or, slice_set, Some, None, sym, ◌∙◌}
 use Rattle.std.specs.declared.cmp.Ordering.TheVariants.{Less, Equal, Greater}
 use Rattle.std.specs.Ordering.{nat_cmp, ordering_index}
 use Rattle.std.specs.Cmp.{nat_cmp_total}
@@ -10,6 +10,10 @@ use Rattle.std.specs.FinMap.{nat_cmp-IsAntisymmetric}
 use Rattle.chart_model.specs.declared.record.Attr.{Attr}
 use Rattle.chart_model.specs.Attrs.{AreRising, attrs_of}
 use Rattle.chart_model.proofs.Blocks as block
+use Rattle.chart_model.proofs.Trees.{entries-empty}
+
+pub attrs-empty : attrs_of [] ≡ map.empty
+attrs-empty = map.same_entries_map _ _ (map.entries-from_sorted nat_cmp [] tt ∙ sym (entries-empty nat_cmp _))
 
 pub searchable : (attrs : List Attr) (code : ℕ) → AreRising attrs → IsNonDecreasingBy (λ attr. ordering_index (nat_cmp attr.code code)) attrs
 searchable attrs code rising = block.searchable nat_cmp_total (λ attr. attr.code) (λ attr. attr.value) attrs code rising

@@ -1,5 +1,5 @@
 -- Settings in any order of different codes, and attributes that are put among them.
-use Rattle.std.proofs.Common.{◌≡◌, ℕ, ◌<◌, Bool, true, false, cond, not, ◌&&◌, T, List, [], ◌∷◌, Option, Some, None, refl, sym, ap, subst, ◌∙◌, nat_eq, nat_le, arith}
+use Rattle.std.proofs.Common.{◌≡◌, ℕ, suc, ◌<◌, ◌≤◌, Bool, true, false, cond, not, ◌&&◌, T, List, [], ◌∷◌, Option, Some, None, refl, sym, ap, subst, ◌∙◌, nat_eq, nat_le, arith}
 use Rattle.std.proofs.lemmas.Bool.Decides.{nat_tests}
 use Rattle.std.specs.List.{filter}
 use Rattle.std.specs.List.Sorted.{ties, IsStableByKey}
@@ -12,8 +12,9 @@ use Rattle.std.specs.FinMap as map
 use Rattle.std.specs.FinMap.{find, nat_cmp-IsAntisymmetric}
 use Rattle.std.specs.FinMap.Entries.{below_all}
 use Rattle.chart_model.specs.declared.record.Attr.{Attr}
-use Rattle.chart_model.specs.Attrs.{Attrs, AreRising, attrs_of, put_attrs, merged, set_attr, set_attrs, texts_by_code, keeps_first}
+use Rattle.chart_model.specs.Attrs.{Attrs, AreRising, attrs_of, put_attrs, merged, set_attr, set_attrs, texts_by_code, keeps_first, are_attributes}
 use Rattle.chart_model.proofs.Pages.{or_else, or_else-None, find-below}
+use Rattle.chart_model.proofs.AttrMaps.{attrs-empty}
 use Rattle.chart_model.proofs.Maps.{tied}
 use Rattle.chart_model.proofs.SortedEntries.{first, second, less}
 
@@ -142,3 +143,53 @@ below-kept s settings (a ∷ kept) rising later =
 pub set-first : (m : Attrs) (s : Attr) (settings kept : List Attr) → AreRising kept → keeps_first kept (s ∷ settings) ≡ false → merged (set_attr m s) kept settings ≡ merged m kept (s ∷ settings)
 set-first m s settings kept rising later =
     ap (λ n. set_attrs n settings) (put-all-later m s kept (below-kept s settings kept rising later))
+
+-- ---- settings that are attributes as they stand
+
+at-least : (a b : ℕ) → T (nat_le a b) → a ≤ b
+at-least a b h = grind (arith, nat_tests)
+
+abbrev removing : Attr → Bool
+removing setting = pointwise nat_eq setting.value (127 ∷ [])
+
+module _ (lowest : ℕ) (s : Attr) (settings : List Attr) (are : T (are_attributes lowest (s ∷ settings))) where
+  rest : T (not (removing s) && are_attributes (suc s.code) settings)
+  rest = second (nat_le lowest s.code) (not (removing s) && are_attributes (suc s.code) settings) are
+
+  code-from : lowest ≤ s.code
+  code-from = at-least lowest s.code (first (nat_le lowest s.code) (not (removing s) && are_attributes (suc s.code) settings) are)
+
+  stays : T (not (removing s))
+  stays = first (not (removing s)) (are_attributes (suc s.code) settings) rest
+
+  others : T (are_attributes (suc s.code) settings)
+  others = second (not (removing s)) (are_attributes (suc s.code) settings) rest
+
+below-attributes : (c lowest : ℕ) (settings : List Attr) → c < lowest → T (are_attributes lowest settings) → T (below_all nat_cmp c (texts_by_code settings))
+below-attributes c lowest [] low are = tt
+below-attributes c lowest (s ∷ settings) low are =
+    let below : c < s.code = omega (arith, low, code-from lowest s settings are) in
+    both _ _ (subst (λ o. T (is_lt o)) (nat_cmp_is c s.code Less below) tt)
+    (below-attributes c (suc s.code) settings (omega (arith, below)) (others lowest s settings are))
+
+pub attributes-rise : (lowest : ℕ) (settings : List Attr) → T (are_attributes lowest settings) → AreRising settings
+attributes-rise lowest [] are = tt
+attributes-rise lowest (s ∷ settings) are =
+    let later = others lowest s settings are in
+    both _ _ (below-attributes s.code (suc s.code) settings (omega arith) later) (attributes-rise (suc s.code) settings later)
+
+kept-text : (m : Attrs) (s : Attr) (b : Bool) → T (not b) → cond b (map.remove m s.code) (map.insert m s.code s.value) ≡ map.insert m s.code s.value
+kept-text m s true is = absurd is
+kept-text m s false is = refl
+
+set-each-put : (lowest : ℕ) (settings : List Attr) (m : Attrs) → T (are_attributes lowest settings) → set_attrs m settings ≡ put_attrs m settings
+set-each-put lowest [] m are = refl
+set-each-put lowest (s ∷ settings) m are =
+    ap (λ n. set_attrs n settings) (kept-text m s (removing s) (stays lowest s settings are))
+    ∙ set-each-put (suc s.code) settings (map.insert m s.code s.value) (others lowest s settings are)
+
+pub set-attributes : (settings : List Attr) → T (are_attributes 0 settings) → attrs_of settings ≡ set_attrs map.empty settings
+set-attributes settings are =
+    sym (put-alone settings (attributes-rise 0 settings are))
+    ∙ sym (set-each-put 0 settings (attrs_of []) are)
+    ∙ ap (λ m. set_attrs m settings) attrs-empty

@@ -1,5 +1,5 @@
 -- Attributes by code.
-use Rattle.std.specs.Prelude.{ℕ, Bool, true, false, nat_le, List, [], ◌∷◌, T, nat_eq, if◌then◌else◌}
+use Rattle.std.specs.Prelude.{ℕ, suc, Bool, true, false, not, ◌&&◌, nat_le, List, [], ◌∷◌, T, nat_eq, if◌then◌else◌}
 use Rattle.std.specs.List.{fold}
 use Rattle.std.specs.Prelude as list
 use Rattle.std.specs.Ordering.{nat_cmp}
@@ -48,3 +48,10 @@ abbrev pub keeps_first : List Attr → List Attr → Bool
 keeps_first [] settings = false
 keeps_first (attr ∷ kept) [] = true
 keeps_first (attr ∷ kept) (setting ∷ settings) = nat_le attr.code setting.code
+
+-- whether settings are attributes as they stand: their codes rise from the lowest, and none removes
+abbrev pub are_attributes : ℕ → List Attr → Bool
+are_attributes lowest [] = true
+are_attributes lowest (setting ∷ settings) =
+    nat_le lowest setting.code
+    && (not (pointwise nat_eq setting.value (DELETED ∷ [])) && are_attributes (suc setting.code) settings)

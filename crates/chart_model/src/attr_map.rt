@@ -10,7 +10,8 @@ ghost use Rattle.std.specs.Cmp.Lexicographic.{pointwise};
 ghost use Rattle.std.specs.Vec.{vec_len, vec_capacity};
 ghost use Rattle.std.specs.VecDeque.{deque_len};
 ghost use Rattle.std.specs.FinMap as map;
-ghost use Rattle.chart_model.specs.Attrs.{AreRising, attrs_of, keeps_first, merged, set_attr, set_attrs, texts_by_code};
+ghost use Rattle.chart_model.specs.Attrs.{AreRising, attrs_of, are_attributes, keeps_first, merged};
+ghost use Rattle.chart_model.specs.Attrs.{set_attr, set_attrs, texts_by_code};
 
 use crate::octets::Octets;
 use crate::record::Attr;
@@ -189,6 +190,32 @@ fn merge(attrs: &mut Vec<Attr>, mut kept: VecDeque<Attr>, mut given: VecDeque<At
     }
 }
 
+/// Whether settings are attributes as they stand: their codes rise, and none removes.
+fn are_attributes(settings: &[Attr]) -> bool
+    ensures { result ≡ are_attributes 0 settings.now }
+{
+    let mut lowest = 0;
+    for setting in settings {
+        let code = u32::from(setting.code);
+        if code < lowest || removes(setting) {
+            return false;
+        }
+        lowest = code + 1;
+    }
+    true
+}
+
+/// What settings leave where there was no attribute. They are done in the order of their codes, so that each
+/// text is put behind all others.
+fn attributes_of(alloc: Global, mut settings: Vec<Attr>) -> Result<AttrMap, AllocError>
+    ensures { IfOk result (λ attrs. attrs ≡ set_attrs map.empty settings.items) }
+{
+    settings.sort_by_key(|setting| setting.code)?;
+    let mut attrs = Vec::with_capacity(alloc, settings.len())?;
+    set_each(&mut attrs, settings);
+    Ok(AttrMap { attrs })
+}
+
 impl AttrMap {
     /// A map without an attribute. It takes no memory.
     pub fn new(alloc: Global) -> AttrMap
@@ -197,6 +224,19 @@ impl AttrMap {
         AttrMap {
             attrs: Vec::new(alloc),
         }
+    }
+
+    /// The attributes that settings leave where there was none, as [`set_all`](AttrMap::set_all) does them.
+    ///
+    /// Settings in the rising order of their codes of which none removes are kept as they are: this takes no
+    /// memory, and a look at each. Others are sorted, and take a block for as many.
+    pub fn from_settings(alloc: Global, settings: Vec<Attr>) -> Result<AttrMap, AllocError>
+        ensures { IfOk result (λ attrs. attrs ≡ set_attrs map.empty settings.items) }
+    {
+        if are_attributes(settings.as_slice()) {
+            return Ok(AttrMap { attrs: settings });
+        }
+        attributes_of(alloc, settings)
     }
 
     /// The number of attributes. It takes no memory.

@@ -3,11 +3,11 @@
 //! Contracts see an `Octets` as a list of bytes, so that two of them are equal where their bytes are,
 //! whatever room each has left.
 
-ghost use Rattle.std.specs.Prelude.{◌≡◌, ◌++◌, OnOk, OnErr, nat_eq};
+ghost use Rattle.std.specs.Prelude.{◌≡◌, ◌++◌, IfOk, OnOk, OnErr, nat_eq};
 ghost use Rattle.std.specs.Cmp.{partial_equiv_from_equiv};
 ghost use Rattle.std.specs.Cmp.Lexicographic.{pointwise, nat_list_eq_equiv};
 
-use std::alloc::AllocError;
+use std::alloc::{AllocError, Global};
 use std::marker::Model;
 
 /// A list of bytes.
@@ -30,6 +30,15 @@ impl Octets {
         ensures { result ≡ bytes.items }
     {
         Octets { bytes }
+    }
+
+    /// A copy of bytes, with no room beyond them.
+    pub fn from_slice(alloc: Global, bytes: &[u8]) -> Result<Octets, AllocError>
+        ensures { IfOk result (λ octets. octets ≡ bytes.now) }
+    {
+        Ok(Octets {
+            bytes: Vec::from_slice(alloc, bytes)?,
+        })
     }
 
     /// Adds bytes at the end. Where there is no memory nothing changes.

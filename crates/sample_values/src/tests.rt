@@ -28,6 +28,8 @@ fn octets_give_their_bytes_back(rt: HostRuntime) -> Result<(), Fail> {
     let octets = Octets::from_vec(Vec::from_slice(rt.alloc(), b"\x00\xFF")?);
     assert_eq!(rt; octets.as_slice(), b"\x00\xFF".as_slice());
     assert_eq!(rt; octets.into_vec().as_slice(), b"\x00\xFF".as_slice());
+    let copy = Octets::from_slice(rt.alloc(), b"\x00\xFF")?;
+    assert_eq!(rt; copy.as_slice(), b"\x00\xFF".as_slice());
     Ok(())
 }
 
@@ -196,6 +198,36 @@ fn attributes_set_in_turn(rt: HostRuntime) -> Result<(), Fail> {
     }
     assert!(rt; attrs.get(8).is_none() && attrs.get(7).is_some());
     assert!(rt; attrs.remove(7).is_some() && attrs.get(7).is_none());
+    Ok(())
+}
+
+/// Settings and the attributes that they leave: in the order of their codes, in another order, of one code twice, and
+/// with the delete character.
+const SETTINGS: [(&[(u16, &[u8])], &[(u16, &[u8])]); 6] = [
+    (&[], &[]),
+    (
+        &[(7, b"a"), (8, b""), (133, b"\x7F\x7F")],
+        &[(7, b"a"), (8, b""), (133, b"\x7F\x7F")],
+    ),
+    (&[(8, b"b"), (7, b"a")], &[(7, b"a"), (8, b"b")]),
+    (&[(7, b"a"), (7, b"b"), (8, b"c")], &[(7, b"b"), (8, b"c")]),
+    (&[(7, b"a"), (8, b"\x7F")], &[(7, b"a")]),
+    (
+        &[(8, b"b"), (7, b"a"), (8, b"\x7F"), (0, b"c")],
+        &[(0, b"c"), (7, b"a")],
+    ),
+];
+
+#[test]
+fn attributes_of_settings(rt: HostRuntime) -> Result<(), Fail> {
+    for (given, left) in &SETTINGS {
+        let attrs = AttrMap::from_settings(rt.alloc(), settings(rt.alloc(), *given)?)?;
+        assert_eq!(rt; attrs.len(), left.len());
+        for (attr, (code, text)) in attrs.as_slice().iter().zip(*left) {
+            assert_eq!(rt; attr.code, *code);
+            assert_eq!(rt; attr.value.as_slice(), *text);
+        }
+    }
     Ok(())
 }
 
