@@ -41,7 +41,7 @@ fn place_of<V>(entries: &[(Name, V)], name: Name) -> Result<usize, usize>
     ensures parted { IfErr result
         (IsPartitionPoint (λ entry. name_cmp entry.0 name ≡ Less) (λ entry. name_cmp entry.0 name ≡ Greater) entries.now) }
 {
-    entries.binary_search_by_key(&name, |entry| entry.0)
+    entries.binary_search_by(|entry| entry.0.compare(name))
 }
 
 impl<V: Drop> Page<V> {
