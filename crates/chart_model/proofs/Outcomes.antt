@@ -1,15 +1,11 @@
 -- What holds after a call, from what its answer says.
-use Rattle.std.proofs.Common.{◌≡◌, Option, Some, None, IfSome, Result, Ok, Err, OnOk, OnErr, false, refl}
+use Rattle.std.proofs.Common.{◌≡◌, Bool, true, false, cond, Option, Some, None, IfSome, Result, Ok, Err, OnOk, refl}
 use Rattle.std.specs.Option.{is_some, option_copied}
 use Rattle.std.specs.Borrow.{Bor}
 
 pub on-ok : {X E P Q : Type 0} (r : Result X E) → OnOk r P → (P → Q) → OnOk r Q
 on-ok (Ok x) p f = f p
 on-ok (Err e) p f = tt
-
-pub on-either : {X E P Q S : Type 0} (r : Result X E) → OnOk r P → OnErr r Q → (P → S) → (Q → S) → S
-on-either (Ok x) p q f h = f p
-on-either (Err e) p q f h = h q
 
 pub copied-some : {X : Type 0} (o : Option (Bor X)) → is_some (option_copied o) ≡ is_some o
 copied-some None = refl
@@ -23,3 +19,12 @@ none-from (Some x) e = cc
 pub some-then : {X : Type 0} (P Q : X → Type 0) → ((x : X) → P x → Q x) → (o : Option X) → IfSome o P → IfSome o Q
 some-then P Q then None there = tt
 some-then P Q then (Some x) there = then x there
+
+-- what is given back says whether it could be used
+pub used : {X : Type 0} (b : Bool) (x : X) → None ≡ cond b None (Some x) → b ≡ true
+used true x e = refl
+used false x e = cc
+
+pub unused : {X : Type 0} (b : Bool) (x y : X) → Some y ≡ cond b None (Some x) → (b ≡ false) × (y ≡ x)
+unused true x y e = cc
+unused false x y e = (refl, cc)

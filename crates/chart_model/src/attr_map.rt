@@ -62,7 +62,7 @@ fn place_of(attrs: &[Attr], code: u16) -> Result<usize, usize>
 }
 
 /// Puts a text under a code, in place of what is there. It takes no memory.
-fn put(attrs: &mut Vec<Attr>, code: u16, value: Octets)
+fn put_text(attrs: &mut Vec<Attr>, code: u16, value: Octets)
     requires rising { AreRising attrs.old.items }
     requires room { vec_len attrs.old < vec_capacity attrs.old }
     ensures map { attrs_of attrs.new.items ≡ map.insert (attrs_of attrs.old.items) code value }
@@ -94,7 +94,7 @@ fn set_text(attrs: &mut Vec<Attr>, code: u16, value: Octets) -> Result<(), Alloc
 }
 
 /// Takes out the attribute with a code. It takes no memory.
-fn take_out(attrs: &mut Vec<Attr>, code: u16) -> Option<Octets>
+fn take_text(attrs: &mut Vec<Attr>, code: u16) -> Option<Octets>
     requires { AreRising attrs.old.items }
     ensures value { result ≡ map.get (attrs_of attrs.old.items) code }
     ensures map { attrs_of attrs.new.items ≡ map.remove (attrs_of attrs.old.items) code }
@@ -125,9 +125,9 @@ fn set_one(attrs: &mut Vec<Attr>, setting: Attr)
     ensures capacity { vec_capacity attrs.old ≤ vec_capacity attrs.new }
 {
     if removes(&setting) {
-        let _ = take_out(attrs, setting.code);
+        let _ = take_text(attrs, setting.code);
     } else {
-        put(attrs, setting.code, setting.value);
+        put_text(attrs, setting.code, setting.value);
     }
 }
 
@@ -169,7 +169,7 @@ fn step(attrs: &mut Vec<Attr>, kept: &mut VecDeque<Attr>, given: &mut VecDeque<A
 {
     if keeps_first(kept, given) {
         if let Some(attr) = kept.pop_front() {
-            put(attrs, attr.code, attr.value);
+            put_text(attrs, attr.code, attr.value);
         }
     } else if let Some(setting) = given.pop_front() {
         set_one(attrs, setting);
@@ -276,7 +276,7 @@ impl AttrMap {
         ensures value { result ≡ map.get self.old code }
         ensures map { self.new ≡ map.remove self.old code }
     {
-        take_out(&mut self.attrs, code)
+        take_text(&mut self.attrs, code)
     }
 
     /// Sets or removes one attribute. Only a code that isn't there takes room.
@@ -285,7 +285,7 @@ impl AttrMap {
         ensures err { OnErr result (self.new ≡ self.old) }
     {
         if removes(setting) {
-            let _ = take_out(&mut self.attrs, setting.code);
+            let _ = take_text(&mut self.attrs, setting.code);
             return Ok(());
         }
         let value = setting.value.clone()?;

@@ -67,7 +67,7 @@ fn value_on<V: Drop>(records: &Page<Shared<V>>, name: Name) -> Option<&V>
 }
 
 /// Puts a value on its page, in place of what was there. Where there is no memory nothing changes.
-fn put<V: Clone + Drop>(
+fn put_on_page<V: Clone + Drop>(
     pages: &mut PageMap<Page<V>>,
     name: Name,
     value: V,
@@ -79,10 +79,10 @@ fn put<V: Clone + Drop>(
     ensures err { OnErr result (pages.new ≡ pages.old) }
 {
     let page = PageName::of(name);
-    if pages.get(page).is_some() {
-        return pages.edit(page, Put { name, value });
-    }
-    let records = Page::of(pages.allocator(), name, value)?;
+    let Some(first) = pages.edit(page, Put { name, value })? else {
+        return Ok(());
+    };
+    let records = Page::of(pages.allocator(), first.name, first.value)?;
     pages.insert(page, records)
 }
 
@@ -98,7 +98,10 @@ fn has_one<V: Drop>(pages: &PageMap<Page<V>>, page: PageName) -> bool
 
 /// Takes a value from its page, and the page too where no other is left on it. Where there is no memory
 /// nothing changes.
-fn take_out<V: Clone + Drop>(pages: &mut PageMap<Page<V>>, name: Name) -> Result<(), AllocError>
+fn take_off_page<V: Clone + Drop>(
+    pages: &mut PageMap<Page<V>>,
+    name: Name,
+) -> Result<(), AllocError>
     requires exact { (x y : V) → V.is_clone x y → y ≡ x }
     requires paged { ArePages pages.old }
     requires there { IsSome (map.get (names_of pages.old) name) }
@@ -111,7 +114,8 @@ fn take_out<V: Clone + Drop>(pages: &mut PageMap<Page<V>>, name: Name) -> Result
         pages.remove(page);
         return Ok(());
     }
-    pages.edit(page, TakeOut { name })
+    let _ = pages.edit(page, TakeOut { name })?;
+    Ok(())
 }
 
 impl<V: Drop> NameMap<V> {
@@ -168,7 +172,7 @@ impl<V: Drop> NameMap<V> {
     {
         let count = self.count_with(name)?;
         let value = Shared::of(self.pages.allocator(), value)?;
-        put(&mut self.pages, name, value)?;
+        put_on_page(&mut self.pages, name, value)?;
         self.count = count;
         Ok(())
     }
@@ -179,7 +183,7 @@ impl<V: Drop> NameMap<V> {
         ensures err { OnErr result (self.new ≡ self.old) }
     {
         if self.contains(name) {
-            take_out(&mut self.pages, name)?;
+            take_off_page(&mut self.pages, name)?;
             self.count -= 1;
         }
         Ok(())
@@ -194,13 +198,9 @@ impl<V: Drop> NameMap<V> {
         ensures ok { OnOk result (self.new ≡ edited_in (E.edited by) self.old name) }
         ensures err { OnErr result (self.new ≡ self.old) }
     {
-        self.pages.edit(
-            PageName::of(name),
-            At {
-                name,
-                by: Within { by },
-            },
-        )
+        let by = Within { by };
+        let _ = self.pages.edit(PageName::of(name), At { name, by })?;
+        Ok(())
     }
 
     /// The names and their values in the names' order. It takes no memory.

@@ -1,6 +1,6 @@
 //! Pages by their names, each behind a pointer that copies of the map share.
 
-ghost use Rattle.std.specs.Prelude.{◌≡◌, ◌/◌, IfSome, OnOk, OnErr};
+ghost use Rattle.std.specs.Prelude.{◌≡◌, ◌/◌, if◌then◌else◌, Some, None, IfSome, IfOk, OnOk, OnErr};
 ghost use Rattle.std.specs.Option.{option_copied};
 ghost use Rattle.std.specs.FinMap as map;
 ghost use Rattle.chart_model.specs.Pages.{page_of};
@@ -120,21 +120,27 @@ impl<T: Drop> PageMap<T> {
         let _ = self.tree.remove(&page);
     }
 
-    /// Edits the page with a name, where there is one: one that is shared is copied before. Where there
-    /// is no memory nothing changes.
-    pub fn edit<E: Edit<T> + Drop>(&mut self, page: PageName, by: E) -> Result<(), AllocError>
+    /// Edits the page with a name: one that is shared is copied before. Where there is no such page it gives the
+    /// edit back. Where there is no memory nothing changes.
+    pub fn edit<E: Edit<T> + Drop>(
+        &mut self,
+        page: PageName,
+        by: E,
+    ) -> Result<Option<E>, AllocError>
     where
         T: Clone,
         requires exact { (x y : T) → T.is_clone x y → y ≡ x }
         requires fits { IfSome (map.get self.old page) (E.fits by) }
         ensures ok { OnOk result (self.new ≡ edited_in (E.edited by) self.old page) }
+        ensures unused { IfOk result (λ unused. unused ≡ (if map.contains_key self.old page then None else Some by)) }
         ensures err { OnErr result (self.new ≡ self.old) }
     {
-        if let Some(shared) = self.tree.get_mut(&page) {
-            let own = Rc::make_mut(shared)?;
-            by.edit(own)?;
-        }
-        Ok(())
+        let Some(shared) = self.tree.get_mut(&page) else {
+            return Ok(Some(by));
+        };
+        let own = Rc::make_mut(shared)?;
+        by.edit(own)?;
+        Ok(None)
     }
 
     /// The pages in the names' order. It takes no memory.

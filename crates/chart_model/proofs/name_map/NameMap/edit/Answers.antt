@@ -2,7 +2,7 @@ use Rattle.std.proofs.Common.{◌≡◌, ap, sym, ◌∙◌, subst, IfSome}
 use Rattle.std.specs.FinMap as map
 use Rattle.chart_model.specs.Names.{edited_in}
 use Rattle.chart_model.specs.Pages.{names_of, IsPaged}
-use Rattle.chart_model.proofs.Outcomes.{on-ok, on-either, some-then}
+use Rattle.chart_model.proofs.Outcomes.{some-then}
 use Rattle.chart_model.proofs.Pages.{get-names, placed, on_page, fits-on-page, edit-here, len-edited}
 use Rattle.chart_model.proofs.name_map.NameMap.edit.Goals as goal
 
@@ -16,19 +16,15 @@ edit-requires-clause-fits g c =
     (subst (λ o. IfSome o Fits) is
     (some-then (g.E.Edit.fits c.args.by) Fits (λ value fits. (c.requires.exact, fits)) (map.get c.args.self.now c.args.name) c.requires.fits))
 
-pub invariant_of-self : goal.invariant_of-self
-invariant_of-self g c =
+pub invariant_of-self-2 : goal.invariant_of-self-2
+invariant_of-self-2 g c =
     let edits = edit-here c.self.inside.pages c.self.invariant.each c.args.name (g.E.Edit.edited c.args.by) in
-    on-either c.edit.result c.edit.ensures.ok c.edit.ensures.err
-    (λ is.
     subst (λ pages. IsPaged pages c.self.inside.count)
-    (sym (is ∙ ap (edited_in (λ records. edited_in (g.E.Edit.edited c.args.by) records c.args.name) c.self.inside.pages) c.of.ensures))
-    (record { each = edits.1; counted = c.self.invariant.counted ∙ sym (ap map.len edits.0 ∙ len-edited (g.E.Edit.edited c.args.by) (names_of c.self.inside.pages) c.args.name) }))
-    (λ is. subst (λ pages. IsPaged pages c.self.inside.count) (sym is) c.self.invariant)
+    (sym (c.in_ok-edit.ensures.ok ∙ ap (edited_in (λ records. edited_in (g.E.Edit.edited c.args.by) records c.args.name) c.self.inside.pages) c.of.ensures))
+    (record { each = edits.1; counted = c.self.invariant.counted ∙ sym (ap map.len edits.0 ∙ len-edited (g.E.Edit.edited c.args.by) (names_of c.self.inside.pages) c.args.name) })
 
 pub returns-clause-ok : goal.returns-clause-ok
 returns-clause-ok g c =
-    on-ok c.edit.result c.edit.ensures.ok (λ is.
-    ap names_of (is ∙ ap (edited_in (λ records. edited_in (g.E.Edit.edited c.args.by) records c.args.name) c.self.inside.pages) c.of.ensures)
+    ap names_of (c.in_ok-edit.ensures.ok ∙ ap (edited_in (λ records. edited_in (g.E.Edit.edited c.args.by) records c.args.name) c.self.inside.pages) c.of.ensures)
     ∙ (edit-here c.self.inside.pages c.self.invariant.each c.args.name (g.E.Edit.edited c.args.by)).0
-    ∙ ap (λ m. edited_in (g.E.Edit.edited c.args.by) m c.args.name) c.self.view_is)
+    ∙ ap (λ m. edited_in (g.E.Edit.edited c.args.by) m c.args.name) c.self.view_is

@@ -15,8 +15,8 @@ pub invariant_of-self-then-contains : goal.invariant_of-self-then-contains
 invariant_of-self-then-contains g c =
     let there = ap (λ m. map.contains_key m c.args.name) c.self.view_is ∙ sym c.contains.ensures ∙ c.if-contains.true in
     record {
-      each = c.in_ok-take_out.ensures.paged;
-      counted = ap (λ n. n - 1) c.self.invariant.counted ∙ sym (ap map.len c.in_ok-take_out.ensures.ok ∙ one-less _ c.args.name there);
+      each = c.in_ok-take_off_page.ensures.paged;
+      counted = ap (λ n. n - 1) c.self.invariant.counted ∙ sym (ap map.len c.in_ok-take_off_page.ensures.ok ∙ one-less _ c.args.name there);
     }
 
 pub returns-else-contains-clause-ok : goal.returns-else-contains-clause-ok

@@ -1,5 +1,5 @@
-use Rattle.std.proofs.Common.{IfSome, ap, refl, sym, subst, ◌∙◌}
-use Rattle.std.specs.Option.{IsSome, option_copied_mut}
+use Rattle.std.proofs.Common.{Some, None, IfSome, cond, ap, refl, sym, subst, ◌∙◌}
+use Rattle.std.specs.Option.{IsSome, is_some, option_copied_mut}
 use Rattle.std.specs.FinMap as map
 use Rattle.chart_model.specs.Names.{edited_at}
 use Rattle.chart_model.specs.Shared.{held}
@@ -7,7 +7,6 @@ use Rattle.chart_model.proofs.Maps.{insert-same}
 use Rattle.chart_model.proofs.PageNames.{page_cmp-total, page_cmp-IsAntisymmetric}
 use Rattle.chart_model.proofs.SharedTrees.{valued, get-held, insert-held, same-value, whenever, at-ok, at-err}
 use Rattle.chart_model.proofs.page_map.PageMap.edit.Goals as goal
-use Rattle.chart_model.proofs.page_map.PageMap.edit.Goals.{in-Some+in_ok-own+in_ok-edit, in_default}
 
 pub returns-in_err-own-clause-err : goal.returns-in_err-own-clause-err
 returns-in_err-own-clause-err g c =
@@ -39,22 +38,30 @@ returns-in_err-edit-clause-err g c =
     ∙ (λ i. map.insert (c.self.view_is i) c.args.page ((at-ok c.make_mut.result c.in_ok-own.own c.in_ok-own.was (c.make_mut.follows.holds c.edit.new.value) ∙ c.in_err-edit.ensures.err ∙ kept) i))
     ∙ insert-same page_cmp-total page_cmp-IsAntisymmetric _ c.args.page _ (sym found))
 
+pub returns-in_default-clause-ok : goal.returns-in_default-clause-ok
+returns-in_default-clause-ok g c =
+    let found = ap valued (ap option_copied_mut (sym c.in_default.is) ∙ c.get_mut.ensures.value) ∙ get-held page_cmp-total _ _ _ c.self.view_is in
+    ap (λ tree. map.from_entries (held tree.entries)) c.get_mut.follows.holds-at-none
+    ∙ c.self.view_is
+    ∙ ap (edited_at (g.E.Edit.edited c.args.by) c.args.self.now c.args.page) found
+
+pub returns-in_default-clause-unused : goal.returns-in_default-clause-unused
+returns-in_default-clause-unused g c =
+    ap (λ page. cond (is_some page) None (Some c.args.by))
+    (ap valued (ap option_copied_mut (sym c.in_default.is) ∙ c.get_mut.ensures.value) ∙ get-held page_cmp-total _ _ _ c.self.view_is)
+
 pub returns-clause-ok : goal.returns-clause-ok
-returns-clause-ok g c = elim c.match-get_mut.branch [
-  | in-Some+in_ok-own+in_ok-edit w ↦
-      let in_tree = ap option_copied_mut (sym w.in-Some.is) ∙ c.get_mut.ensures.value in
-      let found = ap valued in_tree ∙ get-held page_cmp-total _ _ _ c.self.view_is in
-      let kept = same-value g.T.Clone.is_clone w.in-Some.shared.now.value w.in_ok-own.own.now c.requires.exact w.in_ok-own.ensures.value in
-      let pointer = w.make_mut.follows.lender w.edit.new.value in
-      let written = c.get_mut.follows.holds pointer in
-      ap (λ inside. map.from_entries (held inside.tree.entries)) w.self-inside-is
-      ∙ insert-held page_cmp-total page_cmp-IsAntisymmetric _ _ c.args.page pointer (written.3 (subst IsSome in_tree refl)).0
-      ∙ (λ i. map.insert (c.self.view_is i) c.args.page ((at-ok w.make_mut.result w.in_ok-own.own w.in_ok-own.was (w.make_mut.follows.holds w.edit.new.value) ∙ w.in_ok-edit.ensures.ok ∙ ap (g.E.Edit.edited c.args.by) kept) i))
-      ∙ ap (edited_at (g.E.Edit.edited c.args.by) c.args.self.now c.args.page) found
-  | in_default w ↦
-      let found = ap valued (ap option_copied_mut (sym w.in_default.is) ∙ c.get_mut.ensures.value) ∙ get-held page_cmp-total _ _ _ c.self.view_is in
-      ap (λ inside. map.from_entries (held inside.tree.entries)) w.self-inside-is
-      ∙ ap (λ tree. map.from_entries (held tree.entries)) c.get_mut.follows.holds-at-none
-      ∙ c.self.view_is
-      ∙ ap (edited_at (g.E.Edit.edited c.args.by) c.args.self.now c.args.page) found
-]
+returns-clause-ok g c =
+    let in_tree = ap option_copied_mut (sym c.in-Some.is) ∙ c.get_mut.ensures.value in
+    let found = ap valued in_tree ∙ get-held page_cmp-total _ _ _ c.self.view_is in
+    let kept = same-value g.T.Clone.is_clone c.in-Some.shared.now.value c.in_ok-own.own.now c.requires.exact c.in_ok-own.ensures.value in
+    let pointer = c.make_mut.follows.lender c.edit.new.value in
+    let written = c.get_mut.follows.holds pointer in
+    insert-held page_cmp-total page_cmp-IsAntisymmetric _ _ c.args.page pointer (written.3 (subst IsSome in_tree refl)).0
+    ∙ (λ i. map.insert (c.self.view_is i) c.args.page ((at-ok c.make_mut.result c.in_ok-own.own c.in_ok-own.was (c.make_mut.follows.holds c.edit.new.value) ∙ c.in_ok-edit.ensures.ok ∙ ap (g.E.Edit.edited c.args.by) kept) i))
+    ∙ ap (edited_at (g.E.Edit.edited c.args.by) c.args.self.now c.args.page) found
+
+pub returns-clause-unused : goal.returns-clause-unused
+returns-clause-unused g c =
+    ap (λ page. cond (is_some page) None (Some c.args.by))
+    (ap valued (ap option_copied_mut (sym c.in-Some.is) ∙ c.get_mut.ensures.value) ∙ get-held page_cmp-total _ _ _ c.self.view_is)

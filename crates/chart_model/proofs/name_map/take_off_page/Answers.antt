@@ -2,9 +2,8 @@ use Rattle.std.proofs.Common.{ap, sym, ◌∙◌, subst}
 use Rattle.std.specs.FinMap as map
 use Rattle.chart_model.specs.Names.{edited_in}
 use Rattle.chart_model.specs.Pages.{names_of, is_alone, ArePages}
-use Rattle.chart_model.proofs.Outcomes.{on-ok}
 use Rattle.chart_model.proofs.Pages.{take-alone, take-one}
-use Rattle.chart_model.proofs.name_map.take_out.Goals as goal
+use Rattle.chart_model.proofs.name_map.take_off_page.Goals as goal
 
 pub returns-then-has_one-clause-ok : goal.returns-then-has_one-clause-ok
 returns-then-has_one-clause-ok g c =
@@ -21,13 +20,11 @@ returns-then-has_one-clause-paged g c =
 pub returns-clause-ok : goal.returns-clause-ok
 returns-clause-ok g c =
     let more = sym (ap (λ p. is_alone (map.get c.args.pages.now p)) c.of-page.ensures) ∙ sym c.has_one.ensures ∙ c.if-has_one.false in
-    on-ok c.edit.result c.edit.ensures.ok (λ is.
-    ap names_of (is ∙ ap (edited_in (λ records. map.remove records c.args.name) c.args.pages.now) c.of-page.ensures)
-    ∙ (take-one c.args.pages.now c.requires.paged c.args.name more c.requires.there).0)
+    ap names_of (c.in_ok-edit.ensures.ok ∙ ap (edited_in (λ records. map.remove records c.args.name) c.args.pages.now) c.of-page.ensures)
+    ∙ (take-one c.args.pages.now c.requires.paged c.args.name more c.requires.there).0
 
 pub returns-clause-paged : goal.returns-clause-paged
 returns-clause-paged g c =
     let more = sym (ap (λ p. is_alone (map.get c.args.pages.now p)) c.of-page.ensures) ∙ sym c.has_one.ensures ∙ c.if-has_one.false in
-    on-ok c.edit.result c.edit.ensures.ok (λ is.
-    subst ArePages (sym (is ∙ ap (edited_in (λ records. map.remove records c.args.name) c.args.pages.now) c.of-page.ensures))
-    (take-one c.args.pages.now c.requires.paged c.args.name more c.requires.there).1)
+    subst ArePages (sym (c.in_ok-edit.ensures.ok ∙ ap (edited_in (λ records. map.remove records c.args.name) c.args.pages.now) c.of-page.ensures))
+    (take-one c.args.pages.now c.requires.paged c.args.name more c.requires.there).1

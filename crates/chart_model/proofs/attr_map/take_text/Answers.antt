@@ -1,7 +1,7 @@
 use Rattle.std.proofs.Common.{Some, ap, sym, ◌∙◌}
 use Rattle.chart_model.specs.Attrs.{attrs_of}
 use Rattle.chart_model.proofs.AttrMaps.{text-present, text-absent, remove-present, remove-absent-text}
-use Rattle.chart_model.proofs.attr_map.take_out.Goals as goal
+use Rattle.chart_model.proofs.attr_map.take_text.Goals as goal
 
 pub returns-in-Ok-clause-value : goal.returns-in-Ok-clause-value
 returns-in-Ok-clause-value c =

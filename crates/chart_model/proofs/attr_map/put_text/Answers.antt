@@ -1,7 +1,7 @@
 use Rattle.std.proofs.Common.{ap, ◌∙◌}
 use Rattle.chart_model.specs.Attrs.{attrs_of}
 use Rattle.chart_model.proofs.AttrMaps.{put-present, put-absent}
-use Rattle.chart_model.proofs.attr_map.put.Goals as goal
+use Rattle.chart_model.proofs.attr_map.put_text.Goals as goal
 
 pub returns-in-Ok-clause-map : goal.returns-in-Ok-clause-map
 returns-in-Ok-clause-map c =
