@@ -1,15 +1,10 @@
 -- What holds after a call, from what its answer says.
 use Rattle.std.proofs.Common.{◌≡◌, Bool, true, false, cond, Option, Some, None, IfSome, Result, Ok, Err, OnOk, refl}
-use Rattle.std.specs.Option.{is_some, option_copied}
-use Rattle.std.specs.Borrow.{Bor}
+use Rattle.std.specs.Option.{is_some}
 
 pub on-ok : {X E P Q : Type 0} (r : Result X E) → OnOk r P → (P → Q) → OnOk r Q
 on-ok (Ok x) p f = f p
 on-ok (Err e) p f = tt
-
-pub copied-some : {X : Type 0} (o : Option (Bor X)) → is_some (option_copied o) ≡ is_some o
-copied-some None = refl
-copied-some (Some x) = refl
 
 pub none-from : {X : Type 0} (o : Option X) → is_some o ≡ false → o ≡ None
 none-from None e = refl
