@@ -56,7 +56,8 @@ fn place_of(attrs: &[Attr], code: u16) -> Result<usize, usize>
     ensures bound { IsSearchInRange result (length attrs.now) }
     ensures found { IfOk result (HoldsAt (λ attr. nat_cmp attr.code code ≡ Equal) attrs.now) }
     ensures parted { IfErr result
-        (IsPartitionPoint (λ attr. nat_cmp attr.code code ≡ Less) (λ attr. nat_cmp attr.code code ≡ Greater) attrs.now) }
+        (IsPartitionPoint (λ attr. nat_cmp attr.code code ≡ Less)
+        (λ attr. nat_cmp attr.code code ≡ Greater) attrs.now) }
 {
     attrs.binary_search_by_key(&code, |attr| attr.code)
 }

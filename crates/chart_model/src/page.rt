@@ -39,7 +39,8 @@ fn place_of<V>(entries: &[(Name, V)], name: Name) -> Result<usize, usize>
     ensures bound { IsSearchInRange result (length entries.now) }
     ensures found { IfOk result (HoldsAt (λ entry. name_cmp entry.0 name ≡ Equal) entries.now) }
     ensures parted { IfErr result
-        (IsPartitionPoint (λ entry. name_cmp entry.0 name ≡ Less) (λ entry. name_cmp entry.0 name ≡ Greater) entries.now) }
+        (IsPartitionPoint (λ entry. name_cmp entry.0 name ≡ Less)
+        (λ entry. name_cmp entry.0 name ≡ Greater) entries.now) }
 {
     entries.binary_search_by(|entry| entry.0.compare(name))
 }

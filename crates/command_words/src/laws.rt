@@ -60,7 +60,8 @@ pub fn looks_are_set()
 pub fn other_words_are_refused()
     ensures nothing { words_of [] ≡ None }
     ensures no_catalogue { (program table : List ℕ) → words_of (program ∷ (codes "--table=" ++ table) ∷ []) ≡ None }
-    ensures no_table { (program catalogue : List ℕ) → words_of (program ∷ (codes "--catalogue=" ++ catalogue) ∷ []) ≡ None }
+    ensures no_table { (program catalogue : List ℕ) → words_of (program ∷ (codes "--catalogue=" ++ catalogue) ∷ [])
+        ≡ None }
     ensures twice { (program catalogue table other : List ℕ) →
         words_of (naming program catalogue table ((codes "--table=" ++ other) ∷ [])) ≡ None }
     ensures help { (program catalogue table : List ℕ) →
