@@ -42,7 +42,7 @@ fn place_of<V>(entries: &[(Name, V)], name: Name) -> Result<usize, usize>
         (IsPartitionPoint (λ entry. name_cmp entry.0 name ≡ Less)
         (λ entry. name_cmp entry.0 name ≡ Greater) entries.now) }
 {
-    entries.binary_search_by(|entry| entry.0.compare(name))
+    entries.binary_search_by_key(&name, |entry| entry.0)
 }
 
 impl<V: Drop> Page<V> {

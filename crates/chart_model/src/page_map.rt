@@ -7,10 +7,9 @@ ghost use Rattle.chart_model.specs.Pages.{page_of};
 ghost use Rattle.chart_model.specs.Names.{edited_in};
 ghost use Rattle.chart_model.specs.Shared.{held};
 
-use crate::name::{Name, compare};
+use crate::name::Name;
 use crate::name_map::Edit;
 use std::alloc::{AllocError, Global};
-use std::cmp::Ordering;
 use std::collections::BTreeMap;
 use std::collections::btree_map::Iter;
 use std::marker::Model;
@@ -20,7 +19,7 @@ use std::rc::Rc;
 const NUMBERS: u32 = 16;
 
 /// The name of a page: the kind of its records, and their numbers divided by [`NUMBERS`].
-#[derive(Clone, Copy, Debug, PartialEq, Eq, PartialOrd)]
+#[derive(Clone, Copy, Debug, PartialEq, Eq, PartialOrd, Ord)]
 pub struct PageName {
     rcnm: u8,
     number: u32,
@@ -35,24 +34,6 @@ impl PageName {
             rcnm: name.rcnm,
             number: name.rcid / NUMBERS,
         }
-    }
-}
-
-impl Ord for PageName {
-    ghost use Rattle.std.proofs.Common.{rules};
-    ghost use Rattle.std.specs.Cmp.Rules.{comparing};
-    ghost use Rattle.std.specs.Ordering.{nat_cmp, on, then_cmp};
-
-    ghost cmp = { then_cmp (on (λ page. page.rcnm) nat_cmp) (on (λ page. page.number) nat_cmp) };
-
-    ghost total = { Prim.search (comparing, rules) };
-
-    ghost matches_partial_cmp = { Prim.search (comparing, rules) };
-
-    ghost matches_eq = { Prim.search (comparing, rules) };
-
-    fn cmp(&self, other: &PageName) -> Ordering {
-        compare(self.rcnm, self.number, other.rcnm, other.number)
     }
 }
 

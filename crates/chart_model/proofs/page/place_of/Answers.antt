@@ -2,7 +2,7 @@ use Rattle.std.proofs.Common.{◌≡◌, ℕ, List, Result, Ok, Err, IfOk, IfErr
 use Rattle.std.specs.declared.cmp.Ordering.TheVariants.{Less, Equal, Greater}
 use Rattle.std.specs.List.{HoldsAt}
 use Rattle.std.specs.List.Sorted.{IsBinarySearchResult, IsPartitionPoint}
-use Rattle.std.proofs.lemmas.Fn.{always_returns_same}
+use Rattle.std.proofs.lemmas.List.Sorted.{answers_always}
 use Rattle.chart_model.specs.declared.name.Name.{Name}
 use Rattle.chart_model.specs.Names.{name_cmp}
 use Rattle.chart_model.proofs.PageBlocks.{IsRising, searchable}
@@ -20,9 +20,9 @@ parted es name (Err i) rising at = at (searchable es name rising)
 pub returns-clause-found : goal.returns-clause-found
 returns-clause-found g c =
     found c.args.entries.now c.args.name _
-    (c.binary_search_by.ensures.position (λ e. name_cmp e.0 c.args.name) (always_returns_same _ _ _ (λ a r f called. (search rules, search rules))))
+    (c.binary_search_by_key.ensures.position (λ e. e.0) (answers_always _ _ _ (λ f a r h called. search rules)))
 
 pub returns-clause-parted : goal.returns-clause-parted
 returns-clause-parted g c =
     parted c.args.entries.now c.args.name _ c.requires
-    (c.binary_search_by.ensures.position (λ e. name_cmp e.0 c.args.name) (always_returns_same _ _ _ (λ a r f called. (search rules, search rules))))
+    (c.binary_search_by_key.ensures.position (λ e. e.0) (answers_always _ _ _ (λ f a r h called. search rules)))
