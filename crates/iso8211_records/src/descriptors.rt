@@ -2,6 +2,7 @@
 
 ghost use Rattle.std.specs.Prelude.{◌≡◌, ◌++◌, ◌∷◌, [], is_some, OnOk, OnErr};
 ghost use Rattle.std.specs.Option.{option_copied};
+ghost use Rattle.std.specs.Str.{bytes_eq};
 ghost use Rattle.iso8211_records.specs.Kinds.{layout_at};
 
 use iso8211_formats::Descriptor;
@@ -40,7 +41,7 @@ impl DescriptorMap {
         ensures { option_copied result ≡ layout_at self.now tag.now }
     {
         for pair in &self.pairs {
-            if pair.0 == *tag {
+            if is_same(&pair.0, tag) {
                 return Some(&pair.1);
             }
         }
@@ -62,4 +63,12 @@ impl DescriptorMap {
         self.pairs.push((tag, descriptor))?;
         Ok(())
     }
+}
+
+/// Whether two tags are the same. They are compared as numbers, since the comparison of arrays looks at them byte by
+/// byte.
+fn is_same(tag: &[u8; 4], other: &[u8; 4]) -> bool
+    ensures { result ≡ bytes_eq tag.now other.now }
+{
+    u32::from_le_bytes(*tag) == u32::from_le_bytes(*other)
 }
