@@ -74,7 +74,7 @@ fn check_described(
 fn has_descriptor(tags: &[[u8; 4]], descriptors: &DescriptorMap, entry: &Entry) -> bool
     ensures { result ≡ is_described tags.now descriptors.now entry.now }
 {
-    !is_in_list(tags, &entry.tag) || descriptors.contains(&entry.tag)
+    descriptors.contains(&entry.tag) || !is_in_list(tags, &entry.tag)
 }
 
 /// Reads the fields that the entries name in the data record of this number, which begins the bytes.

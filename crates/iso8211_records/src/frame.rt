@@ -139,13 +139,14 @@ fn check_ends(
     Ok(())
 }
 
-/// Whether a field is ended, where its tag is one of the list.
+/// Whether a field is ended, where its tag is one of the list. Its end is looked at first, since almost every field is
+/// ended.
 fn is_ended_in(tags: &[[u8; 4]], bytes: &[u8], leader: &Leader, entry: &Entry) -> bool
     requires whole { leader.now.length ≤ length bytes.now }
     requires inside { IsInside (frame leader.now) entry.now }
     ensures { result ≡ is_ended tags.now (frame leader.now) bytes.now entry.now }
 {
-    !is_in_list(tags, &entry.tag) || ends_with_terminator(field_in(bytes, leader, entry))
+    ends_with_terminator(field_in(bytes, leader, entry)) || !is_in_list(tags, &entry.tag)
 }
 
 /// Whether the tag is one of the list.
