@@ -1,5 +1,5 @@
 -- Reading the fields of a data record one after the other.
-use Rattle.std.proofs.Common.{◌≡◌, ℕ, suc, ◌+◌, ◌≤◌, ◌<◌, List, [], ◌∷◌, ◌++◌, length, get_or, drop, Result, Ok, refl, sym, ap, ◌∙◌, add-one, drop-cons}
+use Rattle.std.proofs.Common.{◌≡◌, ℕ, suc, ◌+◌, ◌≤◌, ◌<◌, List, [], ◌∷◌, ◌++◌, length, get_or, drop, Result, Ok, refl, sym, ap, ◌∙◌, add-one, drop-cons, arith, if◌then◌else◌}
 use Rattle.std.proofs.Math.ListN.{drop_of_length-le}
 use Rattle.std.proofs.lemmas.List.{append-nil}
 use Rattle.iso8211_formats.specs.Layout.{Layout}
@@ -8,6 +8,8 @@ use Rattle.iso8211_leader.specs.declared.entry.Entry.{Entry}
 use Rattle.iso8211_records.specs.declared.record.RawField.{RawField}
 use Rattle.iso8211_records.specs.declared.fault.FileFault.{FileFault}
 use Rattle.iso8211_records.specs.Answers.{Fails}
+use Rattle.iso8211_records.specs.Tags.{is_listed}
+use Rattle.iso8211_records.specs.Budget.{listed_bytes}
 use Rattle.iso8211_records.specs.Record.{field_bytes}
 use Rattle.chart_model.specs.Answers.{◌>>=◌}
 use Rattle.iso8211_records.specs.Reading.{field_by, fields_of}
@@ -40,3 +42,17 @@ pub fields-all : (tags : List (List ℕ)) (descriptors : List (List ℕ × Layou
 unfolding fields_of
 fields-all tags descriptors number frame bytes front entries i total done so_far =
     sym so_far ∙ rw (drop_of_length-le entries done) (ap (λ (fs : List RawField). Ok fs) (append-nil front))
+
+-- the bytes that are taken from the budget: of one field more
+pub taken-more : (tags : List (List ℕ)) (entries : List Entry) (i before after total size : ℕ) → i < length entries → before + size ≡ total + listed_bytes tags (drop i entries)
+    → after + (if is_listed tags (get_or entries i no_entry).tag then (get_or entries i no_entry).length else 0) ≡ before → after + size ≡ total + listed_bytes tags (drop (i + 1) entries)
+taken-more tags entries i before after total size inside so_far one =
+    let step : listed_bytes tags (drop i entries) ≡ (if is_listed tags (get_or entries i no_entry).tag then (get_or entries i no_entry).length else 0) + listed_bytes tags (drop (suc i) entries) =
+    rw (drop-cons entries i no_entry inside) refl in
+    rw add-one (omega arith)
+
+-- and of all
+pub taken-all : (tags : List (List ℕ)) (entries : List Entry) (i left total : ℕ) → length entries ≤ i → left + listed_bytes tags entries ≡ total + listed_bytes tags (drop i entries) → left + listed_bytes tags entries ≡ total
+taken-all tags entries i left total done so_far =
+    let none : listed_bytes tags (drop i entries) ≡ 0 = rw (drop_of_length-le entries done) refl in
+    omega arith

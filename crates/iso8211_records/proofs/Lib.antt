@@ -2,6 +2,7 @@ mod Tagged
 mod Options
 mod ValueLaws
 mod FieldLaws
+mod ListedTags
 mod Loops
 mod FrameTests
 mod Places

@@ -1,5 +1,6 @@
 -- The kinds of a field's values.
-use Rattle.std.specs.Prelude.{◌≡◌, ℕ, List, [], ◌∷◌, Option, Some, None, MatchOption, if◌then◌else◌}
+use Rattle.std.specs.Prelude.{◌≡◌, ℕ, true, List, [], ◌∷◌, Option, Some, None, MatchOption, if◌then◌else◌}
+use Rattle.std.specs.List.{AllByRecursion}
 use Rattle.std.specs.Str.{bytes_eq}
 use Rattle.iso8211_formats.specs.Layout.{Layout}
 use Rattle.iso8211_formats.specs.declared.format.Format.{Format}
@@ -8,12 +9,22 @@ use Rattle.iso8211_formats.specs.declared.format.Format.TheVariants.{Bits as Bit
 use Rattle.iso8211_records.specs.declared.value.Value.{Value}
 use Rattle.iso8211_records.specs.declared.value.Value.TheVariants.{Number, Text, Bits}
 use Rattle.iso8211_records.specs.declared.record.RawField.{RawField}
+use Rattle.iso8211_records.specs.Tags.{is_listed}
 use Rattle.iso8211_records.specs.Spelling.{formats_in, with_groups}
 
 -- the layout under a tag: the first
 abbrev pub layout_at : List (List ℕ × Layout) → List ℕ → Option Layout
 layout_at [] tag = None
 layout_at (pair ∷ pairs) tag = if bytes_eq pair.0 tag then Some pair.1 else layout_at pairs tag
+
+-- the tags that have a layout
+abbrev pub tags_of : List (List ℕ × Layout) → List (List ℕ)
+tags_of [] = []
+tags_of (pair ∷ pairs) = pair.0 ∷ tags_of pairs
+
+-- each tag that has a layout is one of the list
+abbrev pub AreListed : List (List ℕ) → List (List ℕ × Layout) → Type 0
+AreListed tags pairs = AllByRecursion (λ (pair : List ℕ × Layout). is_listed tags pair.0 ≡ true) pairs
 
 -- the value is of the format's kind
 abbrev pub IsKind : Format → Value → Type 0

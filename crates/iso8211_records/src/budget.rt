@@ -4,10 +4,7 @@
 //! a file without overlaps are never over the budget: in all they are shorter than the file.
 
 ghost use Rattle.std.specs.Prelude.{◌≡◌, ◌+◌, ◌<◌, ◌≤◌, OnOk, OnErr};
-ghost use Rattle.iso8211_records.specs.Budget.{listed_bytes};
 
-use crate::frame::is_in_list;
-use iso8211_leader::Entry;
 use std::alloc::AllocError;
 use std::marker::Model;
 
@@ -44,7 +41,7 @@ impl Budget {
     /// # Errors
     ///
     /// `AllocError` exactly where fewer are left.
-    fn take(&mut self, count: usize) -> Result<(), AllocError>
+    pub(crate) fn take(&mut self, count: usize) -> Result<(), AllocError>
         ensures ok { OnOk result (self.new + count ≡ self.old) }
         ensures err { OnErr result (self.old < count) }
     {
@@ -55,26 +52,5 @@ impl Budget {
             }
             None => Err(AllocError),
         }
-    }
-
-    /// Takes the bytes of the fields with a tag of the list.
-    ///
-    /// # Errors
-    ///
-    /// `AllocError` exactly where fewer are left.
-    pub(crate) fn take_fields(
-        &mut self,
-        tags: &[[u8; 4]],
-        entries: &[Entry],
-    ) -> Result<(), AllocError>
-        ensures ok { OnOk result (self.new + listed_bytes tags.now entries.now ≡ self.old) }
-        ensures err { OnErr result (self.old < listed_bytes tags.now entries.now) }
-    {
-        for entry in entries {
-            if is_in_list(tags, &entry.tag) {
-                self.take(entry.length as usize)?;
-            }
-        }
-        Ok(())
     }
 }

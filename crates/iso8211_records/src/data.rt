@@ -1,12 +1,13 @@
 //! Data records: what their fields hold.
 
-ghost use Rattle.std.specs.Prelude.{◌≡◌, ◌≤◌, ◌<◌, ◌^◌, length, IfOk};
+ghost use Rattle.std.specs.Prelude.{◌≡◌, ◌+◌, ◌≤◌, ◌<◌, ◌^◌, length, IfOk, Some, if◌then◌else◌};
 ghost use Rattle.std.specs.List.{AllByRecursion};
-ghost use Rattle.std.specs.Option.{option_copied};
 ghost use Rattle.iso8211_leader.specs.Leader.{frame};
 ghost use Rattle.iso8211_records.specs.Answers.{Gives, GivesBy};
 ghost use Rattle.iso8211_records.specs.Spelling.{formats_in};
-ghost use Rattle.iso8211_records.specs.Kinds.{layout_at};
+ghost use Rattle.iso8211_records.specs.Budget.{listed_bytes};
+ghost use Rattle.iso8211_records.specs.Tags.{is_listed};
+ghost use Rattle.iso8211_records.specs.Kinds.{AreListed, tags_of};
 ghost use Rattle.iso8211_records.specs.Record.{IsInside, field_bytes};
 ghost use Rattle.iso8211_records.specs.Values.{Finds};
 ghost use Rattle.iso8211_records.specs.Reading.{data_record_at, fields_of, field_by, values_by, first_without, is_described, unless_undescribed};
@@ -34,20 +35,20 @@ pub(crate) fn read_data_record(
     descriptors: &DescriptorMap,
     budget: &mut Budget,
 ) -> Result<(RawRecord, usize), FileFault>
-    requires { at ≤ 2 ^ 63 }
+    requires low { at ≤ 2 ^ 63 }
+    requires listed { AreListed tags.now descriptors.now }
     ensures read { Gives result (data_record_at tags.now descriptors.now number at bytes.now) }
     ensures within { IfOk result (λ read. read.1 ≤ length bytes.now) }
     ensures some { IfOk result (λ read. 0 < read.1) }
 {
     let (leader, entries) = read_frame(alloc, bytes, at, tags, false)?;
     check_described(tags, descriptors, entries.as_slice())?;
-    budget.take_fields(tags, entries.as_slice())?;
     let fields = read_fields(
         alloc,
         bytes,
         number,
-        tags,
         descriptors,
+        budget,
         &leader,
         entries.as_slice(),
     )?;
@@ -77,25 +78,27 @@ fn has_descriptor(tags: &[[u8; 4]], descriptors: &DescriptorMap, entry: &Entry) 
     descriptors.contains(&entry.tag) || !is_in_list(tags, &entry.tag)
 }
 
-/// Reads the fields that the entries name in the data record of this number, which begins the bytes.
+/// Reads the fields that the entries name in the data record of this number, which begins the bytes: of those with a
+/// descriptor the values, whose bytes are taken from the budget.
 fn read_fields(
     alloc: Global,
     bytes: &[u8],
     number: usize,
-    tags: &[[u8; 4]],
     descriptors: &DescriptorMap,
+    budget: &mut Budget,
     leader: &Leader,
     entries: &[Entry],
 ) -> Result<Vec<RawField>, FileFault>
     requires whole { leader.now.length ≤ length bytes.now }
     requires inside { AllByRecursion (IsInside (frame leader.now)) entries.now }
-    ensures { GivesBy (λ fields. fields.items) result
-        (fields_of tags.now descriptors.now number (frame leader.now) bytes.now entries.now) }
+    ensures read { GivesBy (λ fields. fields.items) result
+        (fields_of (tags_of descriptors.now) descriptors.now number (frame leader.now) bytes.now entries.now) }
+    ensures taken { IfOk result (λ _. budget.new + listed_bytes (tags_of descriptors.now) entries.now ≡ budget.old) }
 {
     let mut fields = Vec::with_capacity(alloc, entries.len())?;
     for entry in entries {
         let field = field_in(bytes, leader, entry);
-        fields.push(read_field(alloc, field, number, tags, descriptors, entry.tag)?)?;
+        fields.push(read_field(alloc, field, number, descriptors, budget, entry.tag)?)?;
     }
     Ok(fields)
 }
@@ -106,35 +109,40 @@ fn read_field(
     alloc: Global,
     field: &[u8],
     number: usize,
-    tags: &[[u8; 4]],
     descriptors: &DescriptorMap,
+    budget: &mut Budget,
     tag: [u8; 4],
 ) -> Result<RawField, FileFault>
-    ensures { Gives result (field_by tags.now descriptors.now number tag field.now) }
+    ensures read { Gives result (field_by (tags_of descriptors.now) descriptors.now number tag field.now) }
+    ensures taken { IfOk result (λ _.
+        budget.new + (if is_listed (tags_of descriptors.now) tag then length field.now else 0) ≡ budget.old) }
 {
-    if !is_in_list(tags, &tag) {
-        let values = ValueList::new(alloc);
-        return Ok(RawField { tag, values });
-    }
-    match read_by(alloc, field, descriptors.get(&tag)) {
+    let descriptor = match descriptors.get(&tag) {
+        Some(descriptor) => descriptor,
+        None => {
+            let values = ValueList::new(alloc);
+            return Ok(RawField { tag, values });
+        }
+    };
+    match read_by(alloc, field, descriptor, budget) {
         Ok(values) => Ok(RawField { tag, values }),
         Err(FieldFault::Unspelled) => Err(FileFault::Subfield(number, tag)),
         Err(FieldFault::NoMemory) => Err(FileFault::NoMemory),
     }
 }
 
-/// Reads the values of a field by its descriptor.
+/// Reads the values of a field by its descriptor, and takes its bytes from the budget.
 #[tactic(auto, unfolding(crate::specs::Reading::values_by))]
 fn read_by(
     alloc: Global,
     field: &[u8],
-    descriptor: Option<&Descriptor>,
+    descriptor: &Descriptor,
+    budget: &mut Budget,
 ) -> Result<ValueList, FieldFault>
-    ensures { Finds (λ values. values) result (values_by (option_copied descriptor.entry) field.now) }
+    ensures read { Finds (λ values. values) result (values_by (Some descriptor.now) field.now) }
+    ensures taken { IfOk result (λ _. budget.new + length field.now ≡ budget.old) }
 {
-    let Some(descriptor) = descriptor else {
-        return Err(FieldFault::Unspelled);
-    };
+    budget.take(field.len())?;
     let text = match field {
         [text @ .., _] => text,
         [] => field,

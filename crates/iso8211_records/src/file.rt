@@ -4,6 +4,7 @@ ghost use Rattle.std.specs.Prelude.{◌≡◌, ◌≢◌, ◌⊎◌, ◌+◌, �
 ghost use Rattle.iso8211_records.specs.declared.fault.FileFault.{FileFault as FaultOfFile};
 ghost use Rattle.iso8211_records.specs.FileValue.{FileValue};
 ghost use Rattle.iso8211_records.specs.Answers.{Gives};
+ghost use Rattle.iso8211_records.specs.Kinds.{AreListed};
 ghost use Rattle.iso8211_records.specs.Reading.{data_records_at, come_to};
 ghost use Rattle.iso8211_records.specs.RecordFile.{IsRecordFile, record_file_of, data_records_in};
 ghost use Rattle.iso8211_records.specs.Fault.{HasFault};
@@ -87,7 +88,8 @@ fn read_data_records<C: Ledger>(
     budget: &mut Budget,
     steps: &mut Steps<C>,
 ) -> Result<RawList, FileFault>
-    requires { at + length bytes.now ≤ 2 ^ 63 }
+    requires low { at + length bytes.now ≤ 2 ^ 63 }
+    requires listed { AreListed tags.now descriptors.now }
     ensures read { Gives result (data_records_at (length bytes.now) tags.now descriptors.now 1 at bytes.now) }
     ensures come_to { result ≢ Err FileFault.NoMemory
         → steps.new ≡ steps.old + come_to (length bytes.now) tags.now descriptors.now 1 at bytes.now }

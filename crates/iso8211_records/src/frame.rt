@@ -178,7 +178,8 @@ fn ends_inside(leader: &Leader, entry: &Entry) -> bool
 pub(crate) fn field_in<'a>(bytes: &'a [u8], leader: &Leader, entry: &Entry) -> &'a [u8]
     requires whole { leader.now.length ≤ length bytes.now }
     requires inside { IsInside (frame leader.now) entry.now }
-    ensures { result.now ≡ field_bytes (frame leader.now) bytes.now entry.now }
+    ensures named { result.now ≡ field_bytes (frame leader.now) bytes.now entry.now }
+    ensures whole { length result.now ≡ entry.now.length }
 {
     let from = leader.base as usize + entry.position as usize;
     &bytes[from..from + entry.length as usize]

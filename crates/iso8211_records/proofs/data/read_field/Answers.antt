@@ -1,0 +1,18 @@
+use Rattle.std.proofs.Common.{None, Some, arith, refl, ◌∙◌}
+use Rattle.iso8211_records.proofs.ListedTags.{field_by-none, field_by-some, listed-by}
+use Rattle.iso8211_records.proofs.data.read_field.Goals as goal
+
+pub returns-in-None-clause-read : goal.returns-in-None-clause-read
+returns-in-None-clause-read c = rw c.new-values.ensures (field_by-none _ _ _ _ c.in-None.ensures)
+
+pub returns-in-None-clause-taken : goal.returns-in-None-clause-taken
+returns-in-None-clause-taken c = rw (listed-by _ _ None c.in-None.ensures) (omega arith)
+
+pub returns-in-Ok-clause-read : goal.returns-in-Ok-clause-read
+returns-in-Ok-clause-read c = field_by-some _ _ _ _ _ c.in-Some.ensures ∙ rw c.in-Ok.ensures.read refl
+
+pub returns-in-Ok-clause-taken : goal.returns-in-Ok-clause-taken
+returns-in-Ok-clause-taken c = rw (listed-by _ _ (Some _) c.in-Some.ensures) c.in-Ok.ensures.taken
+
+pub returns-in-Err-Unspelled-clause-read : goal.returns-in-Err-Unspelled-clause-read
+returns-in-Err-Unspelled-clause-read c = field_by-some _ _ _ _ _ c.in-Some.ensures ∙ rw (rw c.in-Err-Unspelled.field-0-is at c.in-Err-Unspelled.ensures.read) refl
