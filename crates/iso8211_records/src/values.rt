@@ -28,10 +28,10 @@ pub(crate) fn read_values(
 ) -> Result<ValueList, FieldFault>
     ensures { Finds (λ values. values) result (values_of (record { once = once.now; group = group.now }) text.now) }
 {
-    let values = Vec::with_capacity(alloc, once.len())?;
-    let (mut values, rest) = read_each(alloc, text, once, values)?;
+    let mut values = Vec::with_capacity(alloc, once.len())?;
+    let rest = read_each(alloc, text, once, &mut values)?;
     values.reserve(values_expected(group, rest.len()))?;
-    let values = read_groups(alloc, rest, group, values)?;
+    read_groups(alloc, rest, group, &mut values)?;
     Ok(ValueList::from_vec(values))
 }
 
@@ -59,39 +59,39 @@ fn values_expected(group: &[Format], count: usize) -> usize {
     }
 }
 
-/// Reads whole groups up to the end of the bytes, and gives their values after the others.
+/// Reads whole groups up to the end of the bytes, and puts their values behind the others.
 fn read_groups(
     alloc: Global,
     bytes: &[u8],
     group: &[Format],
-    mut values: Vec<Value>,
-) -> Result<Vec<Value>, FieldFault>
-    ensures { Finds (λ all. all.items) result
-        (before_all values.items (groups_at (length bytes.now) group.now bytes.now)) }
+    values: &mut Vec<Value>,
+) -> Result<(), FieldFault>
+    ensures { Finds (λ _. values.new.items) result
+        (before_all values.old.items (groups_at (length bytes.now) group.now bytes.now)) }
 {
     if group.is_empty() {
         return if bytes.is_empty() {
-            Ok(values)
+            Ok(())
         } else {
             Err(FieldFault::Unspelled)
         };
     }
     let mut rest = bytes;
     while !rest.is_empty() {
-        (values, rest) = read_each(alloc, rest, group, values)?;
+        rest = read_each(alloc, rest, group, values)?;
     }
-    Ok(values)
+    Ok(())
 }
 
-/// Reads a value by each format, and gives the values after the others, and the bytes that are left.
+/// Reads a value by each format, puts the values behind the others, and gives the bytes that are left.
 fn read_each<'a>(
     alloc: Global,
     bytes: &'a [u8],
     formats: &[Format],
-    mut values: Vec<Value>,
-) -> Result<(Vec<Value>, &'a [u8]), FieldFault>
-    ensures { Finds (λ read. (read.0.items, read.1.now)) result
-        (before values.items (values_at formats.now bytes.now)) }
+    values: &mut Vec<Value>,
+) -> Result<&'a [u8], FieldFault>
+    ensures { Finds (λ rest. (values.new.items, rest.now)) result
+        (before values.old.items (values_at formats.now bytes.now)) }
 {
     let mut rest = bytes;
     for format in formats {
@@ -99,7 +99,7 @@ fn read_each<'a>(
         values.push(value)?;
         rest = after;
     }
-    Ok((values, rest))
+    Ok(rest)
 }
 
 /// Reads the value at the front of the bytes, and gives the bytes after it.
@@ -180,6 +180,7 @@ fn number_front(bytes: &[u8], size: u8) -> Result<(&[u8], &[u8]), FieldFault>
 }
 
 /// The number that bytes are, the least significant first.
+#[inline(always)]
 #[tactic(auto, unfolding(crate::specs::Spelling::unsigned))]
 fn unsigned_of(bytes: &[u8]) -> u32
     requires { IsNumberSize (length bytes.now) }

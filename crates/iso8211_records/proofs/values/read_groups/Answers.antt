@@ -10,16 +10,16 @@ returns-then-is_empty-2 c = groups-all _ _ _ _ (empty-true _ c.if-is_empty-2.ens
 pub returns-else-is_empty-2 : goal.returns-else-is_empty-2
 returns-else-is_empty-2 c = groups-none _ _ _ (empty-true _ c.if-is_empty.ensures) (empty-false _ c.if-is_empty-2.ensures)
 
-pub returns-in_err-values : goal.returns-in_err-values
-returns-in_err-values c =
+pub returns-in_err-rest : goal.returns-in_err-rest
+returns-in_err-rest c =
     let p = err_from_is_err_and c.from_residual.result c.from_residual.ensures.1 in
-    rw (p.1, p.2) (groups-fail _ _ _ _ _ (empty-false _ c.loop-rest-test.ensures) c.in_err-values.ensures c.loop-rest.invariant)
+    rw (p.1, p.2) (groups-fail _ _ _ _ _ (empty-false _ c.loop-rest-test.ensures) c.in_err-rest.ensures c.loop-rest.invariant)
 
 pub loop-rest-smaller : goal.loop-rest-smaller
-loop-rest-smaller c = shorter-rest _ _ _ (empty-false _ c.if-is_empty.ensures) (before-shorter _ _ _ _ _ c.in_ok-values.ensures)
+loop-rest-smaller c = shorter-rest _ _ _ (empty-false _ c.if-is_empty.ensures) (before-shorter _ _ _ _ _ c.in_ok-rest.ensures)
 
 pub loop-rest-preserved : goal.loop-rest-preserved
-loop-rest-preserved c = groups-more _ _ _ _ _ _ (empty-false _ c.if-is_empty.ensures) (empty-false _ c.loop-rest-test.ensures) c.in_ok-values.ensures c.loop-rest.invariant
+loop-rest-preserved c = groups-more _ _ _ _ _ _ (empty-false _ c.if-is_empty.ensures) (empty-false _ c.loop-rest-test.ensures) c.in_ok-rest.ensures c.loop-rest.invariant
 
 pub returns : goal.returns
 returns c = groups-all _ _ _ _ (empty-true _ c.loop-rest-test.ensures) c.loop-rest.invariant
