@@ -5,7 +5,7 @@ use denote.Ref.{Bor}
 use Rattle.std.specs.List.{AllByRecursion}
 use Rattle.std.proofs.lemmas.Bool.{eqb-true, eq-eqb, and_parts}
 use Rattle.iso8211_formats.specs.Reading.{cut_at, before_end}
-use Rattle.iso8211_formats.proofs.Options.{map_some, chosen, guarded_some, some_is, none_unless}
+use Rattle.iso8211_formats.proofs.GivenValues.{map_some, chosen, guarded_some, some_is, none_unless}
 
 -- this byte is nowhere in the text
 abbrev pub Lacks : ℕ → List ℕ → Type 0

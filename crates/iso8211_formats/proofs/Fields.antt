@@ -11,7 +11,7 @@ use Rattle.iso8211_formats.specs.declared.format.Format.{Format}
 use Rattle.iso8211_formats.specs.Layout.{Layout, IsLayout, IsSound}
 use Rattle.iso8211_formats.specs.Grammar.{Spells, Item, IsItem, item_text, expanded, format_controls, array_descriptor}
 use Rattle.iso8211_formats.specs.Reading.{guarded, cut_at, before_end, items_text, formats_of, labels_of, layout_with, parts_of, descriptor_of}
-use Rattle.iso8211_formats.proofs.Options.{bind_some, guarded_some, chosen, some_is}
+use Rattle.iso8211_formats.proofs.GivenValues.{bind_some, guarded_some, chosen, some_is}
 use Rattle.iso8211_formats.proofs.Cuts.{Lacks, cut_at_found, cut_at_again, before_end_found, before_end_again}
 use Rattle.iso8211_formats.proofs.Items.{items_of_found, items_of_again, slice_split-items, sound_expanded}
 use Rattle.iso8211_formats.proofs.LabelTexts.{IsArray, labels_of_found, labels_of_again, AreLabels-from_array, Lacks-array, AreFour-from_labels}

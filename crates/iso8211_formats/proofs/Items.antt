@@ -10,10 +10,10 @@ use Rattle.iso8211_formats.specs.declared.format.Format.{Format}
 use Rattle.iso8211_formats.specs.declared.format.Format.TheVariants.{TextOpen, Text, Unsigned, Signed, Bits}
 use Rattle.iso8211_formats.specs.Layout.{IsSound, IsWidth, IsBinarySize}
 use Rattle.iso8211_formats.specs.Grammar.{IsTextLetter, HasWidth, SpellsFormat, Item, IsItem, item_text, expanded}
-use Rattle.iso8211_formats.specs.Reading.{◌>>=◌, guarded, is_empty, cut_at, number_of, count_of, digits_and_rest, is_text_letter, open_format, binary_format, format_with, sized_format, format_of, item_of, items_of}
-use Rattle.iso8211_formats.proofs.Options.{bind_some, chosen, guarded_some, some_is}
+use Rattle.iso8211_formats.specs.Reading.{◌>>=◌, guarded, is_empty, cut_at, counting_number_of, count_of, digits_and_rest, is_text_letter, open_format, binary_format, format_with, sized_format, format_of, item_of, items_of}
+use Rattle.iso8211_formats.proofs.GivenValues.{bind_some, chosen, guarded_some, some_is}
 use Rattle.iso8211_formats.proofs.Cuts.{Lacks, cut_at_found, cut_at_again}
-use Rattle.iso8211_formats.proofs.Numbers.{number_of_found, number_of_again, digits_and_rest_found, digits_and_rest_again, count_of_found, count_of_again, SpellsCount-digits, Lacks-digits, test_from_AllDigits}
+use Rattle.iso8211_formats.proofs.Numbers.{counting_number_of_found, counting_number_of_again, digits_and_rest_found, digits_and_rest_again, count_of_found, count_of_again, SpellsCount-digits, Lacks-digits, test_from_AllDigits}
 
 -- a format's text, and a format that it may spell
 abbrev IsSpelled : List ℕ → Format → Type 0
@@ -73,10 +73,10 @@ binary_format_found sign digit format e =
           subst (λ (f : Format). IsSpelled (98 ∷ sign ∷ digit ∷ []) f) s.1 (text_is, size.0)
     ]
 
-format_with_found : (letter width : ℕ) (inner digits : List ℕ) (format : Format) → number_of digits ≡ Some width → inner ≡ digits ++ 41 ∷ [] → format_with letter width ≡ Some format → IsSpelled (letter ∷ 40 ∷ inner) format
+format_with_found : (letter width : ℕ) (inner digits : List ℕ) (format : Format) → counting_number_of digits ≡ Some width → inner ≡ digits ++ 41 ∷ [] → format_with letter width ≡ Some format → IsSpelled (letter ∷ 40 ∷ inner) format
 unfolding format_with
 format_with_found letter width inner digits format numbered whole e =
-    let n = number_of_found digits width numbered in
+    let n = counting_number_of_found digits width numbered in
     let text_is : letter ∷ 40 ∷ inner ≡ letter ∷ 40 ∷ (digits ++ 41 ∷ []) = ap (λ (t : List ℕ). letter ∷ 40 ∷ t) whole in
     let has : HasWidth (letter ∷ 40 ∷ inner) letter width = record { digits = digits; numeral = n.0; value = n.1; whole = text_is } in
     elim (chosen (is_text_letter letter) (Some (Text width)) (guarded (eqb letter 66 && eqb (width % 8) 0) (Bits width)) (Some format) e) [
@@ -104,7 +104,7 @@ sized_format_found letter inner format e =
     let whole : inner ≡ g.0 ++ 41 ∷ [] =
     f.0 ∙ ap (λ (t : List ℕ). parts.0 ++ 41 ∷ t) (is_empty_found parts.1 closed.0) ∙ ap (λ (t : List ℕ). t ++ 41 ∷ []) closed.1
     in
-    elim (chosen (is_empty g.0) (guarded (eqb letter 65) TextOpen) (number_of g.0 >>= format_with letter) (Some format) g.2) [
+    elim (chosen (is_empty g.0) (guarded (eqb letter 65) TextOpen) (counting_number_of g.0 >>= format_with letter) (Some format) g.2) [
       | inl h ↦
           let t = guarded_some (eqb letter 65) TextOpen format h.1 in
           let a : letter ≡ 65 = eqb-true letter 65 t.0 in
@@ -112,7 +112,7 @@ sized_format_found letter inner format e =
           let text_is : letter ∷ 40 ∷ inner ≡ codes "A()" = ap (λ (l : ℕ). l ∷ 40 ∷ inner) a ∙ ap (λ (t : List ℕ). 65 ∷ 40 ∷ t) inner_is in
           subst (λ (f : Format). IsSpelled (letter ∷ 40 ∷ inner) f) t.1 (inr (inl text_is), tt)
       | inr h ↦
-          let n = bind_some (number_of g.0) (format_with letter) format h.1 in
+          let n = bind_some (counting_number_of g.0) (format_with letter) format h.1 in
           format_with_found letter n.0 inner g.0 format n.1 whole n.2
     ]
 
@@ -138,7 +138,7 @@ unfolding sized_format
 sized_format_again letter width [] format numeral value range with_width = let none : 0 < 0 = numeral.0 in absurd (omega arith)
 sized_format_again letter width (d ∷ ds) format numeral value range with_width =
     let cut = cut_at_again 41 (d ∷ ds) [] (Lacks-digits 41 (d ∷ ds) refl (test_from_AllDigits (d ∷ ds) numeral.1)) in
-    rw (cut, number_of_again (d ∷ ds) width numeral.1 value range.0 range.1) with_width
+    rw (cut, counting_number_of_again (d ∷ ds) width numeral.1 value range.0 range.1) with_width
 
 sized_text_again : (letter width : ℕ) (digits : List ℕ) (format : Format) → IsNumeral 10 digits → digits_value 10 digits ≡ width → IsWidth width → format_with letter width ≡ Some format → format_of (letter ∷ 40 ∷ (digits ++ 41 ∷ [])) ≡ Some format
 unfolding format_of

@@ -5,7 +5,7 @@ use Rattle.std.specs.List.{AllByRecursion, join_with_byte}
 use Rattle.std.proofs.lemmas.Bool.{eqb-true, eq-eqb, cases_Bool, ne_eqb}
 use Rattle.iso8211_formats.specs.Grammar.{IsLabel, begins_at, marked_labels, array_descriptor}
 use Rattle.iso8211_formats.specs.Reading.{plain_labels, grouped_labels, labels_of}
-use Rattle.iso8211_formats.proofs.Options.{map_some, chosen, some_is, or_some, none_unless}
+use Rattle.iso8211_formats.proofs.GivenValues.{map_some, chosen, some_is, or_some, none_unless}
 use Rattle.iso8211_formats.proofs.Cuts.{Lacks}
 
 -- four bytes

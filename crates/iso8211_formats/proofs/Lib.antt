@@ -1,10 +1,10 @@
-pub mod Options
+pub mod GivenValues
 pub mod Cuts
 pub mod Numbers
 pub mod Items
 pub mod LabelTexts
 pub mod Fields
 pub mod Searches
-pub mod Steps
+pub mod ItemsWithinLimit
 pub mod LabelSteps
 pub mod Stages

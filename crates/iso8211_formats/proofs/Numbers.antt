@@ -5,9 +5,9 @@ use Rattle.std.specs.Str.{all_ascii_digits}
 use Rattle.std.specs.Str.Parse.{AllDigits, IsNumeral, digits_value}
 use Rattle.std.proofs.lemmas.Bool.{eqb-true, ltb-true, lt-ltb, and_parts, and_from, cases_Bool, true≢false, false_from_ne_true}
 use Rattle.std.proofs.lemmas.Str.Parse.{IsNumeralModel, numerals_by_value, tells_all_ascii_digits}
-use Rattle.iso8211_formats.specs.Reading.{number_of, digits_and_rest, count_of}
+use Rattle.iso8211_formats.specs.Reading.{counting_number_of, digits_and_rest, count_of}
 use Rattle.iso8211_formats.specs.Grammar.{SpellsCount}
-use Rattle.iso8211_formats.proofs.Options.{guarded_some, some_is}
+use Rattle.iso8211_formats.proofs.GivenValues.{guarded_some, some_is}
 use Rattle.iso8211_formats.proofs.Cuts.{Lacks}
 
 abbrev pub digits_test : List ℕ → Type 0
@@ -25,10 +25,10 @@ test_from_AllDigits ds h = numerals.from ds h
 abbrev fits : List ℕ → Bool
 fits digits = all_ascii_digits digits && (ltb 0 (digits_value 10 digits) && ltb (digits_value 10 digits) 100000)
 
-pub number_of_found : (digits : List ℕ) (n : ℕ) → number_of digits ≡ Some n → IsNumeral 10 digits × (digits_value 10 digits ≡ n) × (1 ≤ n) × (n ≤ 99999)
-unfolding number_of
-number_of_found [] n e = absurd cc
-number_of_found (d ∷ ds) n e =
+pub counting_number_of_found : (digits : List ℕ) (n : ℕ) → counting_number_of digits ≡ Some n → IsNumeral 10 digits × (digits_value 10 digits ≡ n) × (1 ≤ n) × (n ≤ 99999)
+unfolding counting_number_of
+counting_number_of_found [] n e = absurd cc
+counting_number_of_found (d ∷ ds) n e =
     let digits = d ∷ ds in
     let g = guarded_some (fits digits) (digits_value 10 digits) n e in
     let p = and_parts (all_ascii_digits digits) (ltb 0 (digits_value 10 digits) && ltb (digits_value 10 digits) 100000) g.0 in
@@ -37,9 +37,9 @@ number_of_found (d ∷ ds) n e =
     let high : digits_value 10 digits < 100000 = ltb-true _ _ q.1 in
     ((omega arith, AllDigits-from_test digits p.0), g.1, omega (arith, g.1), omega (arith, g.1))
 
-pub number_of_again : (digits : List ℕ) (n : ℕ) → AllDigits 10 digits → digits_value 10 digits ≡ n → 1 ≤ n → n ≤ 99999 → number_of digits ≡ Some n
-unfolding number_of
-number_of_again digits n all value low high =
+pub counting_number_of_again : (digits : List ℕ) (n : ℕ) → AllDigits 10 digits → digits_value 10 digits ≡ n → 1 ≤ n → n ≤ 99999 → counting_number_of digits ≡ Some n
+unfolding counting_number_of
+counting_number_of_again digits n all value low high =
     let test = test_from_AllDigits digits all in
     let is_low : ltb 0 (digits_value 10 digits) ≡ true = lt-ltb _ _ (omega arith) in
     let is_high : ltb (digits_value 10 digits) 100000 ≡ true = lt-ltb _ _ (omega arith) in
@@ -65,14 +65,14 @@ digits_and_rest_again (d ∷ ds) x xs all other =
 pub count_of_found : (text : List ℕ) (n : ℕ) → count_of text ≡ Some n → SpellsCount n text
 unfolding count_of
 count_of_found [] n e = inl (refl, sym (some_is 1 n e))
-count_of_found (d ∷ ds) n e = let f = number_of_found (d ∷ ds) n e in inr (f.0, f.1, f.2)
+count_of_found (d ∷ ds) n e = let f = counting_number_of_found (d ∷ ds) n e in inr (f.0, f.1, f.2)
 
 pub count_of_again : (text : List ℕ) (n : ℕ) → SpellsCount n text → n ≤ 99999 → count_of text ≡ Some n
 unfolding count_of
 count_of_again [] n (inl h) high = ap (λ (k : ℕ). Some k) (sym h.1)
 count_of_again [] n (inr h) high = let no : 0 < 0 = h.0.0 in absurd (omega arith)
 count_of_again (d ∷ ds) n (inl h) high = absurd (let no = h.0 in cc)
-count_of_again (d ∷ ds) n (inr h) high = number_of_again (d ∷ ds) n h.0.1 h.1 h.2 high
+count_of_again (d ∷ ds) n (inr h) high = counting_number_of_again (d ∷ ds) n h.0.1 h.1 h.2 high
 
 pub SpellsCount-digits : (text : List ℕ) (n : ℕ) → SpellsCount n text → all_ascii_digits text ≡ true
 SpellsCount-digits text n (inl h) = rw h.0 refl

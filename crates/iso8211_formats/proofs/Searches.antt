@@ -9,9 +9,9 @@ use Rattle.std.proofs.lemmas.List.Quantifiers.{position-Some}
 use Rattle.std.proofs.lemmas.List.Sums.{fails_before_first}
 use Rattle.std.proofs.lemmas.Str.Parse.{digits_value-take-le}
 use Rattle.std.proofs.lemmas.Int.Digits.{digits_value_more}
-use Rattle.iso8211_formats.specs.Reading.{cut_at, digits_and_rest, number_of}
-use Rattle.iso8211_formats.proofs.Options.{chosen, none_unless}
-use Rattle.iso8211_formats.proofs.Numbers.{number_of_found, number_of_again, AllDigits-from_test}
+use Rattle.iso8211_formats.specs.Reading.{cut_at, digits_and_rest, counting_number_of}
+use Rattle.iso8211_formats.proofs.GivenValues.{chosen, none_unless}
+use Rattle.iso8211_formats.proofs.Numbers.{counting_number_of_found, counting_number_of_again, AllDigits-from_test}
 
 cut_at-index : (byte : ℕ) (text : List ℕ) (at : ℕ) → at < length text → eqb (get_or text at 0) byte ≡ true → ((k : ℕ) → k < at → eqb (get_or text k 0) byte ≡ false) → cut_at byte text ≡ Some (take at text, drop (suc at) text)
 unfolding cut_at
@@ -69,22 +69,22 @@ all_ascii_digits-index [] i lt all = absurd (omega arith)
 all_ascii_digits-index (x ∷ xs) zero lt all = (and_parts _ _ all).0
 all_ascii_digits-index (x ∷ xs) (suc i) lt all = all_ascii_digits-index xs i (omega arith) (and_parts _ _ all).1
 
-pub number_of-other : (text : List ℕ) (i : ℕ) → i < length text → is_ascii_digit (get_or text i 0) ≡ false → number_of text ≡ None
-unfolding number_of
-number_of-other text i lt other =
+pub counting_number_of-other : (text : List ℕ) (i : ℕ) → i < length text → is_ascii_digit (get_or text i 0) ≡ false → counting_number_of text ≡ None
+unfolding counting_number_of
+counting_number_of-other text i lt other =
     let not_all : all_ascii_digits text ≡ false = false_from_ne_true _ (λ all. true≢false (sym (all_ascii_digits-index text i lt all) ∙ other)) in
     rw not_all refl
 
-pub number_of-over : (text : List ℕ) (i : ℕ) → 99999 < digits_value 10 (take i text) → number_of text ≡ None
-number_of-over text i over =
-    none_unless (number_of text) (λ n e. let f = number_of_found text n e in omega (arith, over, digits_value-take-le 10 text i (omega arith), f.1, f.3))
+pub counting_number_of-over : (text : List ℕ) (i : ℕ) → 99999 < digits_value 10 (take i text) → counting_number_of text ≡ None
+counting_number_of-over text i over =
+    none_unless (counting_number_of text) (λ n e. let f = counting_number_of_found text n e in omega (arith, over, digits_value-take-le 10 text i (omega arith), f.1, f.3))
 
-pub number_of-zero : (text : List ℕ) → digits_value 10 text ≡ 0 → number_of text ≡ None
-number_of-zero text zero_value =
-    none_unless (number_of text) (λ n e. let f = number_of_found text n e in omega (arith, zero_value, f.1, f.2))
+pub counting_number_of-zero : (text : List ℕ) → digits_value 10 text ≡ 0 → counting_number_of text ≡ None
+counting_number_of-zero text zero_value =
+    none_unless (counting_number_of text) (λ n e. let f = counting_number_of_found text n e in omega (arith, zero_value, f.1, f.2))
 
-pub number_of-is : (text : List ℕ) (n : ℕ) → all_ascii_digits text ≡ true → n ≡ digits_value 10 text → 1 ≤ n → n ≤ 99999 → number_of text ≡ Some n
-number_of-is text n all value low high = number_of_again text n (AllDigits-from_test text all) (sym value) low high
+pub counting_number_of-is : (text : List ℕ) (n : ℕ) → all_ascii_digits text ≡ true → n ≡ digits_value 10 text → 1 ≤ n → n ≤ 99999 → counting_number_of text ≡ Some n
+counting_number_of-is text n all value low high = counting_number_of_again text n (AllDigits-from_test text all) (sym value) low high
 
 all_ascii_digits-suc : (text : List ℕ) (i : ℕ) → i < length text → all_ascii_digits (take i text) ≡ true → is_ascii_digit (get_or text i 0) ≡ true → all_ascii_digits (take (suc i) text) ≡ true
 all_ascii_digits-suc [] i lt all digit = absurd (omega arith)

@@ -3,7 +3,7 @@ use Rattle.std.proofs.Common.{◌≡◌, ℕ, ◌<◌, ◌≤◌, Bool, true, fa
 use Rattle.std.proofs.lemmas.Bool.{leb-false, le-leb, lt-leb, eq-eqb, ne_eqb, and_right, cases_Bool}
 use Rattle.iso8211_formats.specs.declared.format.Format.{Format}
 use Rattle.iso8211_formats.specs.Reading.{◌>>=◌, guarded, parts_of, labels_of, formats_of, at_most, layout_with, descriptor_of}
-use Rattle.iso8211_formats.proofs.Options.{bind_some, guarded_some}
+use Rattle.iso8211_formats.proofs.GivenValues.{bind_some, guarded_some}
 use Rattle.iso8211_formats.proofs.LabelTexts.{length-labels_of}
 
 abbrev Parts : Type 0

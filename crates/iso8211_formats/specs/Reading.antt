@@ -33,8 +33,8 @@ cut_at byte (x ∷ xs) =
 -- ---- numbers
 
 -- the number from 1 to 99,999 that the digits write
-unfoldable pub number_of : List ℕ → Option ℕ
-number_of digits =
+unfoldable pub counting_number_of : List ℕ → Option ℕ
+counting_number_of digits =
     guarded (all_ascii_digits digits && (nat_lt 0 (digits_value 10 digits) && nat_lt (digits_value 10 digits) 100000))
     (digits_value 10 digits)
 
@@ -47,7 +47,7 @@ digits_and_rest (x ∷ xs) =
 -- how often an item counts: once where there are no digits
 unfoldable pub count_of : List ℕ → Option ℕ
 count_of [] = Some 1
-count_of (digit ∷ digits) = number_of (digit ∷ digits)
+count_of (digit ∷ digits) = counting_number_of (digit ∷ digits)
 
 -- ---- formats
 
@@ -74,7 +74,7 @@ unfoldable pub sized_format : ℕ → List ℕ → Option Format
 sized_format letter inner = do
   parts ← cut_at 41 inner
   digits ← guarded (is_empty parts.1) parts.0
-  if is_empty digits then guarded (letter == 65) TextOpen else (number_of digits >>= format_with letter)
+  if is_empty digits then guarded (letter == 65) TextOpen else (counting_number_of digits >>= format_with letter)
 
 unfoldable pub format_of : List ℕ → Option Format
 format_of [] = None

@@ -2,7 +2,7 @@
 
 ghost use Rattle.std.specs.Prelude.{◌≡◌, ◌<◌, ◌≤◌, length, take, drop, option_map, IfSome, position, not, ◌==◌};
 ghost use Rattle.std.specs.Char.{is_ascii_digit};
-ghost use Rattle.iso8211_formats.specs.Reading.{cut_at, number_of, digits_and_rest};
+ghost use Rattle.iso8211_formats.specs.Reading.{cut_at, counting_number_of, digits_and_rest};
 
 /// The widest width.
 const WIDEST: u32 = 99_999;
@@ -45,7 +45,7 @@ pub fn digit_count(text: &[u8]) -> usize
 
 /// The number from 1 to 99,999 that these digits write.
 pub fn read_number(digits: &[u8]) -> Option<u32>
-    ensures { result ≡ number_of digits.now }
+    ensures { result ≡ counting_number_of digits.now }
 {
     let mut value = 0;
     for digit in digits {

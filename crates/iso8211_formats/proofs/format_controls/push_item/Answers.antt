@@ -1,6 +1,6 @@
 use Rattle.std.proofs.Common.{arith, sym, replicate}
 use Rattle.std.proofs.lemmas.List.{length-replicate}
-use Rattle.iso8211_formats.proofs.Steps.{pushed_none, pushed_over, pushed}
+use Rattle.iso8211_formats.proofs.ItemsWithinLimit.{pushed_none, pushed_over, pushed}
 use Rattle.iso8211_formats.proofs.format_controls.push_item.Goals as goal
 
 pub returns-in_default : goal.returns-in_default

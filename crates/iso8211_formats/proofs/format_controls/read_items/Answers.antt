@@ -2,7 +2,7 @@ use Rattle.std.proofs.Common.{rules, ◌≡◌, sym, ap, ◌∙◌, eqb, List, S
 use Rattle.std.specs.List.{slice_split}
 use Rattle.iso8211_formats.specs.declared.format.Format.{Format}
 use Rattle.iso8211_formats.specs.Reading.{cut_at, items_of, at_most, behind}
-use Rattle.iso8211_formats.proofs.Steps.{items_more, items_more_bad, items_last, behind-nil}
+use Rattle.iso8211_formats.proofs.ItemsWithinLimit.{items_more, items_more_bad, items_last, behind-nil}
 use Rattle.iso8211_formats.proofs.format_controls.read_items.Goals as goal
 
 pub loop-item-init : goal.loop-item-init
