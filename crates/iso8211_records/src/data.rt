@@ -24,7 +24,8 @@ use iso8211_leader::{Entry, Leader};
 use std::alloc::Global;
 
 /// Reads the data record of this number that begins the bytes, which stand at the place `at` of the
-/// file, and gives how many bytes it has.
+/// file, and gives how many bytes it has. Its directory is put in place of the entries, so that one vector serves each
+/// record.
 #[tactic(auto, unfolding(crate::specs::Reading::data_record_at))]
 pub(crate) fn read_data_record(
     alloc: Global,
@@ -34,6 +35,7 @@ pub(crate) fn read_data_record(
     tags: &[[u8; 4]],
     descriptors: &DescriptorMap,
     budget: &mut Budget,
+    entries: &mut Vec<Entry>,
 ) -> Result<(RawRecord, usize), FileFault>
     requires low { at ≤ 2 ^ 63 }
     requires listed { AreListed tags.now descriptors.now }
@@ -41,7 +43,7 @@ pub(crate) fn read_data_record(
     ensures within { IfOk result (λ read. read.1 ≤ length bytes.now) }
     ensures some { IfOk result (λ read. 0 < read.1) }
 {
-    let (leader, entries) = read_frame(alloc, bytes, at, tags, false)?;
+    let leader = read_frame(bytes, at, tags, false, entries)?;
     check_described(tags, descriptors, entries.as_slice())?;
     let fields = read_fields(
         alloc,

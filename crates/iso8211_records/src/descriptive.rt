@@ -28,7 +28,8 @@ pub(crate) fn read_descriptive_record<'a>(
 ) -> Result<(DescriptorMap, &'a [u8]), FileFault>
     ensures { GivesBy (λ read. (read.0, read.1.now)) result (descriptive_record_at tags.now bytes.now) }
 {
-    let (leader, entries) = read_frame(alloc, bytes, 0, tags, true)?;
+    let mut entries = Vec::new(alloc);
+    let leader = read_frame(bytes, 0, tags, true, &mut entries)?;
     let descriptors = read_descriptors(alloc, bytes, tags, &leader, entries.as_slice())?;
     let (_, rest) = bytes.split_at(leader.length as usize);
     Ok((descriptors, rest))

@@ -96,6 +96,7 @@ fn read_data_records<C: Ledger>(
     ensures at_most { steps.new ≤ steps.old + come_to (length bytes.now) tags.now descriptors.now 1 at bytes.now }
 {
     let mut records = RawList::new(alloc);
+    let mut entries = Vec::new(alloc);
     let mut place = at;
     let mut rest = bytes;
     while !rest.is_empty() {
@@ -109,6 +110,7 @@ fn read_data_records<C: Ledger>(
             tags,
             descriptors,
             budget,
+            &mut entries,
         )?;
         records.push(record)?;
         place += length;

@@ -13,39 +13,38 @@ ghost use Rattle.iso8211_records.specs.Reading.{record_at, directory_at, spans_a
 use crate::fault::FileFault;
 use chart_model::codes::FIELD_TERMINATOR;
 use iso8211_leader::{Entry, Leader, read_entry, read_leader};
-use std::alloc::Global;
 
 /// The first byte of the directory, counted from the record's leader.
 const DIRECTORY: usize = 24;
 
-/// Reads the record that begins the bytes, which stand at the place `at` of the file: its leader and its
-/// directory, with every field inside the record and those with a tag of the list ended.
+/// Reads the record that begins the bytes, which stand at the place `at` of the file: its leader, and its directory in
+/// place of the entries, with every field inside the record and those with a tag of the list ended.
 ///
 /// # Errors
 ///
 /// The first of `Leader`, `Directory`, `Span` and `Terminator` in this order; `NoMemory`.
 #[tactic(auto, unfolding(crate::specs::Reading::record_at, crate::specs::Reading::leader_at))]
 pub(crate) fn read_frame(
-    alloc: Global,
     bytes: &[u8],
     at: usize,
     tags: &[[u8; 4]],
     first: bool,
-) -> Result<(Leader, Vec<Entry>), FileFault>
+    entries: &mut Vec<Entry>,
+) -> Result<Leader, FileFault>
     requires { at ≤ 2 ^ 63 }
-    ensures read { GivesBy (λ read. record { frame = frame read.0; entries = read.1.items }) result
+    ensures read { GivesBy (λ leader. record { frame = frame leader; entries = entries.new.items }) result
         (record_at tags.now first at bytes.now) }
-    ensures whole { IfOk result (λ read. read.0.length ≤ length bytes.now) }
-    ensures inside { IfOk result (λ read. AllByRecursion (IsInside (frame read.0)) read.1.items) }
+    ensures whole { IfOk result (λ leader. leader.length ≤ length bytes.now) }
+    ensures inside { IfOk result (λ leader. AllByRecursion (IsInside (frame leader)) entries.new.items) }
 {
     let leader = match read_leader(bytes, 0, first) {
         Ok(leader) => leader,
         Err(_) => return Err(FileFault::Leader(at)),
     };
-    let entries = read_directory(alloc, bytes, at, &leader)?;
+    read_directory(bytes, at, &leader, entries)?;
     check_spans(bytes, at, &leader, entries.as_slice())?;
     check_ends(bytes, at, tags, &leader, entries.as_slice())?;
-    Ok((leader, entries))
+    Ok(leader)
 }
 
 /// The bytes of an entry of the record's directory.
@@ -56,20 +55,21 @@ fn size_of_entry(leader: &Leader) -> usize
     4 + leader.size_length as usize + leader.size_position as usize
 }
 
-/// Reads the directory of the record that begins the bytes.
+/// Reads the directory of the record that begins the bytes, in place of the entries.
 fn read_directory(
-    alloc: Global,
     bytes: &[u8],
     at: usize,
     leader: &Leader,
-) -> Result<Vec<Entry>, FileFault>
+    entries: &mut Vec<Entry>,
+) -> Result<(), FileFault>
     requires { at ≤ 2 ^ 63 }
-    ensures read { GivesBy (λ entries. entries.items) result (directory_at at (frame leader.now) bytes.now) }
-    ensures few { IfOk result (λ entries. 25 + entry_size (frame leader.now) * length entries.items ≤ leader.now.base) }
+    ensures read { GivesBy (λ _. entries.new.items) result (directory_at at (frame leader.now) bytes.now) }
+    ensures few { IfOk result (λ _. 25 + entry_size (frame leader.now) * length entries.new.items ≤ leader.now.base) }
 {
     let closing = leader.base as usize - 1;
     let size = size_of_entry(leader);
-    let mut entries = Vec::with_capacity(alloc, closing.saturating_sub(DIRECTORY) / size)?;
+    entries.clear();
+    entries.reserve(closing.saturating_sub(DIRECTORY) / size)?;
     let mut place = DIRECTORY;
     while place < closing {
         match read_entry(bytes, 0, leader, place) {
@@ -79,7 +79,7 @@ fn read_directory(
         place += size;
     }
     if is_closed(bytes, place) {
-        Ok(entries)
+        Ok(())
     } else {
         Err(FileFault::Directory(at + place))
     }
