@@ -10,7 +10,8 @@ ghost use Rattle.iso8211_records.specs.Tags.{is_listed};
 ghost use Rattle.iso8211_records.specs.Kinds.{AreListed, tags_of};
 ghost use Rattle.iso8211_records.specs.Record.{IsInside, field_bytes};
 ghost use Rattle.iso8211_records.specs.Values.{Finds};
-ghost use Rattle.iso8211_records.specs.Reading.{data_record_at, fields_of, field_by, values_by, first_without, is_described, unless_undescribed};
+ghost use Rattle.iso8211_records.specs.Reading.{data_record_at, fields_of, field_by, values_by, first_without};
+ghost use Rattle.iso8211_records.specs.Reading.{is_described, unless_undescribed};
 
 use crate::budget::Budget;
 use crate::descriptors::DescriptorMap;

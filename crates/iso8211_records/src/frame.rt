@@ -8,7 +8,8 @@ ghost use Rattle.iso8211_leader.specs.Entry.{entry_size};
 ghost use Rattle.iso8211_records.specs.Answers.{Gives, GivesBy};
 ghost use Rattle.iso8211_records.specs.Tags.{is_listed};
 ghost use Rattle.iso8211_records.specs.Record.{IsInside, field_bytes};
-ghost use Rattle.iso8211_records.specs.Reading.{record_at, directory_at, spans_at, ends_at, is_inside, is_ended, has_closing, has_end};
+ghost use Rattle.iso8211_records.specs.Reading.{record_at, directory_at, spans_at, ends_at, is_inside, is_ended};
+ghost use Rattle.iso8211_records.specs.Reading.{has_closing, has_end};
 
 use crate::fault::FileFault;
 use chart_model::codes::FIELD_TERMINATOR;
@@ -69,7 +70,6 @@ fn read_directory(
     let closing = leader.base as usize - 1;
     let size = size_of_entry(leader);
     entries.clear();
-    entries.reserve(closing.saturating_sub(DIRECTORY) / size)?;
     let mut place = DIRECTORY;
     while place < closing {
         match read_entry(bytes, 0, leader, place) {

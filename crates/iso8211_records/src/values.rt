@@ -3,7 +3,8 @@
 ghost use Rattle.std.specs.Prelude.{◌≡◌, ◌⊎◌, ◌<◌, length, position, Ok, Err, Some, None, IfOk, IfSome};
 ghost use Rattle.iso8211_records.specs.declared.value.Value.{Value as ValueOf};
 ghost use Rattle.iso8211_records.specs.Spelling.{unsigned, signed, IsNumberSize, FieldFormats};
-ghost use Rattle.iso8211_records.specs.Values.{Finds, front_at, open_text_at, value_at, values_at, groups_at, values_of, number_size, is_terminator, before, before_all};
+ghost use Rattle.iso8211_records.specs.Values.{Finds, front_at, open_text_at, value_at, values_at, groups_at};
+ghost use Rattle.iso8211_records.specs.Values.{values_of, number_size, is_terminator, before, before_all};
 
 use crate::fault::FieldFault;
 use crate::value::{Value, ValueList};
@@ -28,9 +29,8 @@ pub(crate) fn read_values(
 ) -> Result<ValueList, FieldFault>
     ensures { Finds (λ values. values) result (values_of (record { once = once.now; group = group.now }) text.now) }
 {
-    let mut values = Vec::with_capacity(alloc, once.len())?;
+    let mut values = Vec::with_capacity(alloc, values_expected(once, group, text.len()))?;
     let rest = read_each(alloc, text, once, &mut values)?;
-    values.reserve(values_expected(group, rest.len()))?;
     read_groups(alloc, rest, group, &mut values)?;
     Ok(ValueList::from_vec(values))
 }
@@ -50,13 +50,13 @@ fn group_width(group: &[Format]) -> Option<usize> {
     Some(width)
 }
 
-/// How many values the groups in so many bytes have, where that can be told beforehand: room for them is
-/// made at once.
-fn values_expected(group: &[Format], count: usize) -> usize {
-    match group_width(group) {
+/// How many values so many bytes have at most, where that can be told beforehand: room for them is made at once.
+fn values_expected(once: &[Format], group: &[Format], count: usize) -> usize {
+    let in_groups = match group_width(group) {
         Some(width) if width != 0 => (count / width).saturating_mul(group.len()),
         _ => 0,
-    }
+    };
+    once.len().saturating_add(in_groups)
 }
 
 /// Reads whole groups up to the end of the bytes, and puts their values behind the others.

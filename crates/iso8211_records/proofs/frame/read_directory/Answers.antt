@@ -1,4 +1,4 @@
-use Rattle.std.proofs.Common.{arith, sym, ◌∙◌}
+use Rattle.std.proofs.Common.{arith, sym}
 use Rattle.iso8211_leader.specs.Leader.{frame}
 use Rattle.iso8211_records.specs.Reading.{directory_at, entries_at}
 use Rattle.iso8211_records.proofs.Directory.{directory-more, directory-none, directory-closed, directory-open, nothing-before}
@@ -8,7 +8,7 @@ use Rattle.iso8211_records.proofs.frame.read_directory.Goals as goal
 pub loop-place-init : goal.loop-place-init
 unfolding directory_at
 loop-place-init c =
-    let empty = c.reserve.ensures.items ∙ c.clear.ensures.items in
+    let empty = c.clear.ensures.items in
     let low = c.args.leader.now.after_directory in
     record {
       within = omega arith;
