@@ -1,8 +1,11 @@
 //! The format controls: how a field's subfields are spelled.
 
-ghost use Rattle.std.specs.Prelude.{◌≡◌, ◌+◌, ◌++◌, ◌<◌, ◌≤◌, ◌==◌, if◌then◌else◌, length, replicate, option_map, Some, None};
+ghost use Rattle.std.specs.Prelude.{◌≡◌, ◌+◌, ◌++◌, ◌<◌, ◌≤◌, ◌==◌, if◌then◌else◌, length, replicate, option_map, Some};
+ghost use Rattle.std.specs.Prelude.{None};
 ghost use Rattle.std.specs.List.{slice_split};
-ghost use Rattle.iso8211_formats.specs.Reading.{open_format, binary_format, format_with, sized_format, format_of, count_of, item_of, items_of, formats_of, is_text_letter, before_end, items_text, at_most, behind};
+ghost use Rattle.iso8211_formats.specs.Reading.{open_format, binary_format, format_with, sized_format, format_of};
+ghost use Rattle.iso8211_formats.specs.Reading.{count_of, item_of, items_of, formats_of, is_text_letter, before_end};
+ghost use Rattle.iso8211_formats.specs.Reading.{items_text, at_most, behind};
 ghost use Rattle.arrayvec.specs.ArrayVec.{array_vec_len};
 
 use crate::format::{Format, FormatList};

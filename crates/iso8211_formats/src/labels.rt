@@ -3,7 +3,8 @@
 //! A label is found by its place, so that it may hold any bytes, `!` and `*` too: without a mark
 //! there are five bytes a label but for the last, and with one five bytes each.
 
-ghost use Rattle.std.specs.Prelude.{◌≡◌, ◌++◌, ◌∷◌, ◌+◌, ◌*◌, ◌≤◌, List, ℕ, length, take, option_map, IfSome, IfNone, IsSome, is_some, Some, None};
+ghost use Rattle.std.specs.Prelude.{◌≡◌, ◌++◌, ◌∷◌, ◌+◌, ◌*◌, ◌≤◌, List, ℕ, length, take, option_map, IfSome, IfNone};
+ghost use Rattle.std.specs.Prelude.{IsSome, is_some, Some, None};
 ghost use Rattle.iso8211_formats.specs.Reading.{plain_labels, grouped_labels, labels_of, closed_label};
 ghost use Rattle.arrayvec.specs.ArrayVec.{array_vec_len};
 

@@ -1,6 +1,7 @@
 //! Leaders and entries as they stand in the bytes of a file.
 
-ghost use Rattle.std.specs.Prelude.{◌≡◌, ◌↔◌, true, ◌-◌, ◌+◌, ◌≤◌, ◌<◌, length, slice_index, IfOk, IfErr, IfSome, IfNone, IsTrue, take, drop, MatchOption, codes};
+ghost use Rattle.std.specs.Prelude.{◌≡◌, ◌↔◌, true, ◌-◌, ◌+◌, ◌≤◌, ◌<◌, length, slice_index, IfOk, IfErr, IfSome};
+ghost use Rattle.std.specs.Prelude.{IfNone, IsTrue, take, drop, MatchOption, codes};
 ghost use Rattle.std.specs.Option.{SomeIff};
 ghost use Rattle.std.specs.List.{slice_range};
 ghost use Rattle.iso8211_leader.specs.Leader.{leader_text, HasLeader, frame_of, frame, identifier};

@@ -12,7 +12,7 @@ use Rattle.iso8211_records.specs.declared.fault.FileFault.TheVariants.{Directory
 use Rattle.iso8211_records.specs.Frames.{is_entry}
 use Rattle.chart_model.specs.Answers.{◌>>=◌}
 use Rattle.iso8211_records.specs.Reading.{entries_at, has_closing}
-use Rattle.iso8211_records.proofs.Options.{both, both_parts}
+use Rattle.iso8211_records.proofs.PassedTests.{both, both_parts}
 use Rattle.iso8211_records.proofs.FrameTests.{is_entry-is, is_entry-from}
 
 -- what was read, behind what was read before it

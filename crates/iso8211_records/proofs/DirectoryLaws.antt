@@ -17,7 +17,7 @@ use Rattle.iso8211_records.specs.Frames.{is_entry}
 use Rattle.iso8211_records.specs.Record.{IsDirectory}
 use Rattle.chart_model.specs.Answers.{◌>>=◌}
 use Rattle.iso8211_records.specs.Reading.{entries_at, has_closing}
-use Rattle.iso8211_records.proofs.Options.{both, both_parts}
+use Rattle.iso8211_records.proofs.PassedTests.{both, both_parts}
 use Rattle.iso8211_records.proofs.Directory.{lt-test, eq-test, entries_at-step, entries_at-stop, entries_at-closed, entries_at-open, entry-from-tests, entry-tests, behind, nothing-before}
 
 -- the text between two places: its front, and what stands behind that

@@ -6,7 +6,7 @@ use Rattle.iso8211_records.specs.declared.value.Value.{Value}
 use Rattle.iso8211_records.specs.Spelling.{AreSpelled, FieldFormats, groups, IsFieldText}
 use Rattle.iso8211_formats.specs.Reading.{◌>>=◌}
 use Rattle.iso8211_records.specs.Values.{value_at, values_at, groups_at, values_of}
-use Rattle.iso8211_records.proofs.Options.{bind_some}
+use Rattle.iso8211_formats.proofs.GivenValues.{bind_some}
 use Rattle.iso8211_records.proofs.ValueLaws.{value_at-sound, value_at-again, Spells-some}
 
 -- ---- a list of values

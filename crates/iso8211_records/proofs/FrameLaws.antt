@@ -18,7 +18,7 @@ use Rattle.iso8211_records.specs.Frames.{is_leader}
 use Rattle.iso8211_records.specs.Record.{IsDirectory, IsRecord, IsInside, IsEnded, field_end, field_bytes}
 use Rattle.iso8211_records.specs.Reading.{unless_at, place_without, leader_at, directory_at, spans_at, ends_at, record_at, Framed, is_inside, is_ended, has_end}
 use Rattle.iso8211_records.specs.Fault.{IsFirstWithout, entry_place, HasDirectory, BreaksDirectory, BreaksSpan, BreaksEnd, HasFrameFault}
-use Rattle.iso8211_records.proofs.Options.{both, both_parts}
+use Rattle.iso8211_records.proofs.PassedTests.{both, both_parts}
 use Rattle.iso8211_records.proofs.Results.{cond_ok}
 use Rattle.iso8211_records.proofs.FrameTests.{is_leader-is, is_leader-from}
 use Rattle.iso8211_records.proofs.Firsts.{IsTest, place_without-some, place_without-none, place_without-each, place_without-is}

@@ -9,7 +9,7 @@ use Rattle.iso8211_leader.specs.Digits.{AreDigits, number_of}
 use Rattle.iso8211_leader.specs.Leader.{Frame, HasLeader, identifier, length_digits, base_digits}
 use Rattle.iso8211_leader.specs.Entry.{IsEntry, entry_size, field_length, field_position}
 use Rattle.iso8211_records.specs.Frames.{is_leader, is_entry}
-use Rattle.iso8211_records.proofs.Options.{both_parts, both}
+use Rattle.iso8211_records.proofs.PassedTests.{both_parts, both}
 
 eq-test : (a b : ℕ) → eqb a b ≡ true → a ≡ b
 eq-test a b h = grind (arith, nat_tests)

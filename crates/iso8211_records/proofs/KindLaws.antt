@@ -24,7 +24,7 @@ use Rattle.iso8211_records.specs.Record.{describing, field_bytes}
 use Rattle.iso8211_records.specs.Values.{values_of}
 use Rattle.chart_model.specs.Answers.{◌>>=◌, or_fault}
 use Rattle.iso8211_records.specs.Reading.{descriptors_in, descriptive_record_at, record_at, Framed, values_by, field_by, fields_of, data_record_at, data_records_at}
-use Rattle.iso8211_records.proofs.Options.{both_parts}
+use Rattle.iso8211_records.proofs.PassedTests.{both_parts}
 use Rattle.iso8211_records.proofs.FieldLaws.{values_of-sound}
 use Rattle.iso8211_records.proofs.Results.{bind_ok}
 use Rattle.iso8211_records.proofs.Records.{data_record_at-is}

@@ -1,5 +1,5 @@
 mod Tagged
-mod Options
+mod PassedTests
 mod ValueLaws
 mod FieldLaws
 mod ListedTags

@@ -8,7 +8,7 @@ use Rattle.iso8211_records.specs.declared.fault.FieldFault.{FieldFault}
 use Rattle.iso8211_records.specs.declared.fault.FieldFault.TheVariants.{Unspelled, NoMemory}
 use Rattle.iso8211_formats.specs.Reading.{◌>>=◌}
 use Rattle.iso8211_records.specs.Values.{Lacks, before, before_all, value_at, values_at, groups_at}
-use Rattle.iso8211_records.proofs.Options.{bind_some}
+use Rattle.iso8211_formats.proofs.GivenValues.{bind_some}
 use Rattle.iso8211_records.proofs.FieldLaws.{values_at-sound, AreSpelled-shorter, groups_at-nil}
 
 regroup : (front : List Value) (value : Value) (read : Option (List Value × List ℕ)) → before front (read >>= λ x. Some (value ∷ x.0, x.1)) ≡ before (front ++ value ∷ []) read

@@ -13,7 +13,8 @@ use Rattle.iso8211_records.specs.declared.value.Value.{Value}
 use Rattle.iso8211_records.specs.declared.value.Value.TheVariants.{Number, Text, Bits}
 use Rattle.iso8211_records.specs.Spelling.{IsNumberSize, IsTextByte, Spells, unsigned, signed}
 use Rattle.iso8211_records.specs.Values.{front_at, number_size, is_terminator, open_text_at, value_at}
-use Rattle.iso8211_records.proofs.Options.{bind_some, both_parts, both}
+use Rattle.iso8211_formats.proofs.GivenValues.{bind_some}
+use Rattle.iso8211_records.proofs.PassedTests.{both_parts, both}
 
 -- what a front of bytes is
 pub record IsFront (size : ℕ) (bytes front rest : List ℕ) : Type 0 where

@@ -1,7 +1,7 @@
 use Rattle.std.proofs.Common.{◌+◌, length, ap, Err, ◌∙◌, arith}
 use Rattle.std.proofs.lemmas.Result.{err_from_is_err_and}
 use Rattle.iso8211_records.specs.declared.fault.FileFault.{FileFault}
-use Rattle.iso8211_records.proofs.Options.{empty-false, empty-true}
+use Rattle.iso8211_records.proofs.PassedTests.{empty-false, empty-true}
 use Rattle.iso8211_records.proofs.Records.{records-more, records-fail, records-all, come_to-failed, come_to-some, counted-more, counted-all}
 use Rattle.iso8211_records.proofs.file.read_data_records.Goals as goal
 

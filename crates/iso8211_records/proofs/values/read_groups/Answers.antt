@@ -1,6 +1,6 @@
 use Rattle.std.proofs.Common.{refl}
 use Rattle.std.proofs.lemmas.Result.{err_from_is_err_and}
-use Rattle.iso8211_records.proofs.Options.{empty-false, empty-true}
+use Rattle.iso8211_records.proofs.PassedTests.{empty-false, empty-true}
 use Rattle.iso8211_records.proofs.Loops.{groups-more, groups-fail, groups-all, groups-none, shorter-rest, before-shorter}
 use Rattle.iso8211_records.proofs.values.read_groups.Goals as goal
 
