@@ -18,15 +18,13 @@ use Rattle.iso8211_records.specs.Record.{IsRecord, IsInside, IsEnded, field_byte
 use Rattle.chart_model.specs.Answers.{◌>>=◌, or_fault}
 use Rattle.iso8211_records.specs.Reading.{first_without, is_described, unless_undescribed, Framed, record_at, descriptors_in, descriptive_record_at, values_by, field_by, fields_of, data_record_at}
 use Rattle.iso8211_records.specs.Fault.{IsFirstWithout, BeginsRecord, HasDescriptiveFault, IsDescribed, IsReadable, HasDataFault, HasFrameFault}
-use Rattle.iso8211_records.proofs.Results.{bind_ok}
-use Rattle.iso8211_records.proofs.Firsts.{first_without-some, first_without-none, first_without-each, first_without-is}
+use Rattle.iso8211_records.proofs.Results.{bind_ok, err_is}
+use Rattle.iso8211_records.proofs.Firsts.{first-here, first_without-some, first_without-none, first_without-each, first_without-is}
 use Rattle.iso8211_records.proofs.FrameLaws.{same-field, Begins, record_at-sound, record_at-again, record_at-fault, record_at-faulty}
 use Rattle.iso8211_records.proofs.Records.{data_record_at-is}
 use Rattle.iso8211_records.proofs.KindLaws.{descriptive_record_at-is}
-use Rattle.iso8211_records.proofs.HoldLaws.{SpellingLaw, err_bind, first-later, first-here, or_fault-some, descriptors_in-sound, descriptors_in-again, descriptors_in-fault, descriptors_in-faulty, is_described-test, values_by-sound, values_by-again}
-
-err_is : {A : Type 0} {f g : FileFault} → (let r : Result A FileFault = Err f in r ≡ Err g) → f ≡ g
-err_is e = cc
+use Rattle.iso8211_records.proofs.HoldLaws.{SpellingLaw, err_bind, first-later, or_fault-some, descriptors_in-sound, descriptors_in-again, descriptors_in-fault, descriptors_in-faulty, is_described-test, values_by-sound, values_by-again}
+use Rattle.iso8211_records.proofs.ListedTags.{none-undescribed}
 
 -- ---- fields
 
@@ -196,10 +194,6 @@ AreFieldsOf-described tags pairs frame bytes (entry ∷ entries) (field ∷ fiel
   AreFieldsOf-described tags pairs frame bytes entries fields h.1,
 )
 
-unless_undescribed-ok : (o : Option Entry) → unless_undescribed o ≡ Ok tt → o ≡ None
-unless_undescribed-ok None h = refl
-unless_undescribed-ok (Some entry) h = absurd cc
-
 pub record IsDataAt (tags : List (List ℕ)) (pairs : List (List ℕ × Layout)) (bytes : List ℕ) (fields : List RawField) (size : ℕ) : Type 0 where
   pub piece : List ℕ
   pub rest : List ℕ
@@ -298,7 +292,7 @@ data_record_at-fault tags pairs number at bytes fault h =
         sym (fields_of-same tags pairs number framed.frame b.piece b.rest framed.entries len k.inside)
         ∙ ap (λ (l : List ℕ). fields_of tags pairs number framed.frame l framed.entries) (sym b.parts) ∙ bad in
         let f = fields_of-fault tags pairs number framed.frame b.piece framed.entries fault k.ended here in
-        let each = first_without-none (is_described tags pairs) (IsDescribed tags pairs) framed.entries (is_described-test tags pairs) (unless_undescribed-ok (first_without (is_described tags pairs) framed.entries) described) in
+        let each = first_without-none (is_described tags pairs) (IsDescribed tags pairs) framed.entries (is_described-test tags pairs) (none-undescribed (first_without (is_described tags pairs) framed.entries) described) in
         subst (λ (x : FileFault). HasDataFault tags pairs number at bytes x) (sym f.3)
         (b.piece, framed.frame, framed.entries, f.0, f.1, begins tags false bytes framed b, each, f.2, refl, refl)
 

@@ -1,5 +1,5 @@
 -- Reading a directory, an entry at a time.
-use Rattle.std.proofs.Common.{◌≡◌, ℕ, zero, suc, ◌-◌, ◌+◌, ◌≤◌, ◌<◌, true, false, List, [], ◌∷◌, ◌++◌, Result, Ok, Err, refl, sym, ap, ◌∙◌, append_assoc, ltb, leb, eqb, arith, inl, inr}
+use Rattle.std.proofs.Common.{◌≡◌, ℕ, zero, suc, ◌-◌, ◌+◌, ◌≤◌, ◌<◌, true, false, List, [], ◌∷◌, ◌++◌, Result, Ok, Err, refl, sym, ap, ◌∙◌, append_assoc, ltb, leb, arith, inl, inr}
 use Rattle.std.specs.Prelude.{◌&&◌}
 use Rattle.std.proofs.lemmas.List.{append-nil}
 use Rattle.std.proofs.lemmas.Bool.{cases_lt}
@@ -12,7 +12,7 @@ use Rattle.iso8211_records.specs.declared.fault.FileFault.TheVariants.{Directory
 use Rattle.iso8211_records.specs.Frames.{is_entry}
 use Rattle.chart_model.specs.Answers.{◌>>=◌}
 use Rattle.iso8211_records.specs.Reading.{entries_at, has_closing}
-use Rattle.iso8211_records.proofs.PassedTests.{both, both_parts}
+use Rattle.iso8211_records.proofs.PassedTests.{both, both_parts, le-test, le-is}
 use Rattle.iso8211_records.proofs.FrameTests.{is_entry-is, is_entry-from}
 
 -- what was read, behind what was read before it
@@ -32,15 +32,6 @@ lt-test a b h = grind (arith, nat_tests)
 
 pub ge-test : (a b : ℕ) → b ≤ a → ltb a b ≡ false
 ge-test a b h = grind (arith, nat_tests)
-
-pub le-test : (a b : ℕ) → a ≤ b → leb a b ≡ true
-le-test a b h = grind (arith, nat_tests)
-
-pub le-is : (a b : ℕ) → leb a b ≡ true → a ≤ b
-le-is a b h = grind (arith, nat_tests)
-
-pub eq-test : (a b : ℕ) → a ≡ b → eqb a b ≡ true
-eq-test a b h = grind (arith, nat_tests)
 
 -- a bound on the entries is enough where it is more than what is left of the directory
 pub entries_at-bound : (bound other at : ℕ) (frame : Frame) (bytes : List ℕ) (place : ℕ) → frame.base - 1 - place < bound → frame.base - 1 - place < other → entries_at bound at frame bytes place ≡ entries_at other at frame bytes place

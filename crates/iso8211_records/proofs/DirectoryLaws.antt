@@ -17,8 +17,8 @@ use Rattle.iso8211_records.specs.Frames.{is_entry}
 use Rattle.iso8211_records.specs.Record.{IsDirectory}
 use Rattle.chart_model.specs.Answers.{◌>>=◌}
 use Rattle.iso8211_records.specs.Reading.{entries_at, has_closing}
-use Rattle.iso8211_records.proofs.PassedTests.{both, both_parts}
-use Rattle.iso8211_records.proofs.Directory.{lt-test, eq-test, entries_at-step, entries_at-stop, entries_at-closed, entries_at-open, entry-from-tests, entry-tests, behind, nothing-before}
+use Rattle.iso8211_records.proofs.PassedTests.{both, both_parts, eq-test}
+use Rattle.iso8211_records.proofs.Directory.{lt-test, entries_at-step, entries_at-stop, entries_at-closed, entries_at-open, entry-from-tests, entry-tests, behind, nothing-before}
 
 -- the text between two places: its front, and what stands behind that
 pub front-text : (bytes : List ℕ) (place size end : ℕ) → place + size ≤ end → take size (slice_range bytes place end) ≡ take size (drop place bytes)

@@ -18,9 +18,6 @@ use Rattle.iso8211_records.proofs.Records.{data_record-size, records-step, come_
 use Rattle.iso8211_records.proofs.HoldLaws.{SpellingLaw, err_bind}
 use Rattle.iso8211_records.proofs.DataLaws.{data_record_at-sound, data_record_at-again, data_record_at-fault, data_record_at-faulty, descriptive_record_at-sound, descriptive_record_at-again, descriptive_record_at-fault, descriptive_record_at-faulty}
 
-pub err_is : {A : Type 0} {f g : FileFault} → (let r : Result A FileFault = Err f in r ≡ Err g) → f ≡ g
-err_is e = cc
-
 pub ok_is : {A : Type 0} {x y : A} → (let r : Result A FileFault = Ok x in r ≡ Ok y) → x ≡ y
 ok_is e = cc
 

@@ -36,7 +36,7 @@ first-later P x xs count y h f = record {
   fails = f.fails;
 }
 
-first-here : {A : Type 0} (P : A → Type 0) (x : A) (xs : List A) → (P x → ⊥) → IsFirstWithout P (x ∷ xs) 0 x
+pub first-here : {A : Type 0} (P : A → Type 0) (x : A) (xs : List A) → (P x → ⊥) → IsFirstWithout P (x ∷ xs) 0 x
 first-here P x xs h = record { before = []; after = xs; parts = refl; counted = refl; each = tt; fails = h }
 
 pub first_without-some : {A : Type 0} (passes : A → Bool) (P : A → Type 0) (xs : List A) (y : A) → IsTest passes P → first_without passes xs ≡ Some y → (count : ℕ) × IsFirstWithout P xs count y

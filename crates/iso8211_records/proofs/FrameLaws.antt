@@ -18,11 +18,11 @@ use Rattle.iso8211_records.specs.Frames.{is_leader}
 use Rattle.iso8211_records.specs.Record.{IsDirectory, IsRecord, IsInside, IsEnded, field_end, field_bytes}
 use Rattle.iso8211_records.specs.Reading.{unless_at, place_without, leader_at, directory_at, spans_at, ends_at, record_at, Framed, is_inside, is_ended, has_end}
 use Rattle.iso8211_records.specs.Fault.{IsFirstWithout, entry_place, HasDirectory, BreaksDirectory, BreaksSpan, BreaksEnd, HasFrameFault}
-use Rattle.iso8211_records.proofs.PassedTests.{both, both_parts}
-use Rattle.iso8211_records.proofs.Results.{cond_ok}
+use Rattle.iso8211_records.proofs.PassedTests.{both, both_parts, le-test, le-is, eq-test}
+use Rattle.iso8211_records.proofs.Results.{cond_ok, err_is}
 use Rattle.iso8211_records.proofs.FrameTests.{is_leader-is, is_leader-from}
 use Rattle.iso8211_records.proofs.Firsts.{IsTest, place_without-some, place_without-none, place_without-each, place_without-is}
-use Rattle.iso8211_records.proofs.Directory.{lt-test, le-test, le-is, eq-test}
+use Rattle.iso8211_records.proofs.Directory.{lt-test}
 use Rattle.iso8211_records.proofs.DirectoryLaws.{entries_at-sound, entries_at-again, entries_at-breaks, entries_at-broken}
 use Rattle.iso8211_records.proofs.Framing.{leader_at-none, leader_at-some, record_at-leader, record_at-directory, record_at-spans, record_at-ends, record_at-all, spans_at-whole, spans_at-inside}
 use Rattle.iso8211_records.proofs.Records.{IsFramed, record_at-is}
@@ -73,9 +73,6 @@ is_ended-test tags frame bytes = record {
     no : (listed : Bool) (field : List ℕ) → (not listed || has_end field) ≡ false → (IsTrue listed → (text : List ℕ) × (field ≡ text ++ 30 ∷ [])) → ⊥
     no true field e h = let p = h refl in let yes : has_end field ≡ true = ap has_end p.1 ∙ has_end-from p.0 in let bad : true ≡ false = sym yes ∙ e in cc
     no false field e h = cc
-
-err_is : {A : Type 0} {f g : FileFault} → (let r : Result A FileFault = Err f in r ≡ Err g) → f ≡ g
-err_is e = cc
 
 -- ---- spans
 

@@ -9,24 +9,21 @@ use Rattle.iso8211_leader.specs.Digits.{AreDigits, number_of}
 use Rattle.iso8211_leader.specs.Leader.{Frame, HasLeader, identifier, length_digits, base_digits}
 use Rattle.iso8211_leader.specs.Entry.{IsEntry, entry_size, field_length, field_position}
 use Rattle.iso8211_records.specs.Frames.{is_leader, is_entry}
-use Rattle.iso8211_records.proofs.PassedTests.{both_parts, both}
+use Rattle.iso8211_records.proofs.PassedTests.{both_parts, both, le-test, le-is, eq-test}
 
-eq-test : (a b : ℕ) → eqb a b ≡ true → a ≡ b
-eq-test a b h = grind (arith, nat_tests)
-
-test-eq : (a b : ℕ) → a ≡ b → eqb a b ≡ true
-test-eq a b h = grind (arith, nat_tests)
+eq-is : (a b : ℕ) → eqb a b ≡ true → a ≡ b
+eq-is a b h = grind (arith, nat_tests)
 
 pub is_entry-is : (frame : Frame) (text : List ℕ) → is_entry frame text ≡ true → IsEntry frame text
 unfolding is_entry AreDigits
 is_entry-is frame text h =
     let p = both_parts (eqb (length text) (entry_size frame) && list_all is_ascii_digit (field_length frame text)) (list_all is_ascii_digit (field_position frame text)) h in
     let q = both_parts (eqb (length text) (entry_size frame)) (list_all is_ascii_digit (field_length frame text)) p.0 in
-    record { whole = eq-test _ _ q.0; length_in_digits = q.1; position_in_digits = p.1 }
+    record { whole = eq-is _ _ q.0; length_in_digits = q.1; position_in_digits = p.1 }
 
 pub is_entry-from : (frame : Frame) (text : List ℕ) → IsEntry frame text → is_entry frame text ≡ true
 unfolding is_entry AreDigits
-is_entry-from frame text h = both _ _ (both _ _ (test-eq _ _ h.whole) h.length_in_digits) h.position_in_digits
+is_entry-from frame text h = both _ _ (both _ _ (eq-test _ _ h.whole) h.length_in_digits) h.position_in_digits
 
 -- two bytes of a text, and as a list
 two_bytes : (text : List ℕ) (i : ℕ) → i + 2 ≤ length text → take 2 (drop i text) ≡ get_or text i 0 ∷ get_or text (i + 1) 0 ∷ []
@@ -39,7 +36,7 @@ control_from : (first : Bool) (text : List ℕ) → length text ≡ 24 → (not 
 control_from false text whole h is = absurd cc
 control_from true text whole h is =
     let p = both_parts (eqb (get_or text 10 0) 48) (eqb (get_or text 11 0) 57) h in
-    two_bytes text 10 (omega arith) ∙ rw (eq-test _ _ p.0, eq-test _ _ p.1) refl
+    two_bytes text 10 (omega arith) ∙ rw (eq-is _ _ p.0, eq-is _ _ p.1) refl
 
 control_test : (first : Bool) (text : List ℕ) → length text ≡ 24 → (first ≡ true → slice_range text 10 12 ≡ 48 ∷ 57 ∷ []) → (not first || (eqb (get_or text 10 0) 48 && eqb (get_or text 11 0) 57)) ≡ true
 control_test false text whole h = refl
@@ -47,7 +44,7 @@ control_test true text whole h =
     let e : get_or text 10 0 ∷ get_or text 11 0 ∷ [] ≡ 48 ∷ 57 ∷ [] = sym (two_bytes text 10 (omega arith)) ∙ h refl in
     let a : get_or text 10 0 ≡ 48 = cc in
     let b : get_or text 11 0 ≡ 57 = cc in
-    both _ _ (test-eq _ _ a) (test-eq _ _ b)
+    both _ _ (eq-test _ _ a) (eq-test _ _ b)
 
 -- a number between two others
 in_range-is : (low high n : ℕ) → is_in_range low high n ≡ true → IsInRange low high n
@@ -55,12 +52,6 @@ in_range-is low high n h = grind (arith, nat_tests)
 
 in_range-from : (low high n : ℕ) → IsInRange low high n → is_in_range low high n ≡ true
 in_range-from low high n h = grind (arith, nat_tests)
-
-at_most-is : (a b : ℕ) → leb a b ≡ true → a ≤ b
-at_most-is a b h = grind (arith, nat_tests)
-
-at_most-from : (a b : ℕ) → a ≤ b → leb a b ≡ true
-at_most-from a b h = grind (arith, nat_tests)
 
 -- ten tests one after the other
 record AllTen (a b c d e f g h i j : Bool) : Type 0 where
@@ -97,29 +88,29 @@ is_leader-is first text h =
     (leb 25 (number_of (base_digits text))) (leb (number_of (base_digits text)) (number_of (length_digits text)))
     (is_in_range 49 57 (slice_index text 20)) (is_in_range 49 57 (slice_index text 21)) (eqb (slice_index text 23) 52) h in
     record {
-      whole = eq-test _ _ p.first;
+      whole = eq-is _ _ p.first;
       length_in_digits = p.second;
-      kind = eq-test _ _ p.third;
-      control_length = control_from first text (eq-test _ _ p.first) p.fourth;
+      kind = eq-is _ _ p.third;
+      control_length = control_from first text (eq-is _ _ p.first) p.fourth;
       base_in_digits = p.fifth;
-      directory = at_most-is _ _ p.sixth;
-      field_area = at_most-is _ _ p.seventh;
+      directory = le-is _ _ p.sixth;
+      field_area = le-is _ _ p.seventh;
       size_of_length = in_range-is 49 57 _ p.eighth;
       size_of_position = in_range-is 49 57 _ p.ninth;
-      size_of_tag = eq-test _ _ p.tenth;
+      size_of_tag = eq-is _ _ p.tenth;
     }
 
 pub is_leader-from : (first : Bool) (text : List ℕ) → HasLeader first text → is_leader first text ≡ true
 unfolding is_leader AreDigits
 is_leader-from first text h =
     both _ _ (both _ _ (both _ _ (both _ _ (both _ _ (both _ _ (both _ _ (both _ _ (both _ _
-    (test-eq _ _ h.whole)
+    (eq-test _ _ h.whole)
     h.length_in_digits)
-    (test-eq _ _ h.kind))
+    (eq-test _ _ h.kind))
     (control_test first text h.whole h.control_length))
     h.base_in_digits)
-    (at_most-from _ _ h.directory))
-    (at_most-from _ _ h.field_area))
+    (le-test _ _ h.directory))
+    (le-test _ _ h.field_area))
     (in_range-from 49 57 _ h.size_of_length))
     (in_range-from 49 57 _ h.size_of_position))
-    (test-eq _ _ h.size_of_tag)
+    (eq-test _ _ h.size_of_tag)

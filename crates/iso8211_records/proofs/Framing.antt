@@ -11,8 +11,8 @@ use Rattle.iso8211_records.specs.Frames.{is_leader}
 use Rattle.iso8211_records.specs.Record.{IsInside}
 use Rattle.iso8211_records.specs.Reading.{unless_at, place_without, is_inside, leader_at, directory_at, spans_at, ends_at, record_at}
 use Rattle.iso8211_records.proofs.FrameTests.{is_leader-is, is_leader-from}
-use Rattle.iso8211_records.proofs.Directory.{le-is}
 use Rattle.iso8211_records.proofs.Results.{Fails-bind, cond_ok}
+use Rattle.iso8211_records.proofs.PassedTests.{le-is}
 
 -- ---- leaders
 

@@ -22,7 +22,7 @@ use Rattle.iso8211_records.specs.Reading.{is_described, descriptors_in, values_b
 use Rattle.iso8211_records.specs.Fault.{IsFirstWithout, Describes, IsDescribed}
 use Rattle.iso8211_records.proofs.Results.{bind_ok}
 use Rattle.iso8211_records.proofs.FieldLaws.{values_of-sound, values_of-again}
-use Rattle.iso8211_records.proofs.Firsts.{IsTest}
+use Rattle.iso8211_records.proofs.Firsts.{IsTest, first-here}
 
 -- a descriptor is read exactly where one is spelled
 abbrev pub SpellingLaw : Type 0
@@ -63,9 +63,6 @@ descriptors_in-again law frame bytes (entry ∷ entries) (pair ∷ pairs) h =
 
 pub first-later : {A : Type 0} (P : A → Type 0) (x : A) (xs : List A) (count : ℕ) (y : A) → P x → IsFirstWithout P xs count y → IsFirstWithout P (x ∷ xs) (suc count) y
 first-later P x xs count y h f = record { before = x ∷ f.before; after = f.after; parts = ap (λ (l : List _). x ∷ l) f.parts; counted = ap (λ n. suc n) f.counted; each = (h, f.each); fails = f.fails }
-
-pub first-here : {A : Type 0} (P : A → Type 0) (x : A) (xs : List A) → (P x → ⊥) → IsFirstWithout P (x ∷ xs) 0 x
-first-here P x xs h = record { before = []; after = xs; parts = refl; counted = refl; each = tt; fails = h }
 
 pub descriptors_in-fault : SpellingLaw → (frame : Frame) (bytes : List ℕ) (entries : List Entry) (fault : FileFault) → descriptors_in frame bytes entries ≡ Err fault
     → (count : ℕ) × (entry : Entry) × IsFirstWithout (Describes frame bytes) entries count entry × (fault ≡ Descriptor entry.tag)

@@ -61,7 +61,7 @@ fields_of-described tags pairs number frame bytes (entry ∷ entries) listed h =
       | false ↦ λ e k. absurd cc
     ] refl h
 
-none-undescribed : (o : Option Entry) → unless_undescribed o ≡ Ok tt → o ≡ None
+pub none-undescribed : (o : Option Entry) → unless_undescribed o ≡ Ok tt → o ≡ None
 none-undescribed None h = refl
 none-undescribed (Some entry) h = absurd cc
 

@@ -1,12 +1,7 @@
 -- What follows from a test that passed.
-use Rattle.std.proofs.Common.{◌≡◌, ℕ, ◌<◌, arith, Bool, true, false, cond, Option, Some, None, refl}
+use Rattle.std.proofs.Common.{◌≡◌, ℕ, ◌<◌, ◌≤◌, arith, Bool, true, false, leb, eqb, refl}
 use Rattle.std.specs.Prelude.{◌&&◌, ◌==◌}
 use Rattle.std.proofs.lemmas.Bool.Decides.{nat_tests}
-
--- the value under a test that passed
-pub cond_is : {A : Type 0} (b : Bool) (r : Option A) (y : A) → cond b r None ≡ Some y → (b ≡ true) × (r ≡ Some y)
-cond_is true r y e = (refl, e)
-cond_is false r y e = absurd cc
 
 pub both_parts : (b c : Bool) → (b && c) ≡ true → (b ≡ true) × (c ≡ true)
 both_parts true c e = (refl, e)
@@ -22,3 +17,13 @@ empty-false n h = grind (arith, nat_tests)
 
 pub empty-true : (n : ℕ) → true ≡ (n == 0) → n ≡ 0
 empty-true n h = grind (arith, nat_tests)
+
+-- what tests of numbers say
+pub le-test : (a b : ℕ) → a ≤ b → leb a b ≡ true
+le-test a b h = grind (arith, nat_tests)
+
+pub le-is : (a b : ℕ) → leb a b ≡ true → a ≤ b
+le-is a b h = grind (arith, nat_tests)
+
+pub eq-test : (a b : ℕ) → a ≡ b → eqb a b ≡ true
+eq-test a b h = grind (arith, nat_tests)

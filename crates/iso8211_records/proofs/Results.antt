@@ -47,3 +47,6 @@ bind_ok (Err fault) f y e = absurd cc
 pub cond_ok : {A : Type 0} (b : Bool) (r : Result A FileFault) (fault : FileFault) (y : A) → cond b r (Err fault) ≡ Ok y → (b ≡ true) × (r ≡ Ok y)
 cond_ok true r fault y e = (refl, e)
 cond_ok false r fault y e = absurd cc
+
+pub err_is : {A : Type 0} {f g : FileFault} → (let r : Result A FileFault = Err f in r ≡ Err g) → f ≡ g
+err_is e = cc

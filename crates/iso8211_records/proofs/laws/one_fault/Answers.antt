@@ -1,6 +1,6 @@
 use Rattle.std.proofs.Common.{sym, ◌∙◌}
 use Rattle.iso8211_records.specs.FileValue.{FileValue}
-use Rattle.iso8211_records.proofs.FileLaws.{err_is}
+use Rattle.iso8211_records.proofs.Results.{err_is}
 use Rattle.iso8211_records.proofs.laws.one_fault.Goals as goal
 
 pub returns : goal.returns
