@@ -180,7 +180,6 @@ fn number_front(bytes: &[u8], size: u8) -> Result<(&[u8], &[u8]), FieldFault>
 }
 
 /// The number that bytes are, the least significant first.
-#[inline(always)]
 #[tactic(auto, unfolding(crate::specs::Spelling::unsigned))]
 fn unsigned_of(bytes: &[u8]) -> u32
     requires { IsNumberSize (length bytes.now) }
