@@ -1,11 +1,11 @@
 -- Users that are added one after the other.
-use Rattle.std.proofs.Common.{◌≡◌, Bool, true, false, cond, ◌||◌, List, [], ◌∷◌, ◌++◌, length, Option, Some, None, slice_get, refl, sym, ap, ◌∙◌, subst, append-nil, ◌-◌, arith, length-append, Result, Ok, Err, OnOk}
-use Rattle.std.specs.Option.{unwrap_or, is_some}
+use Rattle.std.proofs.Common.{◌≡◌, Bool, true, false, cond, ◌||◌, List, [], ◌∷◌, ◌++◌, length, Option, Some, None, slice_get, refl, sym, ap, ◌∙◌, append-nil, ◌-◌, arith, length-append, Result, Ok, Err, OnOk}
+use Rattle.std.specs.Option.{unwrap_or}
 use Rattle.std.specs.FinMap as map
 use Rattle.std.specs.FinMap.{FinMap}
 use Rattle.chart_model.specs.declared.name.Name.{Name}
 use Rattle.chart_model.specs.declared.record.Pointer.{Pointer}
-use Rattle.chart_model.specs.Names.{name_cmp, edited_in, edited_at}
+use Rattle.chart_model.specs.Names.{name_cmp}
 use Rattle.chart_model.proofs.Names.{name_cmp-total}
 use Rattle.topology_cache.specs.Users.{same_name, users_at, points_to_any}
 use Rattle.topology_cache.specs.Added.{is_user, is_last, with_user, added_at}
@@ -22,39 +22,23 @@ put_users m target user name =
       | false ↦ λ e. refl
     ] refl
 
--- users that are there are edited in their place
-edited_users : (m : FinMap name_cmp (List Name)) (target user name : Name) → is_some (map.get m target) ≡ true
-    → users_at (edited_in (with_user user) m target) name ≡ added_at target user name (users_at m name)
-edited_users m target user name there =
-    elim (map.get m target) as (λ o. map.get m target ≡ o → is_some o ≡ true → users_at (edited_at (with_user user) m target o) name ≡ added_at target user name (users_at m name)) [
-      | None ↦ λ e h. absurd (subst (λ (b : Bool). elim b as (λ _. Type 0) [ true ↦ ⊥ | false ↦ Unit {0} ]) h tt)
-      | Some users ↦ λ e h.
-          ap (λ (v : List Name). users_at (map.insert m target (with_user user v)) name) (sym (ap (λ (o : Option (List Name)). unwrap_or o []) e))
-          ∙ put_users m target user name
-    ] refl there
+-- one more behind the users of the target, in a call that may want memory
+pub pushed_told : {A E : Type 0} (r : Result A E) (m n : FinMap name_cmp (List Name)) (target user : Name) (before after : List Name)
+    → map.get m target ≡ Some before → n ≡ map.insert m target after → OnOk r (after ≡ with_user user before)
+    → OnOk r ((name : Name) → users_at n name ≡ added_at target user name (users_at m name))
+pushed_told (Ok x) m n target user before after found put pushed = λ name.
+    ap (λ (o : FinMap name_cmp (List Name)). users_at o name) (put ∙ ap (map.insert m target) pushed)
+    ∙ ap (λ (v : List Name). users_at (map.insert m target (with_user user v)) name) (sym (ap (λ (o : Option (List Name)). unwrap_or o []) found))
+    ∙ put_users m target user name
+pushed_told (Err fault) m n target user before after found put pushed = tt
 
 -- the first user of a target
-first_user : (m : FinMap name_cmp (List Name)) (target user name : Name) → is_some (map.get m target) ≡ false
-    → users_at (map.insert m target (user ∷ [])) name ≡ added_at target user name (users_at m name)
-first_user m target user name absent =
-    elim (map.get m target) as (λ o. map.get m target ≡ o → is_some o ≡ false → users_at (map.insert m target (user ∷ [])) name ≡ added_at target user name (users_at m name)) [
-      | None ↦ λ e h.
-          ap (λ (v : List Name). users_at (map.insert m target (with_user user v)) name) (sym (ap (λ (o : Option (List Name)). unwrap_or o []) e))
-          ∙ put_users m target user name
-      | Some users ↦ λ e h. absurd (subst (λ (b : Bool). elim b as (λ _. Type 0) [ true ↦ Unit {0} | false ↦ ⊥ ]) h tt)
-    ] refl absent
-
--- the same of a call that may want memory
-pub edited_told : {A E : Type 0} (r : Result A E) (m n : FinMap name_cmp (List Name)) (target user : Name) → is_some (map.get m target) ≡ true
-    → OnOk r (n ≡ edited_in (with_user user) m target) → OnOk r ((name : Name) → users_at n name ≡ added_at target user name (users_at m name))
-edited_told (Ok x) m n target user there e = λ name. ap (λ (o : FinMap name_cmp (List Name)). users_at o name) e ∙ edited_users m target user name there
-edited_told (Err fault) m n target user there e = tt
-
-pub first_told : {A E : Type 0} (r : Result A E) (m n : FinMap name_cmp (List Name)) (target user : Name) (users : List Name) → is_some (map.get m target) ≡ false
-    → users ≡ user ∷ [] → OnOk r (n ≡ map.insert m target users) → OnOk r ((name : Name) → users_at n name ≡ added_at target user name (users_at m name))
-first_told (Ok x) m n target user users absent one e = λ name.
-    ap (λ (o : FinMap name_cmp (List Name)). users_at o name) (e ∙ ap (map.insert m target) one) ∙ first_user m target user name absent
-first_told (Err fault) m n target user users absent one e = tt
+pub first_told : (m n : FinMap name_cmp (List Name)) (target user : Name) (users : List Name) → map.get m target ≡ None → users ≡ user ∷ []
+    → n ≡ map.insert m target users → (name : Name) → users_at n name ≡ added_at target user name (users_at m name)
+first_told m n target user users absent one put name =
+    ap (λ (o : FinMap name_cmp (List Name)). users_at o name) (put ∙ ap (map.insert m target) one)
+    ∙ ap (λ (v : List Name). users_at (map.insert m target (with_user user v)) name) (sym (ap (λ (o : Option (List Name)). unwrap_or o []) absent))
+    ∙ put_users m target user name
 
 -- ---- the pointers of one user
 

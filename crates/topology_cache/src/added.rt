@@ -5,50 +5,40 @@ ghost use Rattle.chart_model.specs.declared.name.Name.{Name};
 ghost use Rattle.topology_cache.specs.Users.{users_at, points_to_any};
 ghost use Rattle.topology_cache.specs.Added.{with_user, added_at, is_last};
 
-use chart_model::{Edit, Name, NameList, NameMap, Pointer};
+use crate::users::Users;
+use chart_model::{Name, NameList, Pointer};
 use std::alloc::{AllocError, Global};
 
-/// The addition of a user to the users of a record. The user that came last isn't added again.
-#[derive(Drop)]
-struct AddUser {
-    user: Name,
-}
-
-impl Edit<NameList> for AddUser {
-    ghost fits = { λ _ _. Unit {0} };
-
-    ghost edited = { λ addition users. with_user addition.user users };
-
-    fn edit(self, users: &mut NameList) -> Result<(), AllocError> {
-        match users.as_slice().last() {
-            Some(last) if *last == self.user => Ok(()),
-            _ => users.push(self.user),
-        }
+/// Adds a user to the users of a record, unless it is the last of them.
+fn push_user(users: &mut NameList, user: Name) -> Result<(), AllocError>
+    ensures { OnOk result (users.new ≡ with_user user users.old) }
+{
+    match users.as_slice().last() {
+        Some(last) if *last == user => Ok(()),
+        _ => users.push(user),
     }
 }
 
-/// Adds a user to the users of a record, unless it is the last of them.
-fn add_user(
-    alloc: Global,
-    users: &mut NameMap<NameList>,
-    target: Name,
-    user: Name,
-) -> Result<(), AllocError>
+/// Adds a user to the users of the target.
+fn add_user(alloc: Global, users: &mut Users, target: Name, user: Name) -> Result<(), AllocError>
     ensures { OnOk result ((name : Name) →
         users_at users.new name ≡ added_at target user name (users_at users.old name)) }
 {
-    if users.contains(target) {
-        return users.edit(target, AddUser { user });
+    if let Some(list) = users.by_target.get_mut(&target) {
+        return push_user(list, user);
     }
     let mut list = NameList::new(alloc);
     list.push(user)?;
-    users.insert(target, list)
+    match users.by_target.insert(target, list) {
+        Ok(_) => Ok(()),
+        Err(_) => Err(AllocError),
+    }
 }
 
 /// Adds a user to the users of each record that it points to.
 pub(crate) fn add_pointers(
     alloc: Global,
-    users: &mut NameMap<NameList>,
+    users: &mut Users,
     user: Name,
     pointers: &[Pointer],
 ) -> Result<(), AllocError>

@@ -5,16 +5,17 @@ ghost use Rattle.std.specs.FinMap as map;
 ghost use Rattle.topology_cache.specs.Users.{users_at, AreUsersOf};
 
 use crate::added::add_pointers;
-use chart_model::{Cell, Name, NameList, NameMap};
+use chart_model::{Cell, Name, NameList};
 use chart_ports::Steps;
 use std::alloc::{AllocError, Global};
+use std::collections::BTreeMap;
 use std::marker::Model;
 use std::sync::ledger::Ledger;
 
 /// The features that point to each record of a chart. Only `users_of` makes one.
 #[derive(Debug, Drop)]
 pub struct Users {
-    by_target: NameMap<NameList>,
+    pub(crate) by_target: BTreeMap<Name, NameList>,
 }
 
 impl Model for Users {
@@ -28,15 +29,24 @@ impl Model for Users {
 
     ghost coded = { map.code name_code (coded_list name_code) };
 
-    ghost view = { λ users. users.by_target };
+    ghost view = { λ users. map.from_entries users.by_target.entries };
 }
 
 impl Users {
+    /// The users of no feature. It takes no memory.
+    fn new(alloc: Global) -> Users
+        ensures { result ≡ map.empty }
+    {
+        Users {
+            by_target: BTreeMap::new(alloc),
+        }
+    }
+
     /// The features that point to an edge, in the order of their names, each once. It takes no memory.
     pub fn edge_users(&self, edge: Name) -> &[Name]
         ensures { result.now ≡ users_at self.now edge }
     {
-        match self.by_target.get(edge) {
+        match self.by_target.get(&edge) {
             Some(users) => users.as_slice(),
             None => &[],
         }
@@ -54,10 +64,10 @@ pub fn users_of<C: Ledger>(
     ensures counted { OnOk result (steps.new ≡ steps.old + map.len cell.now.features) }
     ensures at_most { steps.new ≤ steps.old + map.len cell.now.features }
 {
-    let mut by_target = NameMap::new(alloc);
+    let mut users = Users::new(alloc);
     for (name, feature) in cell.features.iter() {
         steps.tick();
-        add_pointers(alloc, &mut by_target, *name, feature.pointers.as_slice())?;
+        add_pointers(alloc, &mut users, *name, feature.pointers.as_slice())?;
     }
-    Ok(Users { by_target })
+    Ok(users)
 }
