@@ -1,4 +1,4 @@
 pub mod SmallDepths
-pub mod Steps
+pub mod AreaWalks
 pub mod Leasts
 pub mod Written

@@ -94,47 +94,47 @@ pair m f h k t =
 triple : (m f : ℕ) → 100 ≤ m → m < 1000 → Writes m f (metre_cells m f)
 triple m f h k =
     let large : nat_lt m 10 ≡ false = le-ltb m 10 (omega arith) in
-    let deep : nat_le m 30 ≡ false = lt-leb m 30 (omega arith) in
+    let past_tenths : nat_le m 30 ≡ false = lt-leb m 30 (omega arith) in
     let larger : nat_lt m 100 ≡ false = le-ltb m 100 h in
     let small : nat_lt m 1000 ≡ true = lt-ltb m 1000 k in
-    rw (large, deep, larger, small) (record {
+    rw (large, past_tenths, larger, small) (record {
       whole = cell 2 (m / 100) ∷ cell 1 (m / 10 % 10) ∷ cell 0 (m % 10) ∷ [];
       tenths = [];
       parts = refl;
       metres = decimal m (m / 100) (m / 10 % 10 ∷ m % 10 ∷ []) (omega arith) (omega arith, (omega arith, tt)) (omega arith) (λ e. absurd (omega (arith, e)));
-      fraction = record { shown = rw deep refl };
+      fraction = record { shown = rw past_tenths refl };
     })
 
 quadruple : (m f : ℕ) → 1000 ≤ m → m < 10000 → Writes m f (metre_cells m f)
 quadruple m f h k =
     let large : nat_lt m 10 ≡ false = le-ltb m 10 (omega arith) in
-    let deep : nat_le m 30 ≡ false = lt-leb m 30 (omega arith) in
+    let past_tenths : nat_le m 30 ≡ false = lt-leb m 30 (omega arith) in
     let larger : nat_lt m 100 ≡ false = le-ltb m 100 (omega arith) in
     let huge : nat_lt m 1000 ≡ false = le-ltb m 1000 h in
     let small : nat_lt m 10000 ≡ true = lt-ltb m 10000 k in
-    rw (large, deep, larger, huge, small) (record {
+    rw (large, past_tenths, larger, huge, small) (record {
       whole = cell 2 (m / 1000) ∷ cell 1 (m / 100 % 10) ∷ cell 0 (m / 10 % 10) ∷ cell 4 (m % 10) ∷ [];
       tenths = [];
       parts = refl;
       metres = decimal m (m / 1000) (m / 100 % 10 ∷ m / 10 % 10 ∷ m % 10 ∷ []) (omega arith) (omega arith, (omega arith, (omega arith, tt))) (omega arith) (λ e. absurd (omega (arith, e)));
-      fraction = record { shown = rw deep refl };
+      fraction = record { shown = rw past_tenths refl };
     })
 
 quintuple : (m f : ℕ) → 10000 ≤ m → m < 100000 → Writes m f (metre_cells m f)
 quintuple m f h k =
     let large : nat_lt m 10 ≡ false = le-ltb m 10 (omega arith) in
-    let deep : nat_le m 30 ≡ false = lt-leb m 30 (omega arith) in
+    let past_tenths : nat_le m 30 ≡ false = lt-leb m 30 (omega arith) in
     let larger : nat_lt m 100 ≡ false = le-ltb m 100 (omega arith) in
     let huge : nat_lt m 1000 ≡ false = le-ltb m 1000 (omega arith) in
     let most : nat_lt m 10000 ≡ false = le-ltb m 10000 h in
-    rw (large, deep, larger, huge, most) (record {
+    rw (large, past_tenths, larger, huge, most) (record {
       whole = cell 3 (m / 10000) ∷ cell 2 (m / 1000 % 10) ∷ cell 1 (m / 100 % 10) ∷ cell 0 (m / 10 % 10) ∷ cell 4 (m % 10) ∷ [];
       tenths = [];
       parts = refl;
       metres =
           decimal m (m / 10000) (m / 1000 % 10 ∷ m / 100 % 10 ∷ m / 10 % 10 ∷ m % 10 ∷ []) (omega arith)
           (omega arith, (omega arith, (omega arith, (omega arith, tt)))) (omega arith) (λ e. absurd (omega (arith, e)));
-      fraction = record { shown = rw deep refl };
+      fraction = record { shown = rw past_tenths refl };
     })
 
 writes : (m f : ℕ) → m < 100000 → Writes m f (metre_cells m f)

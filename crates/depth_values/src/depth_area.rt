@@ -3,7 +3,7 @@
 ghost use Rattle.std.specs.Prelude.{◌≡◌, IfOk};
 ghost use Rattle.depth_values.specs.Under.{is_depth_area, area_at, areas_of};
 
-use crate::area::area_depths;
+use crate::area::least_depth;
 use crate::codes::{DEPARE, DRGARE};
 use area_rings::{RingList, rings};
 use chart_model::codes::AREA;
@@ -106,7 +106,7 @@ fn depth_area(
     let bounds = bounds_of(rings.as_slice());
     Ok(Some(DepthArea {
         name,
-        d1: area_depths(feature).d1,
+        d1: least_depth(feature),
         rings,
         bounds,
     }))

@@ -1,9 +1,10 @@
 //! Which areas are safe.
 
 ghost use Rattle.std.specs.Prelude.{◌≡◌};
+ghost use Rattle.depth_values.specs.Area.{depths_of};
 ghost use Rattle.depth_values.specs.Safety.{is_safe_area, is_unsafe_area};
 
-use crate::area::area_depths;
+use crate::area::{Depths, least_depth};
 use crate::depth_area::is_depth_area;
 use chart_model::Feature;
 use chart_model::codes::AREA;
@@ -16,7 +17,15 @@ const SKIN_OF_THE_EARTH: u8 = 1;
 pub fn is_safe_area(feature: &Feature, safety_contour: i32) -> bool
     ensures { result ≡ is_safe_area safety_contour feature.now }
 {
-    is_depth_area(feature) && safety_contour <= area_depths(feature).d1
+    is_depth_area(feature) && safety_contour <= least_depth(feature)
+}
+
+/// The same of a feature whose depths were read already.
+pub fn is_safe_at(feature: &Feature, depths: Depths, safety_contour: i32) -> bool
+    requires { depths ≡ depths_of feature.now }
+    ensures { result ≡ is_safe_area safety_contour feature.now }
+{
+    safety_contour <= depths.d1 && is_depth_area(feature)
 }
 
 /// Whether the feature is an unsafe area: one of the skin of the earth that isn't safe, such as land, an area that wasn't

@@ -3,7 +3,7 @@ use Rattle.chart_model.specs.declared.name.Name.{Name}
 use Rattle.plane_geometry.specs.declared.point.Pt.{Pt}
 use Rattle.depth_values.specs.DepthArea.{AreaValue}
 use Rattle.depth_values.specs.Under.{holding}
-use Rattle.depth_values.proofs.Steps.{holds, name_in, left_out}
+use Rattle.depth_values.proofs.AreaWalks.{holds, name_in, left_out}
 use Rattle.depth_values.proofs.under.areas_among.Goals as goal
 use Rattle.depth_values.proofs.under.areas_among.Goals.{then-holds_any+in_ok-push, else-holds_any}
 

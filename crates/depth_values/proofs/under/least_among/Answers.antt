@@ -5,7 +5,7 @@ use Rattle.std.specs.List.{fold}
 use Rattle.plane_geometry.specs.declared.point.Pt.{Pt}
 use Rattle.depth_values.specs.DepthArea.{AreaValue}
 use Rattle.depth_values.specs.Under.{holding, lesser}
-use Rattle.depth_values.proofs.Steps.{holds, depth_in, left_out}
+use Rattle.depth_values.proofs.AreaWalks.{holds, depth_in, left_out}
 use Rattle.depth_values.proofs.under.least_among.Goals as goal
 use Rattle.depth_values.proofs.under.least_among.Goals.{then-holds_any, else-holds_any}
 
