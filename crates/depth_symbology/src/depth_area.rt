@@ -3,6 +3,7 @@
 ghost use Rattle.std.specs.Prelude.{◌≡◌, ◌++◌, OnOk, IfOk};
 ghost use Rattle.std.specs.List.{list_any};
 ghost use Rattle.topology_cache.specs.Users.{AreUsersOf};
+ghost use Rattle.depth_values.specs.Area.{depths_of};
 ghost use Rattle.depth_symbology.specs.DepthArea.{is_unsafe_at, borders_unsafe, pattern_items, dredged_items};
 ghost use Rattle.depth_symbology.specs.DepthArea.{contours_on, contour_items, depare01_of, depare01_at};
 
@@ -11,7 +12,7 @@ use crate::text::safety_contour;
 use chart_model::codes::AREA;
 use chart_model::{Cell, Feature, ItemList, Name, Pointer, Settings, Target};
 use depth_values::codes::DRGARE;
-use depth_values::{Depths, area_depths, is_safe_area, is_unsafe_area};
+use depth_values::{Depths, area_depths, is_safe_at, is_unsafe_area};
 use draw_items::{is_drawn, push_item};
 use std::alloc::{AllocError, Global};
 use topology_cache::Users;
@@ -73,11 +74,13 @@ fn push_contours(
     users: &Users,
     contour: i32,
     feature: &Feature,
+    depths: Depths,
 ) -> Result<(), AllocError>
-    requires { AreUsersOf cell.now users.now }
+    requires users { AreUsersOf cell.now users.now }
+    requires depths { depths ≡ depths_of feature.now }
     ensures { OnOk result (items.new ≡ items.old ++ contour_items cell.now contour feature.now) }
 {
-    if !is_safe_area(feature, contour) {
+    if !is_safe_at(feature, depths, contour) {
         return Ok(());
     }
     for pointer in feature.pointers.as_slice() {
@@ -133,7 +136,8 @@ pub fn push_depare01(
     push_item(alloc, items, Target::Whole, colour(settings, depths))?;
     push_pattern(alloc, items, settings, depths)?;
     push_dredged(alloc, items, feature)?;
-    push_contours(alloc, items, cell, users, settings.safety_contour, feature)
+    let contour = settings.safety_contour;
+    push_contours(alloc, items, cell, users, contour, feature, depths)
 }
 
 /// What is drawn of the depth area with a name, as `push_depare01` has it. Nothing is drawn where the cell has no such
