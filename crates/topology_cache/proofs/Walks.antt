@@ -1,9 +1,9 @@
 -- A walk over the features of a cell.
-use Rattle.std.proofs.Common.{◌≡◌, ℕ, zero, suc, Bool, true, false, cond, List, [], ◌∷◌, ◌++◌, map, filter, slice_get, Option, unwrap_or, T, refl, sym, ap, ◌∙◌, subst, append-nil, append_assoc}
+use Rattle.std.proofs.Common.{◌≡◌, ℕ, zero, suc, Bool, true, false, cond, List, [], ◌∷◌, ◌++◌, map, filter, slice_get, T, refl, sym, ap, ◌∙◌, subst, append-nil, append_assoc}
 use Rattle.std.specs.declared.cmp.Ordering.TheVariants.{Less, Equal}
 use Rattle.std.specs.Cmp.{tied_itself}
 use Rattle.std.specs.FinMap as finite
-use Rattle.std.specs.FinMap.{FinMap, is_sorted}
+use Rattle.std.specs.FinMap.{is_sorted}
 use Rattle.std.specs.FinMap.Entries.{below_all}
 use Rattle.std.proofs.lemmas.List.{map-append}
 use Rattle.std.proofs.lemmas.List.Elements.{filter-append}
@@ -13,22 +13,24 @@ use Rattle.chart_model.specs.Cell.{CellValue}
 use Rattle.chart_model.specs.Names.{name_cmp}
 use Rattle.chart_model.proofs.Names.{name_cmp-total}
 use Rattle.chart_model.proofs.SortedEntries.{first, second, less}
-use Rattle.topology_cache.specs.Users.{same_name, users_at, users_among, points_to_any, AreUsersOf}
-use Rattle.topology_cache.specs.Added.{is_user, is_last}
+use Rattle.topology_cache.specs.declared.uses.Use.{Use}
+use Rattle.topology_cache.specs.Users.{same_name, users_among, users_in, points_to_any}
+use Rattle.topology_cache.specs.Gathered.{is_user, is_last, gathered, uses_of}
+use Rattle.topology_cache.proofs.Additions.{gathered-append, once}
 use Rattle.topology_cache.proofs.Same.{same_is}
 
 -- of the features that were seen, the users of each record are kept
-pub record Walked (cell : CellValue) (users : FinMap name_cmp (List Name)) (left : List (Name × Feature)) : Type 0 where
+pub record Walked (cell : CellValue) (uses : List Use) (left : List (Name × Feature)) : Type 0 where
   pub seen : List (Name × Feature)
   pub parts : finite.entries cell.features ≡ seen ++ left
-  pub kept : (edge : Name) → users_at users edge ≡ users_among edge seen
+  pub kept : (edge : Name) → gathered uses edge ≡ users_among edge seen
 
 -- before the first feature
-pub walk_begins : (cell : CellValue) (users : FinMap name_cmp (List Name)) (all : List (Name × Feature)) → users ≡ finite.empty → all ≡ finite.entries cell.features → Walked cell users all
-walk_begins cell users all none e = record {
+pub walk_begins : (cell : CellValue) (uses : List Use) (all : List (Name × Feature)) → uses ≡ [] → all ≡ finite.entries cell.features → Walked cell uses all
+walk_begins cell uses all none e = record {
   seen = [];
   parts = sym e;
-  kept = λ edge. ap (λ (m : FinMap name_cmp (List Name)). users_at m edge) none ∙ ap (λ (o : Option (List Name)). unwrap_or o []) (finite.get-empty name_cmp edge);
+  kept = λ edge. ap (λ (l : List Use). gathered l edge) none;
 }
 
 -- each of the names is another than the user
@@ -75,9 +77,9 @@ before_next (entry ∷ seen) rest next h =
     (apart entry.0 next.0 (below_next entry.0 seen rest next (first _ _ h)), before_next seen rest next (second _ _ h))
 
 -- the name of the next feature isn't the last of any record's users
-pub next_is_new : (cell : CellValue) (users : FinMap name_cmp (List Name)) (name : Name) (feature : Feature) (all left : List (Name × Feature))
-    → Walked cell users all → all ≡ (name, feature) ∷ left → (edge : Name) → is_last name (users_at users edge) ≡ false
-next_is_new cell users name feature all left w next edge =
+next_is_new : (cell : CellValue) (uses : List Use) (name : Name) (feature : Feature) (all left : List (Name × Feature))
+    → Walked cell uses all → all ≡ (name, feature) ∷ left → (edge : Name) → is_last name (gathered uses edge) ≡ false
+next_is_new cell uses name feature all left w next edge =
     let sorted : T (is_sorted name_cmp (w.seen ++ (name, feature) ∷ left)) = subst (λ (es : List (Name × Feature)). T (is_sorted name_cmp es)) (w.parts ∙ ap (λ (l : List (Name × Feature)). w.seen ++ l) next) (finite.entries_sorted cell.features) in
     ap (is_last name) (w.kept edge)
     ∙ none_at name _ _ (others_among name edge w.seen (before_next w.seen left (name, feature) sorted))
@@ -93,18 +95,18 @@ among_push edge seen name feature =
     ∙ map-append (λ (e : Name × Feature). e.0) (filter (λ (e : Name × Feature). points_to_any edge e.1.pointers) seen) _
     ∙ ap (λ (l : List Name). users_among edge seen ++ l) (one_more edge name feature (points_to_any edge feature.pointers))
 
-pub walk_goes : (cell : CellValue) (before after : FinMap name_cmp (List Name)) (name : Name) (feature : Feature) (all left : List (Name × Feature))
-    → Walked cell before all → all ≡ (name, feature) ∷ left
-    → ((edge : Name) → users_at after edge ≡ users_at before edge ++ cond (points_to_any edge feature.pointers) (name ∷ []) [])
-    → Walked cell after left
-walk_goes cell before after name feature all left w next added = record {
+pub walk_goes : (cell : CellValue) (before after : List Use) (name : Name) (feature : Feature) (all left : List (Name × Feature))
+    → Walked cell before all → all ≡ (name, feature) ∷ left → after ≡ before ++ uses_of name feature.pointers → Walked cell after left
+walk_goes cell before after name feature all left w next more = record {
   seen = w.seen ++ (name, feature) ∷ [];
   parts = w.parts ∙ ap (λ (l : List (Name × Feature)). w.seen ++ l) next ∙ sym (append_assoc w.seen ((name, feature) ∷ []) left);
   kept = λ edge.
-      added edge
+      ap (λ (l : List Use). gathered l edge) more
+      ∙ gathered-append edge [] before (uses_of name feature.pointers)
+      ∙ once name edge feature.pointers (gathered before edge) (next_is_new cell before name feature all left w next edge)
       ∙ ap (λ (l : List Name). l ++ cond (points_to_any edge feature.pointers) (name ∷ []) []) (w.kept edge)
       ∙ sym (among_push edge w.seen name feature);
 }
 
-pub walk_ends : (cell : CellValue) (users : FinMap name_cmp (List Name)) → Walked cell users [] → AreUsersOf cell users
-walk_ends cell users w edge = w.kept edge ∙ ap (users_among edge) (sym (append-nil w.seen) ∙ sym w.parts)
+pub walk_ends : (cell : CellValue) (uses : List Use) → Walked cell uses [] → (edge : Name) → gathered uses edge ≡ users_in cell edge
+walk_ends cell uses w edge = w.kept edge ∙ ap (users_among edge) (sym (append-nil w.seen) ∙ sym w.parts)

@@ -1,2 +1,2 @@
 pub mod Users
-pub mod Added
+pub mod Gathered

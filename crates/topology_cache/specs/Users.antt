@@ -1,12 +1,12 @@
 -- The features that point to a record.
-use Rattle.std.specs.Prelude.{◌≡◌, Bool, ◌&&◌, ◌==◌, List, [], map, filter, unwrap_or}
+use Rattle.std.specs.Prelude.{◌≡◌, Bool, ◌&&◌, ◌==◌, List, map, filter}
 use Rattle.std.specs.List.{list_any}
 use Rattle.std.specs.FinMap as finite
 use Rattle.chart_model.specs.declared.name.Name.{Name}
 use Rattle.chart_model.specs.declared.record.Pointer.{Pointer}
 use Rattle.chart_model.specs.declared.cell.Feature.{Feature}
 use Rattle.chart_model.specs.Cell.{CellValue}
-use Rattle.chart_model.specs.Names.{name_cmp}
+use Rattle.topology_cache.specs.declared.uses.Use.{Use}
 
 abbrev pub same_name : Name → Name → Bool
 same_name a b = (a.rcnm == b.rcnm) && (a.rcid == b.rcid)
@@ -23,12 +23,12 @@ users_among edge features = map (λ entry. entry.0) (filter (λ entry. points_to
 abbrev pub users_in : CellValue → Name → List Name
 users_in cell edge = users_among edge (finite.entries cell.features)
 
--- ---- users that are kept
+-- ---- users, use by use
 
--- the users that are kept of an edge
-abbrev pub users_at : finite.FinMap name_cmp (List Name) → Name → List Name
-users_at users edge = unwrap_or (finite.get users edge) []
+-- the users of an edge among uses
+abbrev pub users_at : List Use → Name → List Name
+users_at uses edge = map (λ one. one.user) (filter (λ one. same_name one.target edge) uses)
 
--- what is kept of each edge is the features of the cell that point to it
-abbrev pub AreUsersOf : CellValue → finite.FinMap name_cmp (List Name) → Type 0
-AreUsersOf cell users = (edge : Name) → users_at users edge ≡ users_in cell edge
+-- those of each edge are the features of the cell that point to it
+abbrev pub AreUsersOf : CellValue → List Use → Type 0
+AreUsersOf cell uses = (edge : Name) → users_at uses edge ≡ users_in cell edge

@@ -5,7 +5,7 @@
 //! edges.
 #![tactic(auto)]
 
-mod added;
 mod users;
+mod uses;
 
 pub use users::{Users, users_of};
