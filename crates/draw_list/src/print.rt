@@ -1,69 +1,73 @@
 //! The lines of a drawing.
 
-ghost use Rattle.std.specs.Prelude.{◌≡◌, ◌++◌, ◌∷◌, OnOk, OnErr, IfOk};
-ghost use Rattle.draw_list.specs.Print.{signed, letter_of, target_text, printed};
+ghost use Rattle.std.specs.Prelude.{◌≡◌, ◌++◌, ◌∷◌, [], OnOk, OnErr, IfOk};
+ghost use Rattle.chart_model.specs.declared.drawing.Target.TheVariants.{Edge, At};
+ghost use Rattle.draw_list.specs.Print.{letter_of, target_text, printed};
 
 use chart_model::{Block, Geom, Item, Octets, Target};
 use std::alloc::{AllocError, Global};
 use text_scan::write_number;
 
-/// Adds a word behind a space.
-fn push_word(line: &mut Octets, word: &[u8]) -> Result<(), AllocError>
-    ensures { OnOk result (line.new ≡ line.old ++ 32 ∷ word.now) }
-{
-    line.extend_from_slice(b" ")?;
-    line.extend_from_slice(word)
-}
-
-/// Adds a number behind a space.
-fn push_number(alloc: Global, line: &mut Octets, n: i128) -> Result<(), AllocError>
-    ensures { OnOk result (line.new ≡ line.old ++ 32 ∷ signed n) }
-{
-    line.extend_from_slice(b" ")?;
-    write_number(alloc, line, n)
-}
-
-/// The letter of a geometry.
+/// The letter of a geometry, between spaces.
 fn letter_of(geom: Geom) -> &'static [u8]
-    ensures { result.now ≡ letter_of geom }
+    ensures { result.now ≡ 32 ∷ letter_of geom ++ 32 ∷ [] }
 {
     match geom {
-        Geom::Area => b"A",
-        Geom::Line => b"L",
-        Geom::Point => b"P",
+        Geom::Area => b" A ",
+        Geom::Line => b" L ",
+        Geom::Point => b" P ",
     }
 }
 
-/// Adds a target behind a space.
+/// Adds the number of an edge as a target, between spaces.
+fn push_edge(alloc: Global, line: &mut Octets, rcid: u32) -> Result<(), AllocError>
+    ensures { OnOk result (line.new ≡ line.old ++ 32 ∷ target_text (Edge rcid) ++ 32 ∷ []) }
+{
+    line.extend_from_slice(b" edge ")?;
+    write_number(alloc, line, rcid as i128)?;
+    line.extend_from_slice(b" ")
+}
+
+/// Adds a place as a target, between spaces.
+fn push_place(alloc: Global, line: &mut Octets, x: i32, y: i32) -> Result<(), AllocError>
+    ensures { OnOk result (line.new ≡ line.old ++ 32 ∷ target_text (At x y) ++ 32 ∷ []) }
+{
+    line.extend_from_slice(b" at ")?;
+    write_number(alloc, line, x as i128)?;
+    line.extend_from_slice(b" ")?;
+    write_number(alloc, line, y as i128)?;
+    line.extend_from_slice(b" ")
+}
+
+/// Adds a target between spaces.
 fn push_target(alloc: Global, line: &mut Octets, target: Target) -> Result<(), AllocError>
-    ensures { OnOk result (line.new ≡ line.old ++ 32 ∷ target_text target) }
+    ensures { OnOk result (line.new ≡ line.old ++ 32 ∷ target_text target ++ 32 ∷ []) }
 {
     match target {
-        Target::Whole => push_word(line, b"whole"),
-        Target::Edge(rcid) => {
-            push_word(line, b"edge")?;
-            push_number(alloc, line, rcid as i128)
-        }
-        Target::At(x, y) => {
-            push_word(line, b"at")?;
-            push_number(alloc, line, x as i128)?;
-            push_number(alloc, line, y as i128)
-        }
+        Target::Whole => line.extend_from_slice(b" whole "),
+        Target::Edge(rcid) => push_edge(alloc, line, rcid),
+        Target::At(x, y) => push_place(alloc, line, x, y),
     }
 }
 
-/// The line of an item.
-fn line_of(alloc: Global, block: &Block, rcid: u32, item: &Item) -> Result<Octets, AllocError>
-    ensures { IfOk result (λ line. line ≡ printed block.now.priority block.now.geom rcid item.now) }
+/// Adds the line of an item, as `print_item` has it. Where there is no memory a part of it may stand there.
+pub(crate) fn push_line(
+    alloc: Global,
+    out: &mut Octets,
+    block: &Block,
+    rcid: u32,
+    item: &Item,
+) -> Result<(), AllocError>
+    ensures { OnOk result
+        (out.new ≡ out.old ++ printed block.now.priority block.now.geom rcid item.now) }
 {
-    let mut line = Octets::from_vec(Vec::from_slice(alloc, b"item")?);
-    push_number(alloc, &mut line, block.priority as i128)?;
-    push_word(&mut line, letter_of(block.geom))?;
-    push_number(alloc, &mut line, rcid as i128)?;
-    push_target(alloc, &mut line, item.target)?;
-    push_word(&mut line, item.text.as_slice())?;
-    line.extend_from_slice(b"\n")?;
-    Ok(line)
+    out.extend_from_slice(b"item ")?;
+    write_number(alloc, out, block.priority as i128)?;
+    out.extend_from_slice(letter_of(block.geom))?;
+    write_number(alloc, out, rcid as i128)?;
+    push_target(alloc, out, item.target)?;
+    out.extend_from_slice(item.text.as_slice())?;
+    out.extend_from_slice(b"\n")
 }
 
 /// Adds the line of an item of the block of the feature with a number: `item PRIORITY GEOM RCID TARGET TEXT` and a line
@@ -81,6 +85,7 @@ pub fn print_item(
         (out.new ≡ out.old ++ printed block.now.priority block.now.geom rcid item.now) }
     ensures err { OnErr result (out.new ≡ out.old) }
 {
-    let line = line_of(alloc, block, rcid, item)?;
+    let mut line = Octets::from_vec(Vec::new(alloc));
+    push_line(alloc, &mut line, block, rcid, item)?;
     out.extend_from_slice(line.as_slice())
 }
