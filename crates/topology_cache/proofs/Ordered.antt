@@ -6,21 +6,22 @@ use Rattle.std.specs.declared.cmp.Ordering.TheVariants.{Less, Equal, Greater}
 use Rattle.std.specs.Ordering.{is_eq, is_lt, is_le, ordering_index, ordering_reverse}
 use Rattle.std.specs.Cmp.{tied_itself}
 use Rattle.std.specs.List.{dedup, dedup_from}
-use Rattle.std.specs.List.Sorted.{IsNonDecreasingBy, IsPartitionedBy, IsPartitionPoint, IsStableBy, ties}
+use Rattle.std.specs.List.Sorted.{IsNonDecreasingBy, IsPartitionedBy, IsPartitionPoint, IsSortedByKey, IsStableBy, ties}
 use Rattle.std.proofs.lemmas.List.Elements.{filter_agree}
-use Rattle.std.proofs.lemmas.List.Sorted.{IsNonDecreasingBy-from_all_adjacent, IsPartitionedBy-leb, IsPartitionedBy-ltb}
+use Rattle.std.proofs.lemmas.List.Sorted.{searchable_from_sorted, IsNonDecreasingBy-from_all_adjacent, IsPartitionedBy-leb, IsPartitionedBy-ltb}
 use Rattle.chart_model.specs.declared.name.Name.{Name}
 use Rattle.chart_model.specs.Names.{name_cmp}
 use Rattle.chart_model.proofs.Names.{name_cmp-total}
 use Rattle.topology_cache.specs.declared.uses.Use.{Use}
 use Rattle.topology_cache.specs.Users.{same_name, users_at}
-use Rattle.topology_cache.specs.Gathered.{is_user, is_last, with_user, added_at, gathered_from, gathered, user_of, rank, Rises, RisesAll, is_under, is_up_to}
-use Rattle.topology_cache.proofs.Same.{same_itself, same_is, same_tests, ties-same}
+use Rattle.topology_cache.specs.Gathered.{is_user, is_last, with_user, added_at, gathered_from, gathered, user_of, rank, Rises, RisesAll, IsRising, is_under, is_up_to}
+use Rattle.topology_cache.proofs.Same.{left, right, same_itself, same_is, ties-same}
 use Rattle.topology_cache.proofs.Additions.{last-push, is_last-push}
 use Rattle.topology_cache.proofs.Parts.{between, no_later, part_of_map}
 
 -- ---- a stable sort keeps the users of each record
 
+-- the users behind others, one after the other
 abbrev all_with : List Name → List Name → List Name
 all_with users [] = users
 all_with users (user ∷ more) = all_with (with_user user users) more
@@ -112,11 +113,6 @@ added_twice target user name users =
       | false ↦ refl
     ]
 
-both_same : (p q : Bool) → (p && q) ≡ true → (p ≡ true) × (q ≡ true)
-both_same true true e = (refl, refl)
-both_same true false e = (refl, e)
-both_same false q e = (e, absurd (subst (λ (b : Bool). elim b as (λ _. Type 0) [ true ↦ ⊥ | false ↦ Unit {0} ]) e tt))
-
 second_differs : (p q : Bool) → (p && q) ≡ false → p ≡ true → q ≡ false
 second_differs true q e h = e
 second_differs false q e h = absurd (subst (λ (b : Bool). elim b as (λ _. Type 0) [ true ↦ ⊥ | false ↦ Unit {0} ]) h tt)
@@ -176,8 +172,8 @@ module _ (E : Use → Use → Bool) (equal : (x y : Use) → E x y ≡ (same_nam
   gathers one (next ∷ uses) rises users none new =
       elim (E next one) as (λ b. E next one ≡ b → gathered_from name (added_at next.target next.user name (added_at one.target one.user name users)) uses ≡ users ++ users_at (cond b (dedup_from E one uses) (one ∷ dedup_from E next uses)) name) [
         | true ↦ λ e.
-            let parts = both_same _ _ (sym (equal next one) ∙ e) in
-            let is : next ≡ one = same_use next one parts.0 parts.1 in
+            let both = sym (equal next one) ∙ e in
+            let is : next ≡ one = same_use next one (left _ _ both) (right _ _ both) in
             ap (λ (u : Use). gathered_from name (added_at u.target u.user name (added_at one.target one.user name users)) uses) is
             ∙ ap (λ (l : List Name). gathered_from name l uses) (added_twice one.target one.user name users)
             ∙ gathers one uses (skip name one next uses rises) users none new
@@ -213,14 +209,18 @@ module _ (E : Use → Use → Bool) (equal : (x y : Use) → E x y ≡ (same_nam
 
 -- ---- rising, by places
 
-pub rises_by_places : (name : Name) (one : Use) (uses : List Use) → IsNonDecreasingBy (rank name) (one ∷ uses) → Rises name one uses
+rises_by_places : (name : Name) (one : Use) (uses : List Use) → IsNonDecreasingBy (rank name) (one ∷ uses) → Rises name one uses
 rises_by_places name one [] up = tt
 rises_by_places name one (next ∷ uses) up =
     (up 0 1 one (omega arith) (omega arith), rises_by_places name next uses (λ i j d h k. up (suc i) (suc j) d (omega (arith, h)) (omega (arith, k))))
 
-pub all_by_places : (name : Name) (uses : List Use) → IsNonDecreasingBy (rank name) uses → RisesAll name uses
+all_by_places : (name : Name) (uses : List Use) → IsNonDecreasingBy (rank name) uses → RisesAll name uses
 all_by_places name [] up = tt
 all_by_places name (one ∷ uses) up = rises_by_places name one uses up
+
+-- what a sort by the records leaves
+pub sorted_rises : (uses : List Use) → IsSortedByKey (λ u. u.target) name_cmp uses → IsRising uses
+sorted_rises uses sorted name = all_by_places name uses (searchable_from_sorted name_cmp-total (λ (u : Use). u.target) uses name sorted)
 
 adjacent : (name : Name) (one : Use) (uses : List Use) → Rises name one uses → (k : ℕ) (d : Use) → suc k < length (one ∷ uses)
     → rank name (get_or (one ∷ uses) k d) ≤ rank name (get_or (one ∷ uses) (suc k) d)

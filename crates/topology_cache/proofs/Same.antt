@@ -20,11 +20,11 @@ both : (p q : Bool) → p ≡ true → q ≡ true → (p && q) ≡ true
 both true q a b = b
 both false q a b = a
 
-left : (p q : Bool) → (p && q) ≡ true → p ≡ true
+pub left : (p q : Bool) → (p && q) ≡ true → p ≡ true
 left true q e = refl
 left false q e = e
 
-right : (p q : Bool) → (p && q) ≡ true → q ≡ true
+pub right : (p q : Bool) → (p && q) ≡ true → q ≡ true
 right true q e = e
 right false q e = absurd (subst T (sym e) tt)
 
