@@ -12,7 +12,7 @@ use crate::text::safety_contour;
 use chart_model::codes::AREA;
 use chart_model::{Cell, Feature, ItemList, Name, Pointer, Settings, Target};
 use depth_values::codes::DRGARE;
-use depth_values::{Depths, area_depths, is_safe_at, is_unsafe_area};
+use depth_values::{Depths, area_depths, is_safe_area_with, is_unsafe_area};
 use draw_items::{is_drawn, push_item};
 use std::alloc::{AllocError, Global};
 use topology_cache::Users;
@@ -80,7 +80,7 @@ fn push_contours(
     requires depths { depths ≡ depths_of feature.now }
     ensures { OnOk result (items.new ≡ items.old ++ contour_items cell.now contour feature.now) }
 {
-    if !is_safe_at(feature, depths, contour) {
+    if !is_safe_area_with(feature, depths, contour) {
         return Ok(());
     }
     for pointer in feature.pointers.as_slice() {

@@ -24,5 +24,5 @@ pub use digit_items::push_digits;
 pub use digits::{Digits, digit_cells};
 pub use hazard::{hazard_depth, hazard_depth_among, hazard_depth_at, lies_in_safe_area, sounding};
 pub use laws::{digits_write_depths, least_is_least};
-pub use safety::{is_safe_area, is_safe_at, is_unsafe_area};
+pub use safety::{is_safe_area, is_safe_area_with, is_unsafe_area};
 pub use under::{areas_among, areas_under};

@@ -21,7 +21,7 @@ pub fn is_safe_area(feature: &Feature, safety_contour: i32) -> bool
 }
 
 /// The same of a feature whose depths were read already.
-pub fn is_safe_at(feature: &Feature, depths: Depths, safety_contour: i32) -> bool
+pub fn is_safe_area_with(feature: &Feature, depths: Depths, safety_contour: i32) -> bool
     requires { depths ≡ depths_of feature.now }
     ensures { result ≡ is_safe_area safety_contour feature.now }
 {
