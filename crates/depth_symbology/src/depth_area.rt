@@ -116,8 +116,8 @@ fn push_dredged(alloc: Global, items: &mut ItemList, feature: &Feature) -> Resul
 }
 
 /// Adds what is drawn of a depth area: its colour; a pattern, where it is asked for and the area isn't deeper than the
-/// safety contour; the pattern and the outline of a dredged area; and on the edges of a safe area beyond which an unsafe
-/// area lies, the safety contour. Nothing is drawn of what is no area.
+/// safety contour; the pattern and the outline of a dredged area; and on the edges of a safe area beyond which an
+/// unsafe area lies, the safety contour. Nothing is drawn of what is no area.
 pub fn push_depare01(
     alloc: Global,
     items: &mut ItemList,

@@ -12,15 +12,15 @@ use chart_model::codes::AREA;
 /// The group of the areas that cover a chart without a gap: the skin of the earth (S-57 Appendix B.1, GRUP).
 const SKIN_OF_THE_EARTH: u8 = 1;
 
-/// Whether the feature is a safe area: a depth area or a dredged area that is nowhere less deep than the safety contour,
-/// in centimetres. It takes no memory.
+/// Whether the feature is a safe area: a depth area or a dredged area that is nowhere less deep than the safety
+/// contour, in centimetres. It takes no memory.
 pub fn is_safe_area(feature: &Feature, safety_contour: i32) -> bool
     ensures { result ≡ is_safe_area safety_contour feature.now }
 {
     is_depth_area(feature) && safety_contour <= least_depth(feature)
 }
 
-/// The same of a feature whose depths were read already.
+/// The same of a feature whose depths were read already. It takes no memory.
 pub fn is_safe_area_with(feature: &Feature, depths: Depths, safety_contour: i32) -> bool
     requires { depths ≡ depths_of feature.now }
     ensures { result ≡ is_safe_area safety_contour feature.now }
@@ -28,8 +28,8 @@ pub fn is_safe_area_with(feature: &Feature, depths: Depths, safety_contour: i32)
     safety_contour <= depths.d1 && is_depth_area(feature)
 }
 
-/// Whether the feature is an unsafe area: one of the skin of the earth that isn't safe, such as land, an area that wasn't
-/// surveyed, or a depth area that is too shallow. It takes no memory.
+/// Whether the feature is an unsafe area: one of the skin of the earth that isn't safe, such as land, an area that
+/// wasn't surveyed, or a depth area that is too shallow. It takes no memory.
 pub fn is_unsafe_area(feature: &Feature, safety_contour: i32) -> bool
     ensures { result ≡ is_unsafe_area safety_contour feature.now }
 {
