@@ -9,7 +9,7 @@ ghost use Rattle.update_apply.specs.Fault as spec;
 use crate::fault::ChangeFault;
 use crate::judge::{fault_by, kept_for};
 use crate::moves::Moves;
-use crate::record::{Modification, inserted_feature, inserted_vector};
+use crate::record::{Modification, copy_of, inserted_feature, inserted_vector};
 use chart_model::codes::{DELETE, FEATURE, INSERT};
 use chart_model::{Cell, FeatureMap, UpdateRecord, VectorMap};
 use std::alloc::{AllocError, Global};
@@ -26,12 +26,30 @@ fn change_vectors(
 {
     match change.ruin {
         INSERT => {
-            let vector = inserted_vector(alloc, change)?;
+            let vector = inserted_vector(alloc, copy_of(change)?)?;
             vectors.insert(change.target, vector)
         }
         DELETE => vectors.remove(change.target),
         _ => vectors.edit(change.target, Modification { alloc, change }),
     }
+}
+
+/// The same by a change that is given away: a vector record that it inserts takes over its lists.
+fn change_vectors_owned(
+    alloc: Global,
+    vectors: &mut VectorMap,
+    change: UpdateRecord,
+) -> Result<(), AllocError>
+    requires { spec.fault_by (option_map spec.kept_vector (map.get vectors.old change.target)) change ≡ None }
+    ensures ok { OnOk result (vectors.new ≡ changed_in inserted_vector modified_vector vectors.old change) }
+    ensures err { OnErr result (vectors.new ≡ vectors.old) }
+{
+    if change.ruin != INSERT {
+        return change_vectors(alloc, vectors, &change);
+    }
+    let name = change.target;
+    let vector = inserted_vector(alloc, change)?;
+    vectors.insert(name, vector)
 }
 
 /// Changes a feature record of a cell. Where there is no memory nothing changes.
@@ -46,12 +64,45 @@ fn change_features(
 {
     match change.ruin {
         INSERT => {
-            let feature = inserted_feature(alloc, change)?;
+            let feature = inserted_feature(alloc, copy_of(change)?)?;
             features.insert(change.target, feature)
         }
         DELETE => features.remove(change.target),
         _ => features.edit(change.target, Modification { alloc, change }),
     }
+}
+
+/// The same by a change that is given away: a feature that it inserts takes over its lists.
+fn change_features_owned(
+    alloc: Global,
+    features: &mut FeatureMap,
+    change: UpdateRecord,
+) -> Result<(), AllocError>
+    requires { spec.fault_by (option_map spec.kept_feature (map.get features.old change.target)) change ≡ None }
+    ensures ok { OnOk result (features.new ≡ changed_in inserted_feature modified_feature features.old change) }
+    ensures err { OnErr result (features.new ≡ features.old) }
+{
+    if change.ruin != INSERT {
+        return change_features(alloc, features, &change);
+    }
+    let name = change.target;
+    let feature = inserted_feature(alloc, change)?;
+    features.insert(name, feature)
+}
+
+/// Judges a change of a cell, and takes what it may move from the budget of moves.
+///
+/// # Errors
+///
+/// The first fault of the change; `NoMemory` where there is none and the budget is spent.
+fn judge(cell: &Cell, change: &UpdateRecord, moves: &mut Moves) -> Result<(), ChangeFault>
+    ensures { spec.told result ≡ spec.fault_of cell.now change.now }
+{
+    let kept = kept_for(cell, change);
+    if let Some(fault) = fault_by(kept, change) {
+        return Err(fault);
+    }
+    moves.take(kept, change).map_err(|_| ChangeFault::NoMemory)
 }
 
 /// Makes a change of one record to a cell, as far as the budget of moves lets it. On any refusal the cell is as it
@@ -68,17 +119,32 @@ pub fn apply_within(
     ensures err { OnErr result (cell.new ≡ cell.old) }
     ensures fault { spec.told result ≡ spec.fault_of cell.old change.now }
 {
-    let kept = kept_for(cell, change);
-    if let Some(fault) = fault_by(kept, change) {
-        return Err(fault);
-    }
-    if moves.take(kept, change).is_err() {
-        return Err(ChangeFault::NoMemory);
-    }
+    judge(cell, change, moves)?;
     let done = if change.target.rcnm == FEATURE {
         change_features(alloc, &mut cell.features, change)
     } else {
         change_vectors(alloc, &mut cell.vectors, change)
+    };
+    done.map_err(|_| ChangeFault::NoMemory)
+}
+
+/// Makes a change of one record that is given away, as [`apply_within`] does: a record that it inserts takes over its
+/// lists.
+pub fn apply_owned(
+    alloc: Global,
+    cell: &mut Cell,
+    change: UpdateRecord,
+    moves: &mut Moves,
+) -> Result<(), ChangeFault>
+    ensures ok { OnOk result (cell.new ≡ changed cell.old change) }
+    ensures err { OnErr result (cell.new ≡ cell.old) }
+    ensures fault { spec.told result ≡ spec.fault_of cell.old change }
+{
+    judge(cell, &change, moves)?;
+    let done = if change.target.rcnm == FEATURE {
+        change_features_owned(alloc, &mut cell.features, change)
+    } else {
+        change_vectors_owned(alloc, &mut cell.vectors, change)
     };
     done.map_err(|_| ChangeFault::NoMemory)
 }

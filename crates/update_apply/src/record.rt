@@ -1,35 +1,65 @@
 //! Records inserted and modified.
 
 ghost use Rattle.std.specs.Prelude.{◌≡◌, IfOk, OnOk, OnErr};
+ghost use Rattle.std.specs.FinMap as map;
 ghost use Rattle.chart_model.specs.Attrs.{set_attrs};
 ghost use Rattle.update_apply.specs.Changed.{inserted_vector, inserted_feature};
 ghost use Rattle.update_apply.specs.Edited.{edited, FitsEach};
 
 use crate::edit::{added, edit};
-use chart_model::{AttrMap, Control, Edit, Feature, Foid, Pointer, Sequence, UpdateRecord, Vector};
+use chart_model::{
+    AttrList, AttrMap, Control, Edit, Feature, Foid, Pointer, Sequence, UpdateRecord, Vector,
+};
 use std::alloc::{AllocError, Global};
 use std::mem;
 
-/// The vector record that an insertion puts.
-pub fn inserted_vector(alloc: Global, change: &UpdateRecord) -> Result<Vector, AllocError>
-    ensures { IfOk result (λ vector. vector ≡ inserted_vector change.now) }
+/// An equal change.
+pub fn copy_of(change: &UpdateRecord) -> Result<UpdateRecord, AllocError>
+    ensures { IfOk result (λ copy. copy ≡ change.now) }
 {
-    let mut attrs = AttrMap::new(alloc);
-    attrs.set_all(alloc, change.attrs.as_slice())?;
-    Ok(Vector {
+    Ok(UpdateRecord {
+        target: change.target,
+        ruin: change.ruin,
         version: change.version,
-        attrs,
+        prim: change.prim,
+        grup: change.grup,
+        class: change.class,
+        foid: change.foid,
+        attrs: change.attrs.clone()?,
+        pointer_edit: change.pointer_edit,
         pointers: change.pointers.clone()?,
+        coord_edit: change.coord_edit,
         coords: change.coords.clone()?,
+        related_edit: change.related_edit,
+        related: change.related.clone()?,
     })
 }
 
-/// The feature record that an insertion puts.
-pub fn inserted_feature(alloc: Global, change: &UpdateRecord) -> Result<Feature, AllocError>
-    ensures { IfOk result (λ feature. feature ≡ inserted_feature change.now) }
+/// The attributes that settings leave where there were none.
+fn attrs_of(alloc: Global, settings: AttrList) -> Result<AttrMap, AllocError>
+    ensures { IfOk result (λ attrs. attrs ≡ set_attrs map.empty settings) }
 {
     let mut attrs = AttrMap::new(alloc);
-    attrs.set_all(alloc, change.attrs.as_slice())?;
+    attrs.set_all(alloc, settings.as_slice())?;
+    Ok(attrs)
+}
+
+/// The vector record that an insertion puts. It takes over the lists of the change.
+pub fn inserted_vector(alloc: Global, change: UpdateRecord) -> Result<Vector, AllocError>
+    ensures { IfOk result (λ vector. vector ≡ inserted_vector change) }
+{
+    Ok(Vector {
+        version: change.version,
+        attrs: attrs_of(alloc, change.attrs)?,
+        pointers: change.pointers,
+        coords: change.coords,
+    })
+}
+
+/// The feature record that an insertion puts. It takes over the lists of the change.
+pub fn inserted_feature(alloc: Global, change: UpdateRecord) -> Result<Feature, AllocError>
+    ensures { IfOk result (λ feature. feature ≡ inserted_feature change) }
+{
     Ok(Feature {
         prim: change.prim,
         grup: change.grup,
@@ -40,9 +70,9 @@ pub fn inserted_feature(alloc: Global, change: &UpdateRecord) -> Result<Feature,
             fidn: 0,
             fids: 0,
         }),
-        attrs,
-        related: change.related.clone()?,
-        pointers: change.pointers.clone()?,
+        attrs: attrs_of(alloc, change.attrs)?,
+        related: change.related,
+        pointers: change.pointers,
     })
 }
 

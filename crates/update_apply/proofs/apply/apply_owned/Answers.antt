@@ -1,0 +1,28 @@
+use Rattle.std.proofs.Common.{◌≡◌, ◌≢◌, ap, subst, sym, ◌∙◌}
+use Rattle.chart_model.specs.Cell.{CellValue}
+use Rattle.chart_model.specs.Change.{IsChange}
+use Rattle.update_apply.specs.Fault.{fault_of}
+use Rattle.update_apply.proofs.CellsKept.{features-changed, vectors-changed}
+use Rattle.update_apply.proofs.apply.apply_owned.Goals as goal
+
+pub invariant_of-cell : goal.invariant_of-cell
+invariant_of-cell c =
+    let cell : CellValue = record { header = c.cell.inside.header; vectors = c.cell.inside.vectors; features = c.cell.inside.features } in
+    features-changed cell c.args.change c.change_features_owned-done.new.features c.change_features_owned-done.result
+    (subst (λ change. change.target.rcnm ≡ 100) c.change.view_is c.if-change-eq-FEATURE.true)
+    c.cell.invariant
+    (subst IsChange c.change.view_is c.change.invariant)
+    (ap (λ cell. fault_of cell c.args.change) c.cell.view_is ∙ sym c.in_ok-judge.ensures)
+    c.change_features_owned-done.ensures.ok
+    c.change_features_owned-done.ensures.err
+
+pub invariant_of-cell-else-change-eq-FEATURE : goal.invariant_of-cell-else-change-eq-FEATURE
+invariant_of-cell-else-change-eq-FEATURE c =
+    let cell : CellValue = record { header = c.cell.inside.header; vectors = c.cell.inside.vectors; features = c.cell.inside.features } in
+    vectors-changed cell c.args.change c.change_vectors_owned-done.new.vectors c.change_vectors_owned-done.result
+    (subst (λ change. change.target.rcnm ≢ 100) c.change.view_is c.if-change-eq-FEATURE.false)
+    c.cell.invariant
+    (subst IsChange c.change.view_is c.change.invariant)
+    (ap (λ cell. fault_of cell c.args.change) c.cell.view_is ∙ sym c.in_ok-judge.ensures)
+    c.change_vectors_owned-done.ensures.ok
+    c.change_vectors_owned-done.ensures.err
