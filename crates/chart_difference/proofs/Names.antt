@@ -1,7 +1,7 @@
 -- Names in order, each once, and those of them that pass a test.
-use Rattle.std.proofs.Common.{◌≡◌, ◌≢◌, ◌⊎◌, inl, inr, ⊎_elim, zero, suc, arith, Bool, true, false, cond, List, [], ◌∷◌, ◌++◌, Option, Some, None, Result, Ok, Err, IfOk, refl, sym, ap, subst, ◌∙◌, rules}
+use Rattle.std.proofs.Common.{◌≡◌, ◌≢◌, ◌⊎◌, inl, inr, ⊎_elim, zero, suc, arith, Bool, true, false, ◌||◌, cond, List, [], ◌∷◌, ◌++◌, Option, Some, None, Result, Ok, Err, IfOk, refl, sym, ap, subst, ◌∙◌, rules}
 use Rattle.std.specs.Prelude.{◌↔◌}
-use Rattle.std.specs.Option.{is_some}
+use Rattle.std.specs.Option.{is_some, is_none}
 use Rattle.std.specs.FinMap as map
 use Rattle.std.specs.List.{Contains, filter}
 use Rattle.std.specs.List.Sorted.{IsSorted, IsStrictlySortedBy, IsPermutation}
@@ -10,14 +10,15 @@ use Rattle.std.specs.Ordering.{eq_by_cmp}
 use Rattle.std.specs.Cmp.{IsEquivalence, IsTotalOrder}
 use Rattle.std.specs.Cmp.Rules.{comparing}
 use Rattle.std.proofs.lemmas.List.Elements.{All-contains, filter_passes, Contains-append_left, Contains-append_right, Contains-append_cases}
-use Rattle.std.proofs.lemmas.List.Folds.{Any-from_list_any}
+use Rattle.std.proofs.lemmas.List.Folds.{Any-from_list_any, list_any-from_Any}
+use Rattle.std.proofs.lemmas.List.{append-nil}
 use Rattle.std.proofs.lemmas.List.Filters.{dedup_is}
 use Rattle.std.proofs.lemmas.List.Kept.{Contains-dedup, Contains-from_dedup, IsStrictlySortedBy-dedup, IsStrictlySortedBy-filter}
 use Rattle.std.proofs.lemmas.List.Sorted.{Contains-permutation, IsPermutation-sym}
 use Rattle.chart_model.specs.Cell.{CellValue}
 use Rattle.chart_model.specs.Names.{name_cmp}
 use Rattle.chart_model.specs.declared.name.Name.{Name}
-use Rattle.chart_difference.specs.Difference.{AreChanged, HasAll, names_in, vector_in, feature_in}
+use Rattle.chart_difference.specs.Difference.{AreChanged, Differ, HasAll, names_in, vector_in, feature_in}
 use Rattle.chart_difference.specs.Same.{same_name, differ}
 use Rattle.chart_difference.proofs.Decided.{differs, names}
 
@@ -65,11 +66,11 @@ module _ {X : Type 0} where
 
 some-vector : (chart : Option CellValue) (name : Name) → is_some (vector_in chart name) ≡ true → Contains (names_in chart) name
 some-vector None name there = cc
-some-vector (Some cell) name there = Contains-append_left (map.keys cell.vectors) (map.keys cell.features) name (has-key cell.vectors name there)
+some-vector (Some cell) name there = Contains-append_right (map.keys cell.features) (map.keys cell.vectors) name (has-key cell.vectors name there)
 
 some-feature : (chart : Option CellValue) (name : Name) → is_some (feature_in chart name) ≡ true → Contains (names_in chart) name
 some-feature None name there = cc
-some-feature (Some cell) name there = Contains-append_right (map.keys cell.vectors) (map.keys cell.features) name (has-key cell.features name there)
+some-feature (Some cell) name there = Contains-append_left (map.keys cell.features) (map.keys cell.vectors) name (has-key cell.features name there)
 
 -- where records differ, one of the charts has one
 pub all-names : (old new : Option CellValue) → HasAll old new (names_in old ++ names_in new)
@@ -80,6 +81,53 @@ all-names old new name apart =
     (λ v. ⊎_elim (λ s. in-old (some-vector old name s)) (λ s. in-new (some-vector new name s)) (one-of (vector_in old name) (vector_in new name) v))
     (λ f. ⊎_elim (λ s. in-old (some-feature old name s)) (λ s. in-new (some-feature new name s)) (one-of (feature_in old name) (feature_in new name) f))
     apart
+
+-- where there is no other chart, each record of the one differs
+key-has : {X : Type 0} (m : map.FinMap name_cmp X) (name : Name) → Contains (map.keys m) name → is_some (map.get m name) ≡ true
+key-has m name there =
+    map.contains_key-keys m name
+    ∙ list_any-from_Any (eq_by_cmp name_cmp name) (map.keys m)
+    (there.0, name, there.1, there.2, sym (ties name name) ∙ (names name name).1 refl)
+
+some-differs : {X : Type 0} (o : Option X) → is_some o ≡ true → o ≢ None
+some-differs (Some x) there = λ none. cc
+some-differs None there = cc
+
+in-chart : (chart : Option CellValue) (name : Name) → Contains (names_in chart) name
+    → (is_some (vector_in chart name) ≡ true) ⊎ (is_some (feature_in chart name) ≡ true)
+in-chart None name there = absurd (let below = there.1 in omega arith)
+in-chart (Some cell) name there =
+    ⊎_elim
+    (λ feature. inr (key-has cell.features name feature))
+    (λ vector. inl (key-has cell.vectors name vector))
+    (Contains-append_cases (map.keys cell.features) (map.keys cell.vectors) name there)
+
+alone-differs : (chart : Option CellValue) (name : Name) → Contains (names_in chart) name
+    → Differ chart None name × Differ None chart name
+alone-differs chart name there =
+    ⊎_elim
+    (λ v. (inl (some-differs (vector_in chart name) v), inl (λ none. some-differs (vector_in chart name) v (sym none))))
+    (λ f. (inr (some-differs (feature_in chart name) f), inr (λ none. some-differs (feature_in chart name) f (sym none))))
+    (in-chart chart name there)
+
+all-alone : (old new : Option CellValue) → (is_none old || is_none new) ≡ true → (name : Name)
+    → Contains (names_in old ++ names_in new) name → Differ old new name
+all-alone None new alone name there = (alone-differs new name there).1
+all-alone (Some old) None alone name there =
+    (alone-differs (Some old) name (subst (λ (l : List Name). Contains l name) (append-nil (names_in (Some old))) there)).0
+all-alone (Some old) (Some new) alone name there = absurd cc
+
+-- so the names of the one chart, in order and each once, are those whose records differ
+pub alone-changed : (old new : Option CellValue) (names once : List Name) → (is_none old || is_none new) ≡ true
+    → names ≡ names_in old ++ names_in new → IsStrictlySortedBy name_cmp once
+    → ((name : Name) → Contains once name ↔ Contains names name) → AreChanged old new once
+alone-changed old new names once alone is rising same = record {
+  rising = rising;
+  exact = λ name. (
+    λ there. all-alone old new alone name (subst (λ (l : List Name). Contains l name) is ((same name).0 there)),
+    λ differ. (same name).1 (subst (λ (l : List Name). Contains l name) (sym is) (all-names old new name differ)),
+  );
+}
 
 -- names in order, of which those that stand twice are left out
 pub sorted-once : (sorted once : List Name) → IsSorted name_cmp sorted

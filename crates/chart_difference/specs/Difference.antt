@@ -29,7 +29,7 @@ pub record AreChanged (old new : Option CellValue) (names : List Name) : Type 0 
   pub rising : IsStrictlySortedBy name_cmp names
   pub exact : (name : Name) → Contains names name ↔ Differ old new name
 
--- the names of all records
+-- the names of all records, in their order
 abbrev pub names_in : Option CellValue → List Name
 names_in None = []
-names_in (Some cell) = map.keys cell.vectors ++ map.keys cell.features
+names_in (Some cell) = map.keys cell.features ++ map.keys cell.vectors

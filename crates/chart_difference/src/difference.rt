@@ -1,6 +1,6 @@
 //! The names whose records differ.
 
-ghost use Rattle.std.specs.Prelude.{◌≡◌, ◌≢◌, ◌↔◌, ◌++◌, None, IfOk, OnOk, Contains};
+ghost use Rattle.std.specs.Prelude.{◌≡◌, ◌≢◌, ◌↔◌, ◌++◌, ◌||◌, None, is_none, IfOk, OnOk, Contains};
 ghost use Rattle.std.specs.List.{filter};
 ghost use Rattle.std.specs.List.Sorted.{IsStrictlySortedBy};
 ghost use Rattle.std.specs.Option.{option_copied};
@@ -102,15 +102,22 @@ fn push_names<V: Drop>(names: &mut Vec<Name>, records: &NameMap<V>) -> Result<()
     Ok(())
 }
 
-/// Adds the names of a chart's records: none where there is no chart.
+/// Adds the names of a chart's records in their order, those of features first: none where there is no chart.
 fn push_all(names: &mut Vec<Name>, chart: Option<&Cell>) -> Result<(), AllocError>
     ensures { OnOk result (names.new.items ≡ names.old.items ++ names_in (option_copied chart.entry)) }
 {
     if let Some(cell) = chart {
-        push_names(names, &cell.vectors)?;
         push_names(names, &cell.features)?;
+        push_names(names, &cell.vectors)?;
     }
     Ok(())
+}
+
+/// Whether there is one chart at most: each of its records was put, or was taken out.
+fn lacks_one(old: Option<&Cell>, new: Option<&Cell>) -> bool
+    ensures { result ≡ (is_none (option_copied old.entry) || is_none (option_copied new.entry)) }
+{
+    old.is_none() || new.is_none()
 }
 
 /// The names whose records differ between two charts of a cell, in order: those that were put, changed or
@@ -125,5 +132,8 @@ pub fn changed_names(
     let mut names = Vec::new(alloc);
     push_all(&mut names, old)?;
     push_all(&mut names, new)?;
+    if lacks_one(old, new) {
+        return Ok(in_order_once(names));
+    }
     changed_among(alloc, old, new, names)
 }
