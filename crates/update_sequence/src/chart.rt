@@ -1,16 +1,19 @@
 //! The chart that a data set builds.
 
-ghost use Rattle.std.specs.Prelude.{◌≡◌, ◌↔◌, true, false, IfOk};
-ghost use Rattle.std.specs.Option.{option_copied};
+ghost use Rattle.std.specs.Prelude.{◌≡◌, ◌↔◌, true, false, None, IfOk};
+ghost use Rattle.std.specs.Option.{option_copied, option_map};
+ghost use Rattle.chart_closure.specs.Closed.{closure_fault};
+ghost use Rattle.chart_model.specs.Answers.{unless};
 ghost use Rattle.chart_model.specs.Cell.{IsChartHeader};
 ghost use Rattle.update_sequence.specs.Answers.{GivesBuilt};
+ghost use Rattle.update_sequence.specs.declared.fault.BuildFault.TheVariants as of_build;
 ghost use Rattle.update_sequence.specs.Built.{begun, built, folded, header_after};
 
 use crate::fault::BuildFault;
 use chart_closure::check;
-use chart_model::{Cell, Dataset, Header, UpdateRecord};
+use chart_model::{Cell, ChangeList, Dataset, Header, UpdateRecord};
 use std::alloc::{AllocError, Global};
-use update_apply::{Moves, apply_within};
+use update_apply::{Moves, apply_owned, apply_within};
 
 /// The header of a chart after an update: key, agency and scale of the base; edition, update and date
 /// of issue of the update.
@@ -56,6 +59,31 @@ pub(crate) fn make_all(
     Ok(cell)
 }
 
+/// The same by changes that are given away: the records that they insert take over their lists.
+#[tactic(auto, unfolding(crate::specs::Built::folded))]
+pub(crate) fn make_all_owned(
+    alloc: Global,
+    cell: Cell,
+    changes: ChangeList,
+) -> Result<Cell, BuildFault>
+    ensures { GivesBuilt result (folded cell changes) }
+{
+    let mut cell = cell;
+    let mut moves = Moves::of_file();
+    for change in changes.into_vec() {
+        apply_owned(alloc, &mut cell, change, &mut moves)?;
+    }
+    Ok(cell)
+}
+
+/// The chart that changes have left, where it is closed. It takes no memory.
+fn closed(cell: Cell) -> Result<Cell, BuildFault>
+    ensures { GivesBuilt result (unless (option_map of_build.Closure (closure_fault cell)) cell) }
+{
+    check(&cell)?;
+    Ok(cell)
+}
+
 /// A copy of the chart that is held.
 fn copy_of(alloc: Global, chart: Option<&Cell>) -> Result<Option<Cell>, AllocError>
     ensures { IfOk result (λ copy. copy ≡ option_copied chart.entry) }
@@ -81,7 +109,21 @@ pub fn build(alloc: Global, chart: Option<&Cell>, dataset: &Dataset) -> Result<C
 {
     let chart = copy_of(alloc, chart)?;
     let cell = begin(alloc, chart, &dataset.header);
-    let cell = make_all(alloc, cell, dataset.changes.as_slice())?;
-    check(&cell)?;
-    Ok(cell)
+    closed(make_all(alloc, cell, dataset.changes.as_slice())?)
+}
+
+/// Builds the chart of a base file, as `build` does, of a data set that is given away: the records of the chart take
+/// over the lists of its changes.
+///
+/// # Errors
+///
+/// As `build`.
+#[tactic(auto, unfolding(crate::specs::Built::built))]
+pub fn build_owned(alloc: Global, dataset: Dataset) -> Result<Cell, BuildFault>
+    requires stands { dataset.cancels ≡ false }
+    requires base { dataset.base ≡ true }
+    ensures { GivesBuilt result (built None dataset) }
+{
+    let cell = begin(alloc, None, &dataset.header);
+    closed(make_all_owned(alloc, cell, dataset.changes)?)
 }

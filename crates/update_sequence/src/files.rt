@@ -5,7 +5,7 @@ ghost use Rattle.update_sequence.specs.Built.{built};
 ghost use Rattle.update_sequence.specs.Rebuilt.{chart_with, rebuilt, data_records_of};
 ghost use Rattle.update_sequence.specs.Sound.{IsSoundList};
 
-use crate::chart::{begin, make_all};
+use crate::chart::{begin, make_all_owned};
 use crate::read::read_data_set;
 use chart_model::{Cell, Dataset, FileList};
 use chart_ports::Steps;
@@ -14,15 +14,15 @@ use std::sync::ledger::Ledger;
 
 /// The chart after one more data set, which is known to build one unless it cancels the cell. So
 /// nothing is asked of it again.
-fn follow(alloc: Global, chart: Option<Cell>, dataset: &Dataset) -> Result<Option<Cell>, AllocError>
-    requires { dataset.now.cancels ≡ false → IsOk (built chart dataset.now) }
-    ensures { IfOk result (λ after. after ≡ chart_with chart dataset.now) }
+fn follow(alloc: Global, chart: Option<Cell>, dataset: Dataset) -> Result<Option<Cell>, AllocError>
+    requires { dataset.cancels ≡ false → IsOk (built chart dataset) }
+    ensures { IfOk result (λ after. after ≡ chart_with chart dataset) }
 {
     if dataset.cancels {
         return Ok(None);
     }
     let cell = begin(alloc, chart, &dataset.header);
-    match make_all(alloc, cell, dataset.changes.as_slice()) {
+    match make_all_owned(alloc, cell, dataset.changes) {
         Ok(cell) => Ok(Some(cell)),
         Err(_) => Err(AllocError),
     }
@@ -48,7 +48,7 @@ pub fn rebuild<C: Ledger>(
         let Ok(dataset) = read_data_set(alloc, file.get().as_slice(), steps) else {
             return Err(AllocError);
         };
-        chart = follow(alloc, chart, &dataset)?;
+        chart = follow(alloc, chart, dataset)?;
     }
     Ok(chart)
 }

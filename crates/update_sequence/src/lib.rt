@@ -14,7 +14,7 @@ mod laws;
 mod local;
 mod read;
 
-pub use chart::build;
+pub use chart::{build, build_owned};
 pub use effect::{Effect, judge};
 pub use extension::extend;
 pub use fault::{BuildFault, ReadFault, SequenceFault};

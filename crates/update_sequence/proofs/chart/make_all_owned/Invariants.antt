@@ -1,0 +1,8 @@
+use Rattle.std.proofs.Common.{◌≡◌}
+use Rattle.std.specs.Vec.Iter.{into_iter_items}
+use Rattle.update_sequence.specs.Built.{folded}
+use Rattle.update_sequence.proofs.chart.make_all_owned.Given as goal
+
+-- the changes that are left make of the cell what all make of the first
+abbrev pub invariant-loop-change : goal.invariant-loop-change
+invariant-loop-change l = folded l.cell (into_iter_items l.change-iterator) ≡ folded l.fn.cell l.fn.changes
