@@ -3,7 +3,7 @@ use Rattle.std.proofs.Common.{◌≡◌, ℕ, ◌+◌, List, Ok, sym, ap, ◌∙
 use Rattle.chart_ports.specs.declared.images.Images.{Images}
 use Rattle.chart_ports.specs.Disk.{LeavesNoMore, SameFiles}
 use Rattle.chart_ports.specs.Moments.{MayBeLeft}
-use Rattle.bank_journal.specs.Bank.{HasContent, gate_of}
+use Rattle.bank_journal.specs.Bank.{HasContent}
 use Rattle.bank_journal.specs.Reading.{bank_of}
 use Rattle.chart_store.specs.declared.store.Store.{Store}
 use Rattle.chart_store.specs.Images.{read_of}

@@ -5,7 +5,6 @@ ghost use Rattle.std.specs.Option.{option_copied};
 ghost use Rattle.chart_difference.specs.Difference.{AreChanged};
 ghost use Rattle.update_sequence.specs.Built.{built};
 ghost use Rattle.update_sequence.specs.Others.{delete_none};
-ghost use Rattle.chart_store.specs.Taken.{chart_after};
 ghost use Rattle.chart_store.specs.declared.next.Naming.TheVariants as Naming;
 
 use crate::next::Naming;
@@ -13,7 +12,7 @@ use chart_difference::{changed_among, changed_names, in_order_once};
 use chart_model::codes::DELETE;
 use chart_model::{Cell, Dataset, Name, NameList, UpdateRecord};
 use std::alloc::{AllocError, Global};
-use update_sequence::{Effect, named_records_differ, other_records_stay};
+use update_sequence::{named_records_differ, other_records_stay};
 
 /// The names of the records that changes change, in the order of the changes.
 fn targets(alloc: Global, changes: &[UpdateRecord]) -> Result<Vec<Name>, AllocError>
@@ -29,9 +28,9 @@ fn delete_none(changes: &[UpdateRecord]) -> bool
     changes.iter().all(|change| change.ruin != DELETE)
 }
 
-/// The names whose records an update changes. Those of its changes alone are looked at, and no record where none is
-/// deleted: then each of them has got another.
-fn changed_by_update(
+/// The names whose records an update changes, in order. Those of its changes alone are looked at, and no record where
+/// none is deleted: then each of them has got another.
+fn named_by_update(
     alloc: Global,
     before: &Cell,
     now: &Cell,
@@ -66,24 +65,19 @@ pub(crate) fn changed_between(
     }
 }
 
-/// The names whose records differ between a chart and the one that a data set makes of it, in order, where they are
-/// worked out.
-pub(crate) fn changed_by_file(
+/// The names whose records an update changes, in order, where they are worked out.
+pub(crate) fn changed_by_update(
     alloc: Global,
     naming: Naming,
-    before: Option<&Cell>,
-    now: Option<&Cell>,
-    effect: Effect,
+    before: &Cell,
+    now: &Cell,
     dataset: &Dataset,
 ) -> Result<NameList, AllocError>
-    requires { chart_after (option_copied before) effect dataset.now ≡ Ok (option_copied now) }
-    ensures { naming ≡ Naming.Named →
-        IfOk result (AreChanged (option_copied before.entry) (option_copied now.entry)) }
+    requires { built (Some before.now) dataset.now ≡ Ok now.now }
+    ensures { naming ≡ Naming.Named → IfOk result (AreChanged (Some before.now) (Some now.now)) }
 {
-    match (naming, before, now, effect) {
-        (Naming::Named, Some(before), Some(now), Effect::Extend) => {
-            changed_by_update(alloc, before, now, dataset)
-        }
-        _ => changed_between(alloc, naming, before, now),
+    match naming {
+        Naming::Named => named_by_update(alloc, before, now, dataset),
+        Naming::Unnamed => Ok(NameList::new(alloc)),
     }
 }

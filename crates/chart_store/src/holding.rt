@@ -3,16 +3,13 @@
 ghost use Rattle.std.specs.Prelude.{◌≡◌, IfOk, IsSome, IsOk, OnOk, OnErr};
 ghost use Rattle.std.specs.Option.{option_copied};
 ghost use Rattle.std.specs.FinMap as map;
-ghost use Rattle.update_sequence.specs.declared.effect.Effect.TheVariants.{Extend};
-ghost use Rattle.chart_store.specs.Fault.{Gives};
 ghost use Rattle.chart_store.specs.Loaded.{files_of, files_after};
 ghost use Rattle.chart_store.specs.Next.{cells_with};
-ghost use Rattle.chart_store.specs.Taken.{held_of, chart_of, chart_after, MayBuild};
+ghost use Rattle.chart_store.specs.Taken.{held_of, chart_of};
 
-use crate::fault::TakeFault;
-use chart_model::{Cell, Dataset, FileList, Held, Holding, HoldingMap, Key, Octets, Shared};
+use chart_model::{Cell, FileList, Held, Holding, HoldingMap, Key, Octets, Shared};
 use std::alloc::{AllocError, Global};
-use update_sequence::{Effect, build, extend};
+use update_sequence::Effect;
 
 /// The numbers of a cell.
 pub(crate) fn held_of(before: Option<&Holding>) -> Option<&Held>
@@ -51,38 +48,6 @@ pub(crate) fn files_after(
     };
     files.push(file)?;
     Ok(files)
-}
-
-/// The chart that an update makes of the one that is held.
-fn chart_extended(
-    alloc: Global,
-    chart: Option<&Cell>,
-    dataset: &Dataset,
-) -> Result<Option<Cell>, TakeFault>
-    requires { MayBuild (option_copied chart) Extend dataset.now }
-    ensures { Gives result (chart_after (option_copied chart.entry) Extend dataset.now) }
-{
-    match chart {
-        Some(chart) => Ok(Some(extend(alloc, chart, dataset)?)),
-        None => unreachable!(),
-    }
-}
-
-/// The chart once a data set is taken over: none where it cancels the cell.
-pub(crate) fn chart_after(
-    alloc: Global,
-    chart: Option<&Cell>,
-    effect: Effect,
-    dataset: &Dataset,
-) -> Result<Option<Cell>, TakeFault>
-    requires { MayBuild (option_copied chart) effect dataset.now }
-    ensures { Gives result (chart_after (option_copied chart.entry) effect dataset.now) }
-{
-    match effect {
-        Effect::Replace => Ok(Some(build(alloc, None, dataset)?)),
-        Effect::Extend => chart_extended(alloc, chart, dataset),
-        Effect::Cancel => Ok(None),
-    }
 }
 
 /// Puts a cell in place of what is held of it, or takes it away, and gives what was held. It takes memory only where

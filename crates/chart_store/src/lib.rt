@@ -14,6 +14,7 @@ mod images_laws;
 mod laws;
 mod live;
 mod load;
+mod made;
 mod next;
 mod open_fault;
 mod opening;

@@ -13,13 +13,13 @@ ghost use Rattle.chart_store.specs.Next.{IsNext, GivesNext, GivesNextState};
 ghost use Rattle.chart_store.specs.Taken.{held_of, chart_of, held_after, cell_after, replaced_bytes, placed, taken};
 ghost use Rattle.chart_store.specs.declared.next.Naming.TheVariants as Naming;
 
-use crate::changed::changed_by_file;
 use crate::fault::TakeFault;
-use crate::holding::{chart_after, chart_of, files_after, held_of};
+use crate::holding::{chart_of, files_after, held_of};
 use crate::live::{CELLS_LIMIT, LiveCells, STORE_LIMIT, bytes_of};
+use crate::made::{Made, made_by};
 use crate::next::{Naming, Next};
 use crate::refusal::Refusal;
-use chart_model::{Cell, Dataset, Header, Held, Holding, Key, NameList, Octets};
+use chart_model::{Dataset, Header, Held, Holding, Key, Octets};
 use chart_ports::Steps;
 use std::alloc::Global;
 use std::sync::ledger::Ledger;
@@ -31,12 +31,11 @@ use update_sequence::{
 /// The most bytes of a file that is loaded.
 pub const FILE_LIMIT: u64 = 8_388_608;
 
-/// What a file makes of its cell: the numbers and the chart then, and the names whose records differ.
-#[derive(Drop)]
-struct Made {
-    held: Held,
-    chart: Option<Cell>,
-    changed: NameList,
+/// The key of the cell that a data set is of.
+fn key_of(dataset: &Dataset) -> Key
+    ensures { result ≡ dataset.now.header.key }
+{
+    dataset.header.key
 }
 
 /// The numbers that are held of a cell after a file.
@@ -72,7 +71,8 @@ fn replaced_bytes(before: Option<&Holding>, effect: Effect) -> u64
 /// The bytes of all live files once a file is taken over.
 fn bytes_after(live: &LiveCells, key: Key, effect: Effect, file: &[u8]) -> u64
     requires { IsFileLength (length file.now) }
-    ensures { result ≡ live_bytes live.now.cells - replaced_bytes (map.get live.now.cells key) effect + length file.now }
+    ensures { result
+        ≡ live_bytes live.now.cells - replaced_bytes (map.get live.now.cells key) effect + length file.now }
 {
     let before = live.cells().get(key);
     live.bytes() - replaced_bytes(before, effect) + file.len() as u64
@@ -116,43 +116,37 @@ fn with_file(
     })
 }
 
-/// What is held once a data set and its file are taken over, as they were judged: by the effect and the numbers that are
-/// held then.
+/// What is held once a data set and its file are taken over, as they were judged: by the effect and the numbers that
+/// are held then.
 fn placed(
     alloc: Global,
     live: &LiveCells,
-    dataset: &Dataset,
+    dataset: Dataset,
     file: Octets,
     effect: Effect,
     held: Held,
     naming: Naming,
 ) -> Result<Next, TakeFault>
-    requires reads { data_set_in file ≡ Ok dataset.now }
+    requires reads { data_set_in file ≡ Ok dataset }
     requires short { IsFileLength (length file) }
-    requires live { IfSome (map.get live.now.cells dataset.now.header.key) (IsLive dataset.now.header.key) }
-    requires judged { judged (held_of (map.get live.now.cells dataset.now.header.key)) dataset.now ≡ Ok effect }
-    requires held { held ≡ held_after (map.get live.now.cells dataset.now.header.key) effect dataset.now.header }
+    requires live { IfSome (map.get live.now.cells dataset.header.key) (IsLive dataset.header.key) }
+    requires judged { judged (held_of (map.get live.now.cells dataset.header.key)) dataset ≡ Ok effect }
+    requires held { held ≡ held_after (map.get live.now.cells dataset.header.key) effect dataset.header }
     ensures after { GivesNextState result live.now
-        (placed live.now dataset.now file (map.get live.now.cells dataset.now.header.key) effect) }
+        (placed live.now dataset file (map.get live.now.cells dataset.header.key) effect) }
     ensures stands { IfOk result (IsNext live.now) }
-    ensures key { IfOk result (λ next. next.key ≡ dataset.now.header.key) }
+    ensures key { IfOk result (λ next. next.key ≡ dataset.header.key) }
     ensures held { IfOk result (λ next. next.held ≡ held) }
     ensures changed { naming ≡ Naming.Named → IfOk result (λ next.
-        AreChanged (chart_of (map.get live.now.cells dataset.now.header.key)) (chart_of next.holding) next.changed) }
+        AreChanged (chart_of (map.get live.now.cells dataset.header.key)) (chart_of next.holding) next.changed) }
 {
     files_are_data_sets();
     one_file_more();
     accepted_files_follow();
     sound_lists_are_held();
-    let key = dataset.header.key;
+    let key = key_of(&dataset);
     let before = chart_of(live.cells().get(key));
-    let chart = chart_after(alloc, before, effect, dataset)?;
-    let changed = changed_by_file(alloc, naming, before, chart.as_ref(), effect, dataset)?;
-    let made = Made {
-        held,
-        chart,
-        changed,
-    };
+    let made = made_by(alloc, before, dataset, effect, held, naming)?;
     with_file(alloc, live, key, effect, made, file)
 }
 
@@ -160,22 +154,22 @@ fn placed(
 fn next_of_data_set(
     alloc: Global,
     live: &LiveCells,
-    dataset: &Dataset,
+    dataset: Dataset,
     file: Octets,
     naming: Naming,
 ) -> Result<Next, TakeFault>
-    requires reads { data_set_in file ≡ Ok dataset.now }
+    requires reads { data_set_in file ≡ Ok dataset }
     requires short { IsFileLength (length file) }
     ensures after { GivesNext result live.now
-        (taken live.now dataset.now file (map.get live.now.cells dataset.now.header.key)) }
+        (taken live.now dataset file (map.get live.now.cells dataset.header.key)) }
     ensures stands { IfOk result (IsNext live.now) }
     ensures changed { naming ≡ Naming.Named → IfOk result (λ next.
         AreChanged (chart_of (map.get live.now.cells next.key)) (chart_of next.holding) next.changed) }
     ensures live { AreLive live.now.cells }
 {
-    let key = dataset.header.key;
+    let key = key_of(&dataset);
     let before = live.cells().get(key);
-    let effect = judge(held_of(before), dataset)?;
+    let effect = judge(held_of(before), &dataset)?;
     let held = held_after(before, effect, &dataset.header);
     if live.is_full_for(key) {
         return Err(TakeFault::Refused(Refusal::CellsFull(CELLS_LIMIT)));
@@ -205,5 +199,5 @@ pub(crate) fn next_of_file<C: Ledger>(
         return Err(TakeFault::Refused(Refusal::FileLong(FILE_LIMIT)));
     }
     let dataset = read_data_set(alloc, file.as_slice(), steps)?;
-    next_of_data_set(alloc, live, &dataset, file, naming)
+    next_of_data_set(alloc, live, dataset, file, naming)
 }

@@ -2,7 +2,7 @@
 use Rattle.std.proofs.Common.{ap}
 use Rattle.chart_model.specs.Dataset.{DatasetValue}
 use Rattle.chart_store.proofs.Differing.{names-differing, all-differ}
-use Rattle.chart_store.proofs.changed.changed_by_update.Goals as goal
+use Rattle.chart_store.proofs.changed.named_by_update.Goals as goal
 
 pub returns-then-delete_none : goal.returns-then-delete_none
 returns-then-delete_none c =

@@ -1,59 +1,56 @@
 -- What was judged can be built, and is then what the files leave.
 use Rattle.std.proofs.Common.{◌∙◌, Option, sym, ap, subst}
 use Rattle.std.specs.FinMap as map
-use Rattle.std.specs.Option.{option_copied}
 use Rattle.chart_difference.specs.Difference.{AreChanged}
 use Rattle.chart_model.specs.Cell.{CellValue}
-use Rattle.chart_model.specs.Dataset.{DatasetValue}
 use Rattle.chart_store.specs.Taken.{chart_after, MayBuild}
 use Rattle.chart_store.proofs.Loading.{Laws}
 use Rattle.chart_store.proofs.Placing.{Holds, may-build, chart-found, live-by, placed-in, changed-in}
 use Rattle.chart_store.proofs.load.placed.Goals as goal
 
-pub chart_after-requires : goal.chart_after-requires
-chart_after-requires c =
-    let keyed = ap (λ (d : DatasetValue). d.header.key) c.dataset.view_is in
+pub made_by-requires : goal.made_by-requires
+made_by-requires c =
+    let keyed = c.key_of-key.ensures in
     let found = chart-found c.args.live.now.cells _ _ _ _ _ c.chart_of-before.ensures c.get.ensures c.cells.ensures.cells keyed in
     let holds : Holds = record {
       held = c.sound_lists_are_held.ensures.held;
       closed = c.sound_lists_are_held.ensures.closed;
     } in
-    subst (λ (chart : Option CellValue). MayBuild chart c.args.effect c.args.dataset.now) (sym found)
-    (may-build holds c.args.dataset.now.header.key (map.get c.args.live.now.cells c.args.dataset.now.header.key)
-    c.args.dataset.now c.args.effect (c.files_are_data_sets.ensures.kept c.args.file c.args.dataset.now c.requires.reads)
+    subst (λ (chart : Option CellValue). MayBuild chart c.args.effect c.args.dataset) (sym found)
+    (may-build holds c.args.dataset.header.key (map.get c.args.live.now.cells c.args.dataset.header.key)
+    c.args.dataset c.args.effect (c.files_are_data_sets.ensures.kept c.args.file c.args.dataset c.requires.reads)
     c.requires.live c.requires.judged)
 
 pub with_file-requires-clause-live : goal.with_file-requires-clause-live
 with_file-requires-clause-live c =
-    let keyed = ap (λ (d : DatasetValue). d.header.key) c.dataset.view_is in
+    let keyed = c.key_of-key.ensures in
     let found = chart-found c.args.live.now.cells _ _ _ _ _ c.chart_of-before.ensures c.get.ensures c.cells.ensures.cells keyed in
-    let builds = ap (λ (chart : Option CellValue). chart_after chart c.args.effect c.args.dataset.now) (sym found)
-    ∙ c.in_ok-chart.ensures in
+    let builds = ap (λ (chart : Option CellValue). chart_after chart c.args.effect c.args.dataset) (sym found)
+    ∙ c.in_ok-made.ensures.chart in
     let laws : Laws = record {
       none = c.one_file_more.ensures.none;
       replaces = c.accepted_files_follow.ensures.replaces;
       extends = c.accepted_files_follow.ensures.extends;
       cancels = c.accepted_files_follow.ensures.cancels;
     } in
-    live-by c.args.live.now c.args.dataset.now c.args.file c.args.effect c.args.held c.in_ok-chart.chart
-    c.dataset.inside.header.key keyed c.requires.held builds laws c.requires.live c.requires.reads c.requires.short
+    live-by c.args.live.now c.args.dataset c.args.file c.args.effect c.in_ok-made.made.held c.in_ok-made.made.chart
+    c.key_of-key.result keyed (c.in_ok-made.ensures.held ∙ c.requires.held) builds laws c.requires.live c.requires.reads c.requires.short
     c.requires.judged
 
 pub returns-clause-after : goal.returns-clause-after
 returns-clause-after c =
-    let keyed = ap (λ (d : DatasetValue). d.header.key) c.dataset.view_is in
+    let keyed = c.key_of-key.ensures in
     let found = chart-found c.args.live.now.cells _ _ _ _ _ c.chart_of-before.ensures c.get.ensures c.cells.ensures.cells keyed in
-    let builds = ap (λ (chart : Option CellValue). chart_after chart c.args.effect c.args.dataset.now) (sym found)
-    ∙ c.in_ok-chart.ensures in
-    placed-in c.args.live.now c.args.dataset.now c.args.file c.args.effect c.args.held c.in_ok-chart.chart
-    c.dataset.inside.header.key keyed c.requires.held builds c.with_file.result c.with_file.ensures.after
+    let builds = ap (λ (chart : Option CellValue). chart_after chart c.args.effect c.args.dataset) (sym found)
+    ∙ c.in_ok-made.ensures.chart in
+    placed-in c.args.live.now c.args.dataset c.args.file c.args.effect c.in_ok-made.made.held c.in_ok-made.made.chart
+    c.key_of-key.result keyed (c.in_ok-made.ensures.held ∙ c.requires.held) builds c.with_file.result c.with_file.ensures.after
 
 pub returns-clause-changed : goal.returns-clause-changed
 returns-clause-changed c = λ named.
-    let keyed = ap (λ (d : DatasetValue). d.header.key) c.dataset.view_is in
+    let keyed = c.key_of-key.ensures in
     let found = chart-found c.args.live.now.cells _ _ _ _ _ c.chart_of-before.ensures c.get.ensures c.cells.ensures.cells keyed in
-    changed-in c.with_file.result _ c.in_ok-chart.chart c.in_ok-changed.changed c.with_file.ensures.changed
-    c.with_file.ensures.chart
-    (subst (λ (chart : Option CellValue). AreChanged chart c.in_ok-chart.chart c.in_ok-changed.changed) found
-    (subst (λ (chart : Option CellValue). AreChanged (option_copied c.chart_of-before.result) chart c.in_ok-changed.changed) c.as_ref.ensures.value
-    (c.in_ok-changed.ensures named)))
+    let made = c.in_ok-made.made in
+    changed-in c.with_file.result _ made.chart made.changed c.with_file.ensures.changed c.with_file.ensures.chart
+    (subst (λ (chart : Option CellValue). AreChanged chart made.chart made.changed) found
+    (c.in_ok-made.ensures.changed named))
