@@ -57,7 +57,8 @@ fn keep_changed(
     new: Option<&Cell>,
     names: Vec<Name>,
 ) -> Result<NameList, AllocError>
-    ensures { IfOk result (λ kept. kept ≡ filter (differ (option_copied old.entry) (option_copied new.entry)) names.items) }
+    ensures { IfOk result (λ kept. kept
+        ≡ filter (differ (option_copied old.entry) (option_copied new.entry)) names.items) }
 {
     let mut kept = NameList::new(alloc);
     for name in names {

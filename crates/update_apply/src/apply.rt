@@ -3,7 +3,8 @@
 ghost use Rattle.std.specs.Prelude.{◌≡◌, None, OnOk, OnErr};
 ghost use Rattle.std.specs.Option.{option_map};
 ghost use Rattle.std.specs.FinMap as map;
-ghost use Rattle.update_apply.specs.Changed.{changed, changed_in, inserted_vector, inserted_feature, modified_vector, modified_feature};
+ghost use Rattle.update_apply.specs.Changed.{changed, changed_in, inserted_vector, inserted_feature};
+ghost use Rattle.update_apply.specs.Changed.{modified_vector, modified_feature};
 ghost use Rattle.update_apply.specs.Fault as spec;
 
 use crate::fault::ChangeFault;

@@ -31,7 +31,8 @@ fn take_out<T: Copy>(list: &mut Vec<T>, front: usize, count: usize)
 /// Writes items over as many others, from a place on, from 0.
 fn replace<T: Copy>(list: &mut Vec<T>, front: usize, given: &[T])
     requires { front + length given.now ≤ vec_len list.old }
-    ensures { list.new.items ≡ take front list.old.items ++ given.now ++ drop (front + length given.now) list.old.items }
+    ensures { list.new.items
+        ≡ take front list.old.items ++ given.now ++ drop (front + length given.now) list.old.items }
 {
     list.as_mut_slice()[front..front + given.len()].copy_from_slice(given);
 }

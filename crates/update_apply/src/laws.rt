@@ -8,13 +8,16 @@ ghost use Rattle.update_apply.specs.Fault.{fault_of};
 
 /// Where a change has no fault, one cell follows by the rule, and no other.
 pub fn one_cell_follows()
-    ensures follows { (cell : CellValue) (change : Change) → IsChange change → fault_of cell change ≡ None → Changes cell change (changed cell change) }
-    ensures alone { (cell : CellValue) (change : Change) (after : CellValue) → IsChange change → Changes cell change after → after ≡ changed cell change }
+    ensures follows { (cell : CellValue) (change : Change) → IsChange change → fault_of cell change ≡ None →
+        Changes cell change (changed cell change) }
+    ensures alone { (cell : CellValue) (change : Change) (after : CellValue) → IsChange change →
+        Changes cell change after → after ≡ changed cell change }
 {}
 
 /// A change without a fault keeps what holds of every cell.
 pub fn cells_are_kept()
-    ensures { (cell : CellValue) (change : Change) → IsCell cell → IsChange change → fault_of cell change ≡ None → IsCell (changed cell change) }
+    ensures { (cell : CellValue) (change : Change) → IsCell cell → IsChange change → fault_of cell change ≡ None →
+        IsCell (changed cell change) }
 {}
 
 /// A change leaves the header of the cell.

@@ -90,9 +90,11 @@ fn edit_parts<T: Copy>(
     requires pointers { FitsEach change.now.pointer_edit change.now.pointers pointers.old.items }
     requires others { FitsEach control given.now others.old.items }
     ensures attrs { OnOk result (attrs.new ≡ set_attrs attrs.old change.now.attrs) }
-    ensures pointers { OnOk result (pointers.new.items ≡ edited change.now.pointer_edit change.now.pointers pointers.old.items) }
+    ensures pointers { OnOk result (pointers.new.items
+        ≡ edited change.now.pointer_edit change.now.pointers pointers.old.items) }
     ensures others { OnOk result (others.new.items ≡ edited control given.now others.old.items) }
-    ensures err { OnErr result ((attrs.new ≡ attrs.old) × (pointers.new.items ≡ pointers.old.items) × (others.new.items ≡ others.old.items)) }
+    ensures err { OnErr result ((attrs.new ≡ attrs.old) × (pointers.new.items ≡ pointers.old.items) ×
+        (others.new.items ≡ others.old.items)) }
 {
     let given_pointers = change.pointers.as_slice();
     pointers.reserve(added(change.pointer_edit, given_pointers))?;

@@ -7,7 +7,8 @@ use Rattle.update_apply.proofs.apply.apply_within.Goals as goal
 
 pub invariant_of-cell : goal.invariant_of-cell
 invariant_of-cell c =
-    let cell : CellValue = record { header = c.cell.inside.header; vectors = c.cell.inside.vectors; features = c.cell.inside.features } in
+    let seen = c.cell.inside in
+    let cell : CellValue = record { header = seen.header; vectors = seen.vectors; features = seen.features } in
     features-changed cell c.args.change.now c.change_features-done.new.features c.change_features-done.result
     (subst (λ change. change.target.rcnm ≡ 100) c.change.view_is c.if-change-eq-FEATURE.true)
     c.cell.invariant
@@ -18,7 +19,8 @@ invariant_of-cell c =
 
 pub invariant_of-cell-else-change-eq-FEATURE : goal.invariant_of-cell-else-change-eq-FEATURE
 invariant_of-cell-else-change-eq-FEATURE c =
-    let cell : CellValue = record { header = c.cell.inside.header; vectors = c.cell.inside.vectors; features = c.cell.inside.features } in
+    let seen = c.cell.inside in
+    let cell : CellValue = record { header = seen.header; vectors = seen.vectors; features = seen.features } in
     vectors-changed cell c.args.change.now c.change_vectors-done.new.vectors c.change_vectors-done.result
     (subst (λ change. change.target.rcnm ≢ 100) c.change.view_is c.if-change-eq-FEATURE.false)
     c.cell.invariant
