@@ -11,7 +11,7 @@ use chart_model::{Cell, Name};
 use std::alloc::Global;
 use std::test::Fail;
 use update_apply::ChangeFault;
-use update_sequence::{BuildFault, build, charts_are_closed, extend};
+use update_sequence::{BuildFault, build, build_owned, charts_are_closed, extend};
 
 const NODE: Name = Name { rcnm: 110, rcid: 1 };
 
@@ -28,7 +28,7 @@ fn base_chart(alloc: Global) -> Result<Cell, Fail>
     if dataset.cancels || !dataset.base {
         return Err("it is a base file".into());
     }
-    Ok(build(alloc, None, &dataset)?)
+    Ok(build_owned(alloc, dataset)?)
 }
 
 /// What is looked at of a chart.
