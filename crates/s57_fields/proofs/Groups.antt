@@ -27,7 +27,7 @@ use Rattle.s57_fields.proofs.Every.{every-drop, every-step, every-end}
 abbrev joined : List (List Value) → List Value
 joined groups = flat_map (λ group. group) groups
 
-abbrev given : List Value → List (Option Value)
+abbrev pub given : List Value → List (Option Value)
 given values = map (λ value. Some value) values
 
 -- the values of groups at one place of each
@@ -35,7 +35,7 @@ abbrev at_place : ℕ → List (List Value) → List (Option Value)
 at_place n groups = map (λ group. slice_get group n) groups
 
 -- stands for the element of a list that has one
-any : Value
+pub any : Value
 any = Number (pos 0)
 
 -- ---- a column
@@ -131,7 +131,7 @@ fault-each read fault (value ∷ values) =
     one_fault fault (read value) (read_each read fault values) _ (fault-each read fault values)
 
 -- the values are those of the groups, and so is what they are read as
-reads-groups :
+pub reads-groups :
     {A G : Type 0} (read : Value → Option A) (value_of : G → Option Value) (values : List Value) (groups : List G) →
     given values ≡ map value_of groups → map read values ≡ map (λ group. option_and_then read (value_of group)) groups
 reads-groups read value_of values groups same =

@@ -33,7 +33,8 @@ use Rattle.s57_fields.specs.RowValues.{RowValues}
 use Rattle.s57_fields.specs.Signed.{number_within, depth_in, LATITUDE, LONGITUDE}
 use Rattle.s57_fields.specs.Texts.{plain_text}
 use Rattle.s57_fields.proofs.Groups.{column-is}
-use Rattle.s57_fields.proofs.Rows.{both, both-zip, items-made, two, three, four, five}
+use Rattle.s57_fields.specs.Tails.{both}
+use Rattle.s57_fields.proofs.Rows.{both-zip, items-made, two, three, four, five}
 use Rattle.s57_fields.proofs.Rows.{bind_then, ok_is, bind_fault, listed-there, listed-absent, listed-items}
 
 abbrev a_byte : Value → Option ℕ

@@ -8,5 +8,7 @@ pub mod Items
 pub mod Joined
 pub mod Listed
 pub mod Numbers
+pub mod Passes
 pub mod Rows
+pub mod Tails
 pub mod Whole

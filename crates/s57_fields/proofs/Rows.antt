@@ -7,12 +7,9 @@ use Rattle.s57_fields.specs.declared.fault.FieldFault.{FieldFault}
 use Rattle.chart_model.specs.Answers.{◌>>=◌, first_of}
 use Rattle.s57_fields.specs.Columns.{listed}
 use Rattle.s57_fields.specs.Groups.{GroupedField, values_in, groups_in, fault_in}
+use Rattle.s57_fields.specs.Tails.{both}
 
 -- ---- items
-
--- what an element gives two times, as a pair
-abbrev pub both : {G A B : Type 0} → (G → Option A) → (G → Option B) → G → Option (A × B)
-both f h g = option_and_then (λ a. option_and_then (λ b. Some (a, b)) (h g)) (f g)
 
 pub both-zip :
     {G A B : Type 0} (f : G → Option A) (h : G → Option B) (gs : List G) (xs : List A) (ys : List B) →

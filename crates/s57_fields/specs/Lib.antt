@@ -13,4 +13,5 @@ pub mod Places
 pub mod RowValues
 pub mod Signed
 pub mod Tags
+pub mod Tails
 pub mod Texts

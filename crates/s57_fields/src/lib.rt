@@ -8,6 +8,7 @@
 mod column;
 mod fault;
 mod general;
+mod group;
 mod identifiers;
 mod kind;
 pub mod labels;

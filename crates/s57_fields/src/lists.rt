@@ -1,12 +1,13 @@
 //! The rows of attributes and related objects, and the control fields that edit lists.
 
-ghost use Rattle.std.specs.Prelude.{◌≡◌, All, IfOk};
+ghost use Rattle.std.specs.Prelude.{◌≡◌, All, IfOk, IfSome, Ok};
 ghost use Rattle.std.specs.Option.{option_copied};
 ghost use Rattle.chart_model.specs.Record.{IsPlainText};
 ghost use Rattle.s57_fields.specs.Answers.{Gives};
 ghost use Rattle.s57_fields.specs.Lists.{attributes, related};
 
 use crate::fault::FieldFault;
+use crate::group::{Group, read_behind};
 use crate::labels::{
     ATTL, ATVL, CCIX, CCNC, CCUI, FFIX, FFUI, FSIX, FSUI, LNAM, NFPT, NSPT, NVPT, RIND, VPIX, VPUI,
 };
@@ -17,6 +18,7 @@ use crate::subfield::Subfield;
 use crate::text::PlainText;
 use chart_model::{Attr, AttrList, Control, Foid, Octets, Related, RelatedList};
 use iso8211_formats::Descriptor;
+use iso8211_records::Value;
 use std::alloc::{AllocError, Global};
 
 /// A row ATTV or ATTF as it stands in a file's descriptor.
@@ -40,6 +42,32 @@ pub struct ControlRow {
 pub struct RelatedRow {
     pub lnam: Subfield,
     pub rind: Subfield,
+}
+
+/// A group of attributes: the code first, and the text so far behind it.
+#[derive(Clone, Copy)]
+struct AttributeGroup {
+    atvl: u8,
+}
+
+impl Group for AttributeGroup {
+    ghost use Rattle.s57_fields.specs.Tails.{attribute_behind};
+
+    type Output = Attr;
+
+    ghost reads = { λ group. attribute_behind group.atvl };
+
+    ghost holds = { λ _ attr. IsPlainText attr.value };
+
+    fn read(&self, alloc: Global, group: &[Value]) -> Result<Option<Attr>, AllocError> {
+        let Some(code) = read_behind(alloc, &TwoBytes, group, 0)? else {
+            return Ok(None);
+        };
+        let Some(value) = read_behind(alloc, &PlainText, group, self.atvl)? else {
+            return Ok(None);
+        };
+        Ok(Some(Attr { code, value }))
+    }
 }
 
 /// Each code with the text beside it.
@@ -83,7 +111,32 @@ impl AttributeRow {
         if values.is_empty() {
             return Ok(AttrList::new(alloc));
         }
+        if let Some(attrs) = self.read_groups(alloc, values)? {
+            return Ok(attrs);
+        }
         self.read_columns(alloc, values)
+    }
+
+    /// Reads attributes in one pass, where each has a code and a text behind it, and none is bad.
+    fn read_groups(
+        &self,
+        alloc: Global,
+        values: &RowFields<'_>,
+    ) -> Result<Option<AttrList>, AllocError>
+        ensures found { IfOk result (λ read. IfSome read (λ attrs. attribute_columns self.now values.now ≡ Ok attrs)) }
+        ensures plain { IfOk result (λ read. IfSome read (λ attrs. All (λ attr. IsPlainText attr.value) attrs)) }
+    {
+        let Some(groups) = self.attl.groups() else {
+            return Ok(None);
+        };
+        let Some(atvl) = self.atvl.distance(&groups) else {
+            return Ok(None);
+        };
+        match groups.read(alloc, values, &AttributeGroup { atvl }) {
+            Ok(Some(attrs)) => Ok(Some(AttrList::from_vec(attrs))),
+            Ok(None) => Ok(None),
+            Err(fault) => Err(fault),
+        }
     }
 
     #[tactic(auto, unfolding(crate::specs::Lists::attribute_columns))]
@@ -164,6 +217,32 @@ impl ControlRow {
     }
 }
 
+/// A group of related objects: the identifier first, and the relationship so far behind it.
+#[derive(Clone, Copy)]
+struct RelatedGroup {
+    rind: u8,
+}
+
+impl Group for RelatedGroup {
+    ghost use Rattle.s57_fields.specs.Tails.{related_behind};
+
+    type Output = Related;
+
+    ghost reads = { λ group. related_behind group.rind };
+
+    ghost holds = { λ _ _. Unit {0} };
+
+    fn read(&self, alloc: Global, group: &[Value]) -> Result<Option<Related>, AllocError> {
+        let Some(foid) = read_behind(alloc, &ObjectName, group, 0)? else {
+            return Ok(None);
+        };
+        let Some(rind) = read_behind(alloc, &OneByte, group, self.rind)? else {
+            return Ok(None);
+        };
+        Ok(Some(Related { foid, rind }))
+    }
+}
+
 /// Each identifier with the relationship beside it.
 fn related(alloc: Global, foids: Vec<Foid>, rinds: Vec<u8>) -> Result<RelatedList, AllocError>
     ensures { IfOk result (λ joined. joined ≡ related foids.items rinds.items) }
@@ -202,7 +281,31 @@ impl RelatedRow {
         if values.is_empty() {
             return Ok(RelatedList::new(alloc));
         }
+        if let Some(related) = self.read_groups(alloc, values)? {
+            return Ok(related);
+        }
         self.read_columns(alloc, values)
+    }
+
+    /// Reads related objects in one pass, where each has a relationship behind it, and none is bad.
+    fn read_groups(
+        &self,
+        alloc: Global,
+        values: &RowFields<'_>,
+    ) -> Result<Option<RelatedList>, AllocError>
+        ensures { IfOk result (λ read. IfSome read (λ related. related_columns self.now values.now ≡ Ok related)) }
+    {
+        let Some(groups) = self.lnam.groups() else {
+            return Ok(None);
+        };
+        let Some(rind) = self.rind.distance(&groups) else {
+            return Ok(None);
+        };
+        match groups.read(alloc, values, &RelatedGroup { rind }) {
+            Ok(Some(related)) => Ok(Some(RelatedList::from_vec(related))),
+            Ok(None) => Ok(None),
+            Err(fault) => Err(fault),
+        }
     }
 
     #[tactic(auto, unfolding(crate::specs::Lists::related_columns))]

@@ -1,11 +1,12 @@
 //! The rows of pointers to spatial records.
 
-ghost use Rattle.std.specs.Prelude.{◌≡◌, All, IfOk};
+ghost use Rattle.std.specs.Prelude.{◌≡◌, All, IfOk, IfSome, Ok};
 ghost use Rattle.std.specs.Option.{option_copied};
 ghost use Rattle.s57_fields.specs.Answers.{Gives};
 ghost use Rattle.s57_fields.specs.Lists.{vector_pointers, feature_pointers};
 
 use crate::fault::FieldFault;
+use crate::group::{Group, read_behind};
 use crate::labels::{MASK, NAME, ORNT, TOPI, USAG};
 use crate::name::RecordName;
 use crate::number::OneByte;
@@ -14,6 +15,7 @@ use crate::subfield::Subfield;
 use chart_model::codes::NULL;
 use chart_model::{Name, Pointer, Pointers};
 use iso8211_formats::Descriptor;
+use iso8211_records::Value;
 use std::alloc::{AllocError, Global};
 
 /// The row VRPT as it stands in a file's descriptor.
@@ -33,6 +35,50 @@ pub struct FeaturePointerRow {
     pub ornt: Subfield,
     pub usag: Subfield,
     pub mask: Subfield,
+}
+
+/// A group of a vector record's pointers: the name first, and the numbers so far behind it.
+#[derive(Clone, Copy)]
+struct VectorPointerGroup {
+    ornt: u8,
+    usag: u8,
+    topi: u8,
+    mask: u8,
+}
+
+impl Group for VectorPointerGroup {
+    ghost use Rattle.s57_fields.specs.Tails.{vector_pointer_behind};
+
+    type Output = Pointer;
+
+    ghost reads = { λ group. vector_pointer_behind group.ornt group.usag group.topi group.mask };
+
+    ghost holds = { λ _ _. Unit {0} };
+
+    fn read(&self, alloc: Global, group: &[Value]) -> Result<Option<Pointer>, AllocError> {
+        let Some(target) = read_behind(alloc, &RecordName, group, 0)? else {
+            return Ok(None);
+        };
+        let Some(ornt) = read_behind(alloc, &OneByte, group, self.ornt)? else {
+            return Ok(None);
+        };
+        let Some(usag) = read_behind(alloc, &OneByte, group, self.usag)? else {
+            return Ok(None);
+        };
+        let Some(topi) = read_behind(alloc, &OneByte, group, self.topi)? else {
+            return Ok(None);
+        };
+        let Some(mask) = read_behind(alloc, &OneByte, group, self.mask)? else {
+            return Ok(None);
+        };
+        Ok(Some(Pointer {
+            target,
+            ornt,
+            usag,
+            topi,
+            mask,
+        }))
+    }
 }
 
 /// Each name with the numbers beside it.
@@ -93,7 +139,50 @@ impl VectorPointerRow {
         if values.is_empty() {
             return Ok(Pointers::new(alloc));
         }
+        if let Some(pointers) = self.read_groups(alloc, values)? {
+            return Ok(pointers);
+        }
         self.read_columns(alloc, values)
+    }
+
+    /// Reads pointers in one pass, where each has all its numbers behind the name, and none is bad.
+    fn read_groups(
+        &self,
+        alloc: Global,
+        values: &RowFields<'_>,
+    ) -> Result<Option<Pointers>, AllocError>
+        ensures { IfOk result (λ read. IfSome read (λ pointers.
+            vector_pointer_columns self.now values.now ≡ Ok pointers)) }
+    {
+        let Some(groups) = self.name.groups() else {
+            return Ok(None);
+        };
+        let Some(ornt) = self.ornt.distance(&groups) else {
+            return Ok(None);
+        };
+        let Some(usag) = self.usag.distance(&groups) else {
+            return Ok(None);
+        };
+        let Some(topi) = self.topi.distance(&groups) else {
+            return Ok(None);
+        };
+        let Some(mask) = self.mask.distance(&groups) else {
+            return Ok(None);
+        };
+        match groups.read(
+            alloc,
+            values,
+            &VectorPointerGroup {
+                ornt,
+                usag,
+                topi,
+                mask,
+            },
+        ) {
+            Ok(Some(pointers)) => Ok(Some(Pointers::from_vec(pointers))),
+            Ok(None) => Ok(None),
+            Err(fault) => Err(fault),
+        }
     }
 
     #[tactic(auto, unfolding(crate::specs::Lists::vector_pointer_columns))]
@@ -106,6 +195,47 @@ impl VectorPointerRow {
         let topis = self.topi.column(alloc, values, &OneByte)?;
         let masks = self.mask.column(alloc, values, &OneByte)?;
         Ok(vector_pointers(alloc, names, ornts, usags, topis, masks)?)
+    }
+}
+
+/// A group of a feature's pointers: the name first, and the numbers so far behind it.
+#[derive(Clone, Copy)]
+struct FeaturePointerGroup {
+    ornt: u8,
+    usag: u8,
+    mask: u8,
+}
+
+impl Group for FeaturePointerGroup {
+    ghost use Rattle.chart_model.specs.Codes.{NULL};
+    ghost use Rattle.s57_fields.specs.Tails.{feature_pointer_behind};
+
+    type Output = Pointer;
+
+    ghost reads = { λ group. feature_pointer_behind group.ornt group.usag group.mask };
+
+    ghost holds = { λ _ pointer. pointer.topi ≡ NULL };
+
+    fn read(&self, alloc: Global, group: &[Value]) -> Result<Option<Pointer>, AllocError> {
+        let Some(target) = read_behind(alloc, &RecordName, group, 0)? else {
+            return Ok(None);
+        };
+        let Some(ornt) = read_behind(alloc, &OneByte, group, self.ornt)? else {
+            return Ok(None);
+        };
+        let Some(usag) = read_behind(alloc, &OneByte, group, self.usag)? else {
+            return Ok(None);
+        };
+        let Some(mask) = read_behind(alloc, &OneByte, group, self.mask)? else {
+            return Ok(None);
+        };
+        Ok(Some(Pointer {
+            target,
+            ornt,
+            usag,
+            topi: NULL,
+            mask,
+        }))
     }
 }
 
@@ -165,7 +295,39 @@ impl FeaturePointerRow {
         if values.is_empty() {
             return Ok(Pointers::new(alloc));
         }
+        if let Some(pointers) = self.read_groups(alloc, values)? {
+            return Ok(pointers);
+        }
         self.read_columns(alloc, values)
+    }
+
+    /// Reads pointers in one pass, where each has all its numbers behind the name, and none is bad.
+    fn read_groups(
+        &self,
+        alloc: Global,
+        values: &RowFields<'_>,
+    ) -> Result<Option<Pointers>, AllocError>
+        ensures found { IfOk result (λ read. IfSome read (λ pointers.
+            feature_pointer_columns self.now values.now ≡ Ok pointers)) }
+        ensures topi { IfOk result (λ read. IfSome read (λ pointers. All (λ pointer. pointer.topi ≡ NULL) pointers)) }
+    {
+        let Some(groups) = self.name.groups() else {
+            return Ok(None);
+        };
+        let Some(ornt) = self.ornt.distance(&groups) else {
+            return Ok(None);
+        };
+        let Some(usag) = self.usag.distance(&groups) else {
+            return Ok(None);
+        };
+        let Some(mask) = self.mask.distance(&groups) else {
+            return Ok(None);
+        };
+        match groups.read(alloc, values, &FeaturePointerGroup { ornt, usag, mask }) {
+            Ok(Some(pointers)) => Ok(Some(Pointers::from_vec(pointers))),
+            Ok(None) => Ok(None),
+            Err(fault) => Err(fault),
+        }
     }
 
     #[tactic(auto, unfolding(crate::specs::Lists::feature_pointer_columns))]

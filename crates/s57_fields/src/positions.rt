@@ -1,18 +1,20 @@
 //! The rows of coordinates, without depths and with them.
 
-ghost use Rattle.std.specs.Prelude.{◌≡◌, All, IfOk};
+ghost use Rattle.std.specs.Prelude.{◌≡◌, All, IfOk, IfSome, Ok, IsSome, IsNone};
 ghost use Rattle.std.specs.Option.{option_copied};
-ghost use Rattle.chart_model.specs.Record.{AreCoords, IsDepth, IsWithin};
+ghost use Rattle.chart_model.specs.Record.{AreCoords, IsCoord, IsDepth, IsWithin};
 ghost use Rattle.s57_fields.specs.Answers.{Gives};
 ghost use Rattle.s57_fields.specs.Lists.{coordinates, soundings};
 
 use crate::fault::FieldFault;
+use crate::group::{Group, read_behind};
 use crate::labels::{VE3D, XCOO, YCOO};
 use crate::row_fields::RowFields;
 use crate::signed::{Depth, Within};
 use crate::subfield::Subfield;
 use chart_model::{Coord, Coords};
 use iso8211_formats::Descriptor;
+use iso8211_records::Value;
 use std::alloc::{AllocError, Global};
 
 /// The greatest latitude, in degrees times 10,000,000.
@@ -34,6 +36,36 @@ pub struct SoundingRow {
     pub ycoo: Subfield,
     pub xcoo: Subfield,
     pub ve3d: Subfield,
+}
+
+/// A group of coordinates: the latitude first, and the longitude so far behind it.
+#[derive(Clone, Copy)]
+struct CoordinateGroup {
+    xcoo: u8,
+}
+
+impl Group for CoordinateGroup {
+    ghost use Rattle.s57_fields.specs.Tails.{coordinate_behind};
+
+    type Output = Coord;
+
+    ghost reads = { λ group. coordinate_behind group.xcoo };
+
+    ghost holds = { λ _ coord. IsCoord coord × IsNone coord.z };
+
+    fn read(&self, alloc: Global, group: &[Value]) -> Result<Option<Coord>, AllocError> {
+        let Some(ycoo) = read_behind(alloc, &Within { most: LATITUDE }, group, 0)? else {
+            return Ok(None);
+        };
+        let Some(xcoo) = read_behind(alloc, &Within { most: LONGITUDE }, group, self.xcoo)? else {
+            return Ok(None);
+        };
+        Ok(Some(Coord {
+            x: xcoo,
+            y: ycoo,
+            z: None,
+        }))
+    }
 }
 
 /// Each latitude with the longitude beside it.
@@ -78,7 +110,33 @@ impl CoordinateRow {
         if values.is_empty() {
             return Ok(Coords::new(alloc));
         }
+        if let Some(coords) = self.read_groups(alloc, values)? {
+            return Ok(coords);
+        }
         self.read_columns(alloc, values)
+    }
+
+    /// Reads coordinates in one pass, where each latitude has a longitude behind it, and none is bad.
+    fn read_groups(
+        &self,
+        alloc: Global,
+        values: &RowFields<'_>,
+    ) -> Result<Option<Coords>, AllocError>
+        ensures found { IfOk result (λ read. IfSome read (λ coords.
+            coordinate_columns self.now values.now ≡ Ok coords)) }
+        ensures coords { IfOk result (λ read. IfSome read AreCoords) }
+    {
+        let Some(groups) = self.ycoo.groups() else {
+            return Ok(None);
+        };
+        let Some(xcoo) = self.xcoo.distance(&groups) else {
+            return Ok(None);
+        };
+        match groups.read(alloc, values, &CoordinateGroup { xcoo }) {
+            Ok(Some(coords)) => Ok(Some(Coords::from_vec(coords))),
+            Ok(None) => Ok(None),
+            Err(fault) => Err(fault),
+        }
     }
 
     #[tactic(auto, unfolding(crate::specs::Lists::coordinate_columns))]
@@ -91,6 +149,40 @@ impl CoordinateRow {
             .xcoo
             .column(alloc, values, &Within { most: LONGITUDE })?;
         Ok(coordinates(alloc, ys, xs)?)
+    }
+}
+
+/// A group of soundings: the latitude first, and the longitude and the depth so far behind it.
+#[derive(Clone, Copy)]
+struct SoundingGroup {
+    xcoo: u8,
+    ve3d: u8,
+}
+
+impl Group for SoundingGroup {
+    ghost use Rattle.s57_fields.specs.Tails.{sounding_behind};
+
+    type Output = Coord;
+
+    ghost reads = { λ group. sounding_behind group.xcoo group.ve3d };
+
+    ghost holds = { λ _ coord. IsCoord coord × IsSome coord.z };
+
+    fn read(&self, alloc: Global, group: &[Value]) -> Result<Option<Coord>, AllocError> {
+        let Some(ycoo) = read_behind(alloc, &Within { most: LATITUDE }, group, 0)? else {
+            return Ok(None);
+        };
+        let Some(xcoo) = read_behind(alloc, &Within { most: LONGITUDE }, group, self.xcoo)? else {
+            return Ok(None);
+        };
+        let Some(ve3d) = read_behind(alloc, &Depth, group, self.ve3d)? else {
+            return Ok(None);
+        };
+        Ok(Some(Coord {
+            x: xcoo,
+            y: ycoo,
+            z: Some(ve3d),
+        }))
     }
 }
 
@@ -148,7 +240,35 @@ impl SoundingRow {
         if values.is_empty() {
             return Ok(Coords::new(alloc));
         }
+        if let Some(coords) = self.read_groups(alloc, values)? {
+            return Ok(coords);
+        }
         self.read_columns(alloc, values)
+    }
+
+    /// Reads soundings in one pass, where each latitude has a longitude and a depth behind it, and none is bad.
+    fn read_groups(
+        &self,
+        alloc: Global,
+        values: &RowFields<'_>,
+    ) -> Result<Option<Coords>, AllocError>
+        ensures found { IfOk result (λ read. IfSome read (λ coords. sounding_columns self.now values.now ≡ Ok coords)) }
+        ensures coords { IfOk result (λ read. IfSome read AreCoords) }
+    {
+        let Some(groups) = self.ycoo.groups() else {
+            return Ok(None);
+        };
+        let Some(xcoo) = self.xcoo.distance(&groups) else {
+            return Ok(None);
+        };
+        let Some(ve3d) = self.ve3d.distance(&groups) else {
+            return Ok(None);
+        };
+        match groups.read(alloc, values, &SoundingGroup { xcoo, ve3d }) {
+            Ok(Some(coords)) => Ok(Some(Coords::from_vec(coords))),
+            Ok(None) => Ok(None),
+            Err(fault) => Err(fault),
+        }
     }
 
     #[tactic(auto, unfolding(crate::specs::Lists::sounding_columns))]

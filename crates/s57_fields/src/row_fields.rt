@@ -1,9 +1,9 @@
 //! The fields of one tag in a record.
 
-ghost use Rattle.std.specs.Prelude.{◌≡◌, is_none, find};
+ghost use Rattle.std.specs.Prelude.{◌≡◌, is_none, filter, slice_get, option_map};
 ghost use Rattle.std.specs.Option.{option_copied};
 ghost use Rattle.std.specs.Str.{bytes_eq};
-ghost use Rattle.s57_fields.specs.RowValues.{fields_in, first_of};
+ghost use Rattle.s57_fields.specs.RowValues.{fields_in, first_of, BeginsWith};
 ghost use Rattle.s57_fields.specs.Answers.{missing, bad};
 
 use crate::fault::FieldFault;
@@ -17,23 +17,34 @@ use std::marker::Model;
 pub struct RowFields<'a> {
     number: usize,
     tag: [u8; 4],
+    /// The record's fields from the first of the tag on, so that they are searched once.
     fields: &'a [RawField],
 }
 
 impl<'a> Model for RowFields<'a> {
-    ghost use Rattle.std.specs.Str.{bytes_eq};
-    ghost use Rattle.s57_fields.specs.RowValues.{RowValues, fields_in};
+    ghost use Rattle.s57_fields.specs.RowValues.{RowValues, fields_in, BeginsWith};
 
     ghost Value = { RowValues };
 
     ghost view = { λ row. fields_in row.number row.tag row.fields.now };
+
+    ghost invariant = { λ row. BeginsWith row.tag row.fields.now };
 }
 
-/// The first field of this tag.
-fn first_field(fields: &[RawField], tag: [u8; 4]) -> Option<&RawField>
-    ensures { option_copied result ≡ find (λ field. bytes_eq field.tag tag) fields.now }
+/// The fields from the first of this tag on.
+fn from_first(fields: &[RawField], tag: [u8; 4]) -> &[RawField]
+    ensures same { filter (λ field. bytes_eq field.tag tag) result.now
+        ≡ filter (λ field. bytes_eq field.tag tag) fields.now }
+    ensures begins { BeginsWith tag result.now }
 {
-    fields.iter().find(|field| field.tag == tag)
+    let mut rest = fields;
+    while let Some((first, after)) = rest.split_first() {
+        if first.tag == tag {
+            return rest;
+        }
+        rest = after;
+    }
+    rest
 }
 
 impl<'a> RowFields<'a> {
@@ -44,7 +55,7 @@ impl<'a> RowFields<'a> {
         RowFields {
             number,
             tag,
-            fields,
+            fields: from_first(fields, tag),
         }
     }
 
@@ -56,11 +67,11 @@ impl<'a> RowFields<'a> {
     }
 
     /// The values of the first such field.
-    #[tactic(auto, using(crate::proofs::Fields::first_of_found))]
+    #[tactic(auto, using(crate::proofs::Fields::first_of_begun))]
     pub fn first(&self) -> Option<&'a [Value]>
         ensures { option_copied result ≡ first_of self.now.fields }
     {
-        match first_field(self.fields, self.tag) {
+        match self.fields.first() {
             Some(field) => Some(field.values.as_slice()),
             None => None,
         }
@@ -80,7 +91,7 @@ impl<'a> RowFields<'a> {
         self.tag
     }
 
-    /// All fields of the record.
+    /// The record's fields from the first of the tag on.
     pub fn record(&self) -> &'a [RawField]
         ensures { self.now ≡ fields_in self.now.number self.now.tag result.now }
     {

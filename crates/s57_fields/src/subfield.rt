@@ -1,14 +1,16 @@
 //! Where a subfield stands in the descriptor of a file's field.
 
-ghost use Rattle.std.specs.Prelude.{◌≡◌, ◌<◌, ◌≤◌, Some, length, position, All, IfSome, IfOk};
+ghost use Rattle.std.specs.Prelude.{◌≡◌, ◌+◌, ◌<◌, ◌≤◌, Some, length, position, All, IfSome, IfOk};
 ghost use Rattle.std.specs.Option.{option_copied};
 ghost use Rattle.std.specs.Str.{bytes_eq};
 ghost use Rattle.s57_fields.specs.Answers.{Gives, GivesBy};
 ghost use Rattle.s57_fields.specs.Columns.{once_in, column_in};
 ghost use Rattle.s57_fields.specs.Places.{group_start, place_of};
+ghost use Rattle.s57_fields.specs.declared.subfield.Place.TheVariants.{Repeated};
 
 use crate::column::{Column, read_value};
 use crate::fault::FieldFault;
+use crate::group::Groups;
 use crate::kind::Kind;
 use crate::row_fields::RowFields;
 use iso8211_formats::Descriptor;
@@ -108,6 +110,28 @@ impl Subfield {
         match first.get(at as usize) {
             Some(value) => read_value(alloc, kind, value, values.number(), self.label),
             None => Err(values.bad(self.label)),
+        }
+    }
+
+    /// The groups that begin with the subfield, where it is in the repeated group.
+    pub(crate) fn groups(&self) -> Option<Groups>
+        ensures { IfSome result (λ groups. self.now.place ≡ Repeated groups.at groups.between) }
+    {
+        match self.place {
+            Place::Repeated { at, between } => Some(Groups { at, between }),
+            _ => None,
+        }
+    }
+
+    /// How many values the subfield stands behind the first one of such groups, where it is in them.
+    pub(crate) fn distance(&self, groups: &Groups) -> Option<u8>
+        ensures { IfSome result (λ n. self.now.place ≡ Repeated (groups.now.at + n) groups.now.between) }
+    {
+        match self.place {
+            Place::Repeated { at, between } if at >= groups.at && between == groups.between => {
+                Some(at - groups.at)
+            }
+            _ => None,
         }
     }
 
