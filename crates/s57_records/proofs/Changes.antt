@@ -21,13 +21,13 @@ use Rattle.s57_records.specs.declared.change.FeatureHead.{FeatureHead}
 use Rattle.chart_model.specs.Answers.{◌>>=◌}
 use Rattle.s57_fields.specs.Number.{ONE_BYTE, TWO_BYTES, FOUR_BYTES}
 use Rattle.s57_records.specs.Rows.{ensure, reads_as, is_instruction, ruin_of, unless_deleted, edit_of, is_vector_kind, vector_head, coords_of, vector_of, is_prim, inserts, checked_prim, foid_of, feature_head, feature_of}
-use Rattle.s57_records.proofs.Steps.{bind_ok, bind_then, ensure_ok, chosen, ok_is}
+use Rattle.s57_records.proofs.AnswerLemmas.{bind_ok, bind_then, ensure_ok, chosen, ok_is}
 
 -- what the lists of a record keep
 pub record AreSound (s : Subfields) : Type 0 where
   pub attrs : (tag : List ℕ) (attrs : List Attr) → s.attrs tag ≡ Ok attrs → All (λ attr. IsPlainText attr.value) attrs
-  pub flat : (coords : List Coord) → s.coords (codes "SG2D") ≡ Ok coords → All IsCoord coords × All (λ coord. IsNone coord.z) coords
-  pub deep : (coords : List Coord) → s.coords (codes "SG3D") ≡ Ok coords → All IsCoord coords × All (λ coord. IsSome coord.z) coords
+  pub sg2d : (coords : List Coord) → s.coords (codes "SG2D") ≡ Ok coords → All IsCoord coords × All (λ coord. IsNone coord.z) coords
+  pub sg3d : (coords : List Coord) → s.coords (codes "SG3D") ≡ Ok coords → All IsCoord coords × All (λ coord. IsSome coord.z) coords
   pub absent : (tag : List ℕ) (coords : List Coord) → s.has tag ≡ false → s.coords tag ≡ Ok coords → coords ≡ []
   pub digits : (tag label : List ℕ) (number : ℕ) → s.digits tag label ≡ Ok number → number ≤ 999999999
   pub topi : (pointers : List Pointer) → s.pointers (codes "FSPT") ≡ Ok pointers → All (λ pointer. pointer.topi ≡ 255) pointers
@@ -84,37 +84,37 @@ kept P ruin items xs none some e =
       | inr h ↦ some xs h.1
     ]
 
-abbrev IsFlat : List Coord → Type 0
-IsFlat coords = All IsCoord coords × All (λ coord. IsNone coord.z) coords
+abbrev AreWithoutDepth : List Coord → Type 0
+AreWithoutDepth coords = All IsCoord coords × All (λ coord. IsNone coord.z) coords
 
-abbrev IsDeep : List Coord → Type 0
-IsDeep coords = All IsCoord coords × All (λ coord. IsSome coord.z) coords
+abbrev AreWithDepth : List Coord → Type 0
+AreWithDepth coords = All IsCoord coords × All (λ coord. IsSome coord.z) coords
 
 either_absent : (x y : Bool) → not (x && y) ≡ true → (x ≡ false) ⊎ (y ≡ false)
 either_absent false y e = inl refl
 either_absent true false e = inr refl
 either_absent true true e = absurd cc
 
-coords_are : (s : Subfields) → AreSound s → (ruin : ℕ) (flat deep : List Coord) → unless_deleted ruin (s.coords (codes "SG2D")) ≡ Ok flat → unless_deleted ruin (s.coords (codes "SG3D")) ≡ Ok deep → not (s.has (codes "SG2D") && s.has (codes "SG3D")) ≡ true → AreCoords (flat ++ deep)
-coords_are s sound ruin flat deep f d one =
-    let is_flat : IsFlat flat = kept IsFlat ruin (s.coords (codes "SG2D")) flat (All-nil _, All-nil _) sound.flat f in
-    let is_deep : IsDeep deep = kept IsDeep ruin (s.coords (codes "SG3D")) deep (All-nil _, All-nil _) sound.deep d in
+coords_are : (s : Subfields) → AreSound s → (ruin : ℕ) (coordinates soundings : List Coord) → unless_deleted ruin (s.coords (codes "SG2D")) ≡ Ok coordinates → unless_deleted ruin (s.coords (codes "SG3D")) ≡ Ok soundings → not (s.has (codes "SG2D") && s.has (codes "SG3D")) ≡ true → AreCoords (coordinates ++ soundings)
+coords_are s sound ruin coordinates soundings f d one =
+    let without_depth : AreWithoutDepth coordinates = kept AreWithoutDepth ruin (s.coords (codes "SG2D")) coordinates (All-nil _, All-nil _) sound.sg2d f in
+    let with_depth : AreWithDepth soundings = kept AreWithDepth ruin (s.coords (codes "SG3D")) soundings (All-nil _, All-nil _) sound.sg3d d in
     elim (either_absent (s.has (codes "SG2D")) (s.has (codes "SG3D")) one) [
-      | inl no_flat ↦
-          let none : flat ≡ [] = kept (λ xs. xs ≡ []) ruin (s.coords (codes "SG2D")) flat refl (λ ys e. sound.absent (codes "SG2D") ys no_flat e) f in
-          subst (λ (cs : List Coord). AreCoords (cs ++ deep)) (sym none) (record { each = is_deep.0; alike = inl is_deep.1 })
-      | inr no_deep ↦
-          let none : deep ≡ [] = kept (λ xs. xs ≡ []) ruin (s.coords (codes "SG3D")) deep refl (λ ys e. sound.absent (codes "SG3D") ys no_deep e) d in
-          subst (λ (cs : List Coord). AreCoords (flat ++ cs)) (sym none) (subst AreCoords (sym (append-nil flat)) (record { each = is_flat.0; alike = inr is_flat.1 }))
+      | inl no_coordinates ↦
+          let none : coordinates ≡ [] = kept (λ xs. xs ≡ []) ruin (s.coords (codes "SG2D")) coordinates refl (λ ys e. sound.absent (codes "SG2D") ys no_coordinates e) f in
+          subst (λ (cs : List Coord). AreCoords (cs ++ soundings)) (sym none) (record { each = with_depth.0; alike = inl with_depth.1 })
+      | inr no_soundings ↦
+          let none : soundings ≡ [] = kept (λ xs. xs ≡ []) ruin (s.coords (codes "SG3D")) soundings refl (λ ys e. sound.absent (codes "SG3D") ys no_soundings e) d in
+          subst (λ (cs : List Coord). AreCoords (coordinates ++ cs)) (sym none) (subst AreCoords (sym (append-nil coordinates)) (record { each = without_depth.0; alike = inr without_depth.1 }))
     ]
 
 pub are_coords : (s : Subfields) → AreSound s → (ruin : ℕ) (coords : List Coord) → coords_of ruin s ≡ Ok coords → AreCoords coords
 unfolding coords_of
 are_coords s sound ruin coords e =
-    bind_then (unless_deleted ruin (s.coords (codes "SG2D"))) _ coords e (λ flat flat_e after_flat.
-    bind_then (ensure (not (s.has (codes "SG2D") && s.has (codes "SG3D"))) (Profile (codes "SG3D"))) _ coords after_flat (λ _ one_e after_one.
-    bind_then (unless_deleted ruin (s.coords (codes "SG3D"))) _ coords after_one (λ deep deep_e made.
-    subst AreCoords (ok_is (flat ++ deep) coords made) (coords_are s sound ruin flat deep flat_e deep_e (ensure_ok _ _ _ one_e)))))
+    bind_then (unless_deleted ruin (s.coords (codes "SG2D"))) _ coords e (λ coordinates coordinates_e after_coordinates.
+    bind_then (ensure (not (s.has (codes "SG2D") && s.has (codes "SG3D"))) (Profile (codes "SG3D"))) _ coords after_coordinates (λ _ one_e after_one.
+    bind_then (unless_deleted ruin (s.coords (codes "SG3D"))) _ coords after_one (λ soundings soundings_e made.
+    subst AreCoords (ok_is (coordinates ++ soundings) coords made) (coords_are s sound ruin coordinates soundings coordinates_e soundings_e (ensure_ok _ _ _ one_e)))))
 
 -- what a vector record's head keeps
 pub record IsVectorHead (base : Bool) (n : ℕ) (s : Subfields) (head : VectorHead) : Type 0 where

@@ -24,7 +24,7 @@ use Rattle.s57_records.specs.Readings.{all_subfields}
 use Rattle.s57_records.specs.Resolved.{Descriptors}
 use Rattle.iso8211_records.specs.declared.record.RawField.{RawField}
 use Rattle.s57_records.specs.Rows.{general_of}
-use Rattle.s57_records.proofs.Steps.{bind_then, ok_is}
+use Rattle.s57_records.proofs.AnswerLemmas.{bind_then, ok_is}
 use Rattle.s57_records.proofs.Sound.{subfields_sound}
 use Rattle.s57_records.proofs.Datasets.{IsGeneral, general_is, dataset_made, cancelled, base_plain}
 

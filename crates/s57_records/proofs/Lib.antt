@@ -1,4 +1,4 @@
-pub mod Steps
+pub mod AnswerLemmas
 pub mod Changes
 pub mod Datasets
 mod Kept

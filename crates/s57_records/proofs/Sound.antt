@@ -33,7 +33,7 @@ use Rattle.s57_fields.specs.declared.pointers.FeaturePointerRow.{FeaturePointerR
 use Rattle.s57_fields.specs.Names.{record_name}
 use Rattle.s57_fields.specs.Lists.{attribute_row, attributes, attribute_columns, attributes_in, fspt_row, feature_pointers, feature_pointer_columns, feature_pointers_in, sg2d_row, coordinates, coordinate_columns, coordinates_in, sg3d_row, soundings, sounding_columns, soundings_in}
 use Rattle.s57_records.specs.Readings.{widened, mapped, under, Layouts, has_field, coords_in, subfields_of, all_subfields}
-use Rattle.s57_records.proofs.Steps.{chosen}
+use Rattle.s57_records.proofs.AnswerLemmas.{chosen}
 use Rattle.s57_records.proofs.Changes.{AreSound, HasKeys, All-nil}
 
 -- ---- steps
@@ -165,20 +165,20 @@ attrs_sound row values attrs e =
     field_then (column_in plain_text values row.atvl) _ attrs after_numbers (λ texts texts_e made.
     subst (λ (xs : List Attr). All (λ attr. IsPlainText attr.value) xs) (field_ok (attributes numbers texts) attrs made) (All-from_recursion (λ attr. IsPlainText attr.value) (attributes numbers texts) (attributes_plain numbers texts (column_read IsPlainText plain_text values row.atvl texts plain texts_e)))))) e
 
-flat_each : (ys xs : List ℤ) → AllByRecursion (IsWithin LATITUDE) ys → AllByRecursion (IsWithin LONGITUDE) xs → AllByRecursion IsCoord (coordinates ys xs) × AllByRecursion (λ coord. IsNone coord.z) (coordinates ys xs)
-flat_each [] xs in_y in_x = (tt, tt)
-flat_each (y ∷ ys) [] in_y in_x = (tt, tt)
-flat_each (y ∷ ys) (x ∷ xs) in_y in_x =
-    let rest = flat_each ys xs in_y.1 in_x.1 in
+coordinates_each : (ys xs : List ℤ) → AllByRecursion (IsWithin LATITUDE) ys → AllByRecursion (IsWithin LONGITUDE) xs → AllByRecursion IsCoord (coordinates ys xs) × AllByRecursion (λ coord. IsNone coord.z) (coordinates ys xs)
+coordinates_each [] xs in_y in_x = (tt, tt)
+coordinates_each (y ∷ ys) [] in_y in_x = (tt, tt)
+coordinates_each (y ∷ ys) (x ∷ xs) in_y in_x =
+    let rest = coordinates_each ys xs in_y.1 in_x.1 in
     ((record { longitude = in_x.0; latitude = in_y.0; depth = tt }, rest.0), (refl, rest.1))
 
-flat_sound : (row : CoordinateRow) (values : RowValues) (coords : List Coord) → coordinates_in row values ≡ Ok coords → All IsCoord coords × All (λ coord. IsNone coord.z) coords
+coordinates_sound : (row : CoordinateRow) (values : RowValues) (coords : List Coord) → coordinates_in row values ≡ Ok coords → All IsCoord coords × All (λ coord. IsNone coord.z) coords
 unfolding coordinate_columns
-flat_sound row values coords e =
+coordinates_sound row values coords e =
     listed_read (λ cs. All IsCoord cs × All (λ coord. IsNone coord.z) cs) values.fields (coordinate_columns row values) coords (All-nil _, All-nil _) (λ read.
     field_then (column_in (number_within LATITUDE) values row.ycoo) _ coords read (λ ys ys_e after_ys.
     field_then (column_in (number_within LONGITUDE) values row.xcoo) _ coords after_ys (λ xs xs_e made.
-    let each = flat_each ys xs (column_read (IsWithin LATITUDE) (number_within LATITUDE) values row.ycoo ys (within LATITUDE) ys_e) (column_read (IsWithin LONGITUDE) (number_within LONGITUDE) values row.xcoo xs (within LONGITUDE) xs_e) in
+    let each = coordinates_each ys xs (column_read (IsWithin LATITUDE) (number_within LATITUDE) values row.ycoo ys (within LATITUDE) ys_e) (column_read (IsWithin LONGITUDE) (number_within LONGITUDE) values row.xcoo xs (within LONGITUDE) xs_e) in
     subst (λ (cs : List Coord). All IsCoord cs × All (λ coord. IsNone coord.z) cs) (field_ok (coordinates ys xs) coords made) (All-from_recursion IsCoord (coordinates ys xs) each.0, All-from_recursion (λ coord. IsNone coord.z) (coordinates ys xs) each.1)))) e
 
 depth_made : (read : Option ℤ) (z : ℤ) → ((decimetres : ℤ) → read ≡ Some decimetres → IsWithin 999999 decimetres) → option_map (λ decimetres. decimetres *ℤ pos 10) read ≡ Some z → IsDepth z
@@ -191,22 +191,22 @@ depth_is : (value : Value) (z : ℤ) → depth_in value ≡ Some z → IsDepth z
 unfolding depth_in
 depth_is value z e = depth_made (number_within 999999 value) z (within 999999 value) e
 
-deep_each : (ys xs zs : List ℤ) → AllByRecursion (IsWithin LATITUDE) ys → AllByRecursion (IsWithin LONGITUDE) xs → AllByRecursion IsDepth zs → AllByRecursion IsCoord (soundings ys xs zs) × AllByRecursion (λ coord. IsSome coord.z) (soundings ys xs zs)
-deep_each [] xs zs in_y in_x in_z = (tt, tt)
-deep_each (y ∷ ys) [] zs in_y in_x in_z = (tt, tt)
-deep_each (y ∷ ys) (x ∷ xs) [] in_y in_x in_z = (tt, tt)
-deep_each (y ∷ ys) (x ∷ xs) (z ∷ zs) in_y in_x in_z =
-    let rest = deep_each ys xs zs in_y.1 in_x.1 in_z.1 in
+soundings_each : (ys xs zs : List ℤ) → AllByRecursion (IsWithin LATITUDE) ys → AllByRecursion (IsWithin LONGITUDE) xs → AllByRecursion IsDepth zs → AllByRecursion IsCoord (soundings ys xs zs) × AllByRecursion (λ coord. IsSome coord.z) (soundings ys xs zs)
+soundings_each [] xs zs in_y in_x in_z = (tt, tt)
+soundings_each (y ∷ ys) [] zs in_y in_x in_z = (tt, tt)
+soundings_each (y ∷ ys) (x ∷ xs) [] in_y in_x in_z = (tt, tt)
+soundings_each (y ∷ ys) (x ∷ xs) (z ∷ zs) in_y in_x in_z =
+    let rest = soundings_each ys xs zs in_y.1 in_x.1 in_z.1 in
     ((record { longitude = in_x.0; latitude = in_y.0; depth = in_z.0 }, rest.0), (refl, rest.1))
 
-deep_sound : (row : SoundingRow) (values : RowValues) (coords : List Coord) → soundings_in row values ≡ Ok coords → All IsCoord coords × All (λ coord. IsSome coord.z) coords
+soundings_sound : (row : SoundingRow) (values : RowValues) (coords : List Coord) → soundings_in row values ≡ Ok coords → All IsCoord coords × All (λ coord. IsSome coord.z) coords
 unfolding sounding_columns
-deep_sound row values coords e =
+soundings_sound row values coords e =
     listed_read (λ cs. All IsCoord cs × All (λ coord. IsSome coord.z) cs) values.fields (sounding_columns row values) coords (All-nil _, All-nil _) (λ read.
     field_then (column_in (number_within LATITUDE) values row.ycoo) _ coords read (λ ys ys_e after_ys.
     field_then (column_in (number_within LONGITUDE) values row.xcoo) _ coords after_ys (λ xs xs_e after_xs.
     field_then (column_in depth_in values row.ve3d) _ coords after_xs (λ zs zs_e made.
-    let each = deep_each ys xs zs (column_read (IsWithin LATITUDE) (number_within LATITUDE) values row.ycoo ys (within LATITUDE) ys_e) (column_read (IsWithin LONGITUDE) (number_within LONGITUDE) values row.xcoo xs (within LONGITUDE) xs_e) (column_read IsDepth depth_in values row.ve3d zs depth_is zs_e) in
+    let each = soundings_each ys xs zs (column_read (IsWithin LATITUDE) (number_within LATITUDE) values row.ycoo ys (within LATITUDE) ys_e) (column_read (IsWithin LONGITUDE) (number_within LONGITUDE) values row.xcoo xs (within LONGITUDE) xs_e) (column_read IsDepth depth_in values row.ve3d zs depth_is zs_e) in
     subst (λ (cs : List Coord). All IsCoord cs × All (λ coord. IsSome coord.z) cs) (field_ok (soundings ys xs zs) coords made) (All-from_recursion IsCoord (soundings ys xs zs) each.0, All-from_recursion (λ coord. IsSome coord.z) (soundings ys xs zs) each.1))))) e
 
 topi_each : (names : List Name) (ornts usags masks : List ℕ) → AllByRecursion (λ pointer. pointer.topi ≡ 255) (feature_pointers names ornts usags masks)
@@ -248,8 +248,8 @@ coords_absent layouts n fields tag coords absent e =
 pub subfields_sound : (layouts : Layouts) (n : ℕ) (fields : List RawField) → AreSound (subfields_of layouts n fields)
 subfields_sound layouts n fields = record {
   attrs = λ tag attrs e. attrs_sound (attribute_row (layouts tag)) (fields_in n tag fields) attrs (of_widened _ attrs e);
-  flat = λ coords e. flat_sound (sg2d_row (layouts (codes "SG2D"))) (fields_in n (codes "SG2D") fields) coords (of_widened _ coords e);
-  deep = λ coords e. deep_sound (sg3d_row (layouts (codes "SG3D"))) (fields_in n (codes "SG3D") fields) coords (of_widened _ coords e);
+  sg2d = λ coords e. coordinates_sound (sg2d_row (layouts (codes "SG2D"))) (fields_in n (codes "SG2D") fields) coords (of_widened _ coords e);
+  sg3d = λ coords e. soundings_sound (sg3d_row (layouts (codes "SG3D"))) (fields_in n (codes "SG3D") fields) coords (of_widened _ coords e);
   absent = λ tag coords absent e. coords_absent layouts n fields tag coords absent (of_widened _ coords e);
   digits = λ tag label number e. let r = once_read nine_digits (fields_in n tag fields) (subfield_of (layouts tag) label) number (of_widened _ number e) in digits_are_small r.0 number r.1;
   topi = λ pointers e. topi_sound (fspt_row (layouts (codes "FSPT"))) (fields_in n (codes "FSPT") fields) pointers (of_widened _ pointers e);

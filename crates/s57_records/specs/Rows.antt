@@ -116,10 +116,10 @@ vector_head base n s = do
 -- SG2D and SG3D, of which a record has one at most
 unfoldable pub coords_of : ℕ → Subfields → Result (List Coord) DatasetFault
 coords_of ruin s = do
-  flat ← unless_deleted ruin (s.coords (codes "SG2D"))
+  coordinates ← unless_deleted ruin (s.coords (codes "SG2D"))
   _ ← ensure (not (s.has (codes "SG2D") && s.has (codes "SG3D"))) (Profile (codes "SG3D"))
-  deep ← unless_deleted ruin (s.coords (codes "SG3D"))
-  Ok (flat ++ deep)
+  soundings ← unless_deleted ruin (s.coords (codes "SG3D"))
+  Ok (coordinates ++ soundings)
 
 -- VRID, ATTV, VRPC, VRPT, SGCC, SG2D and SG3D. A record has no ARCC.
 unfoldable pub vector_of : Bool → ℕ → Subfields → Result Change DatasetFault

@@ -164,7 +164,7 @@ impl<'a> DataRecord<'a> {
     }
 
     /// The coordinates in SG2D. None where the record deletes.
-    pub fn flat(&self, alloc: Global, ruin: u8) -> Result<Coords, DatasetFault>
+    pub fn coordinates(&self, alloc: Global, ruin: u8) -> Result<Coords, DatasetFault>
         ensures { Gives result (unless_deleted ruin ((reading self.now).coords (codes "SG2D"))) }
     {
         if ruin == DELETE {
@@ -176,7 +176,7 @@ impl<'a> DataRecord<'a> {
     }
 
     /// The soundings in SG3D. None where the record deletes.
-    pub fn deep(&self, alloc: Global, ruin: u8) -> Result<Coords, DatasetFault>
+    pub fn soundings(&self, alloc: Global, ruin: u8) -> Result<Coords, DatasetFault>
         ensures { Gives result (unless_deleted ruin ((reading self.now).coords (codes "SG3D"))) }
     {
         if ruin == DELETE {

@@ -19,13 +19,13 @@ const ARCC: [u8; 4] = *b"ARCC";
 fn read_coords(alloc: Global, fields: &DataRecord<'_>, ruin: u8) -> Result<Coords, DatasetFault>
     ensures { Gives result (coords_of ruin (reading fields.now)) }
 {
-    let flat = fields.flat(alloc, ruin)?;
+    let coordinates = fields.coordinates(alloc, ruin)?;
     if fields.has(SG2D) && fields.has(SG3D) {
         return Err(DatasetFault::Profile(SG3D));
     }
-    let deep = fields.deep(alloc, ruin)?;
-    let mut coords = flat.into_vec();
-    coords.extend_from_slice(deep.as_slice())?;
+    let soundings = fields.soundings(alloc, ruin)?;
+    let mut coords = coordinates.into_vec();
+    coords.extend_from_slice(soundings.as_slice())?;
     Ok(Coords::from_vec(coords))
 }
 

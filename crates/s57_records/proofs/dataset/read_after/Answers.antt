@@ -1,5 +1,5 @@
 use Rattle.std.proofs.Common.{sym, ◌∙◌}
-use Rattle.s57_records.proofs.Steps.{given}
+use Rattle.s57_records.proofs.AnswerLemmas.{given}
 use Rattle.s57_records.proofs.Gathering.{cancelled_from, made_from}
 use Rattle.s57_records.proofs.dataset.read_after.Goals as goal
 

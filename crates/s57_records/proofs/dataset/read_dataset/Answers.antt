@@ -1,5 +1,5 @@
 use Rattle.std.proofs.Common.{sym, ◌∙◌}
-use Rattle.s57_records.proofs.Steps.{given}
+use Rattle.s57_records.proofs.AnswerLemmas.{given}
 use Rattle.s57_records.proofs.Gathering.{dataset_from, dataset_by_rows}
 use Rattle.s57_records.proofs.dataset.read_dataset.Goals as goal
 

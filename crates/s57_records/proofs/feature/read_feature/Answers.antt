@@ -1,4 +1,4 @@
-use Rattle.s57_records.proofs.Steps.{given}
+use Rattle.s57_records.proofs.AnswerLemmas.{given}
 use Rattle.s57_records.proofs.Made.{feature_from_parts}
 use Rattle.s57_records.proofs.feature.read_feature.Goals as goal
 

@@ -1,4 +1,4 @@
-use Rattle.s57_records.proofs.Steps.{given}
+use Rattle.s57_records.proofs.AnswerLemmas.{given}
 use Rattle.s57_records.proofs.Made.{vector_from_parts}
 use Rattle.s57_records.proofs.vector.read_vector.Goals as goal
 

@@ -1,4 +1,4 @@
--- What follows from a step that gave a value.
+-- What follows of an answer, and of those before it, where a value was answered.
 use Rattle.std.proofs.Common.{◌≡◌, Bool, true, false, cond, ◌⊎◌, Result, Ok, Err, refl, subst, inl, inr}
 use Rattle.s57_records.specs.declared.fault.DatasetFault.{DatasetFault}
 use Rattle.chart_model.specs.Answers.{◌>>=◌}
