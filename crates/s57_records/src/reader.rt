@@ -98,6 +98,18 @@ fn has_tag(fields: &[RawField], tag: [u8; 4]) -> bool
     fields.iter().any(|field| field.tag == tag)
 }
 
+/// A list of a record: what its row reads in the fields of a tag, and the empty list where the record
+/// deletes.
+macro_rules! read_list {
+    ($record:expr, $alloc:expr, $ruin:expr, $row:expr, $tag:expr, $list:ident) => {{
+        if $ruin == DELETE {
+            return Ok($list::new($alloc));
+        }
+        let read = $row.read($alloc, &$record.values($tag))?;
+        Ok(read)
+    }};
+}
+
 impl<'a> DataRecord<'a> {
     ghost use Rattle.s57_records.specs.Reading.{reading};
 
@@ -119,84 +131,56 @@ impl<'a> DataRecord<'a> {
     pub fn vector_attrs(&self, alloc: Global, ruin: u8) -> Result<AttrList, DatasetFault>
         ensures { Gives result (unless_deleted ruin ((reading self.now).attrs (codes "ATTV"))) }
     {
-        if ruin == DELETE {
-            return Ok(AttrList::new(alloc));
-        }
-        let row = &self.rows.vector().attv;
-        let read = row.read(alloc, &self.values(ATTV))?;
-        Ok(read)
+        read_list!(self, alloc, ruin, self.rows.vector().attv, ATTV, AttrList)
     }
 
     /// The attributes in ATTF. None where the record deletes.
     pub fn feature_attrs(&self, alloc: Global, ruin: u8) -> Result<AttrList, DatasetFault>
         ensures { Gives result (unless_deleted ruin ((reading self.now).attrs (codes "ATTF"))) }
     {
-        if ruin == DELETE {
-            return Ok(AttrList::new(alloc));
-        }
-        let row = &self.rows.feature().attf;
-        let read = row.read(alloc, &self.values(ATTF))?;
-        Ok(read)
+        read_list!(self, alloc, ruin, self.rows.feature().attf, ATTF, AttrList)
     }
 
     /// The pointers in VRPT. None where the record deletes.
     pub fn vector_pointers(&self, alloc: Global, ruin: u8) -> Result<Pointers, DatasetFault>
         ensures { Gives result (unless_deleted ruin ((reading self.now).pointers (codes "VRPT"))) }
     {
-        if ruin == DELETE {
-            return Ok(Pointers::new(alloc));
-        }
-        let row = &self.rows.vector().vrpt;
-        let read = row.read(alloc, &self.values(VRPT))?;
-        Ok(read)
+        read_list!(self, alloc, ruin, self.rows.vector().vrpt, VRPT, Pointers)
     }
 
     /// The pointers in FSPT. None where the record deletes.
     pub fn feature_pointers(&self, alloc: Global, ruin: u8) -> Result<Pointers, DatasetFault>
         ensures { Gives result (unless_deleted ruin ((reading self.now).pointers (codes "FSPT"))) }
     {
-        if ruin == DELETE {
-            return Ok(Pointers::new(alloc));
-        }
-        let row = &self.rows.feature().fspt;
-        let read = row.read(alloc, &self.values(FSPT))?;
-        Ok(read)
+        read_list!(self, alloc, ruin, self.rows.feature().fspt, FSPT, Pointers)
     }
 
     /// The coordinates in SG2D. None where the record deletes.
     pub fn coordinates(&self, alloc: Global, ruin: u8) -> Result<Coords, DatasetFault>
         ensures { Gives result (unless_deleted ruin ((reading self.now).coords (codes "SG2D"))) }
     {
-        if ruin == DELETE {
-            return Ok(Coords::new(alloc));
-        }
-        let row = &self.rows.vector().sg2d;
-        let read = row.read(alloc, &self.values(SG2D))?;
-        Ok(read)
+        read_list!(self, alloc, ruin, self.rows.vector().sg2d, SG2D, Coords)
     }
 
     /// The soundings in SG3D. None where the record deletes.
     pub fn soundings(&self, alloc: Global, ruin: u8) -> Result<Coords, DatasetFault>
         ensures { Gives result (unless_deleted ruin ((reading self.now).coords (codes "SG3D"))) }
     {
-        if ruin == DELETE {
-            return Ok(Coords::new(alloc));
-        }
-        let row = &self.rows.vector().sg3d;
-        let read = row.read(alloc, &self.values(SG3D))?;
-        Ok(read)
+        read_list!(self, alloc, ruin, self.rows.vector().sg3d, SG3D, Coords)
     }
 
     /// The related objects in FFPT. None where the record deletes.
     pub fn related(&self, alloc: Global, ruin: u8) -> Result<RelatedList, DatasetFault>
         ensures { Gives result (unless_deleted ruin ((reading self.now).related (codes "FFPT"))) }
     {
-        if ruin == DELETE {
-            return Ok(RelatedList::new(alloc));
-        }
-        let row = &self.rows.feature().ffpt;
-        let read = row.read(alloc, &self.values(FFPT))?;
-        Ok(read)
+        read_list!(
+            self,
+            alloc,
+            ruin,
+            self.rows.feature().ffpt,
+            FFPT,
+            RelatedList
+        )
     }
 
     /// The identifier in FOID.
