@@ -32,7 +32,8 @@ pub fn live_files_leave_what_is_held()
 /// A file that is accepted is one of its key, and changes the cell of that key alone. A refused one changes none.
 pub fn loads_change_their_cell_alone()
     ensures keyed { (state : StateValue) (file : List ℕ) (done : Outcome) →
-        loaded state file ≡ Ok done → (dataset : DatasetValue) × (data_set_in file ≡ Ok dataset) × (dataset.header.key ≡ done.key) }
+        loaded state file ≡ Ok done → (dataset : DatasetValue) × (data_set_in file ≡ Ok dataset)
+        × (dataset.header.key ≡ done.key) }
     ensures alone { (state : StateValue) (file : List ℕ) (done : Outcome) (key : List ℕ) →
         loaded state file ≡ Ok done → key ≢ done.key → map.get done.state.cells key ≡ map.get state.cells key }
     ensures refused { (state : StateValue) (file : List ℕ) (refusal : Refusal) →
@@ -44,8 +45,10 @@ pub fn loads_change_their_cell_alone()
 /// keeps that.
 pub fn commands_leave_what_is_held()
     ensures live { (commands : List Command) → AreLive (after nothing_held commands).cells }
-    ensures more { (state : StateValue) (command : Command) → AreLive state.cells → AreLive (state_with state command).cells }
-    ensures charts { (state : StateValue) (key : List ℕ) → AreLive state.cells → chart_of (map.get state.cells key) ≡ charts state key }
+    ensures more { (state : StateValue) (command : Command) → AreLive state.cells →
+        AreLive (state_with state command).cells }
+    ensures charts { (state : StateValue) (key : List ℕ) → AreLive state.cells →
+        chart_of (map.get state.cells key) ≡ charts state key }
 {
     one_file_more();
     accepted_files_follow();

@@ -1,6 +1,7 @@
 //! A store opened.
 
-ghost use Rattle.std.specs.Prelude.{◌≡◌, ◌<◌, ◌≤◌, ◌+◌, ℕ, [], true, Ok, Err, IfOk, IfErr, IsErrOf, IsTrue, OnOk, length};
+ghost use Rattle.std.specs.Prelude.{◌≡◌, ◌<◌, ◌≤◌, ◌+◌, ℕ, [], true, Ok};
+ghost use Rattle.std.specs.Prelude.{Err, IfOk, IfErr, IsErrOf, IsTrue, OnOk, length};
 ghost use Rattle.bank_journal.specs.Bank.{gate_of};
 ghost use Rattle.bank_journal.specs.Fault.{HasDeskCause};
 ghost use Rattle.bank_journal.specs.Handle.{file_of, place_of};

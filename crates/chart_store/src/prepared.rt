@@ -35,7 +35,8 @@ impl LiveCells {
         ensures finished { IfOk result (λ prepared.
             finished self.new prepared ≡ record { cells = cells_with self.old.cells key holding }) }
         ensures withdrawn { IfOk result (λ prepared. withdrawn self.new prepared ≡ self.old) }
-        ensures chart { IfOk result (λ prepared. chart_before self.new prepared ≡ chart_of (map.get self.old.cells key)) }
+        ensures chart { IfOk result (λ prepared. chart_before self.new prepared
+            ≡ chart_of (map.get self.old.cells key)) }
         ensures err { OnErr result (self.new ≡ self.old) }
     {
         if self.cells().contains(key) {

@@ -42,7 +42,8 @@ impl Store {
     ghost use Rattle.chart_store.specs.Live.{AreLive, state_or};
     ghost use Rattle.chart_store.specs.Loaded.{come_to};
     ghost use Rattle.chart_store.specs.Outcome.{accepted, most_steps, need};
-    ghost use Rattle.chart_store.specs.Store.{IsKept, StandsForEither, bank_in, count_of, is_sound, room_of, state_of, used_of};
+    ghost use Rattle.chart_store.specs.Store.{IsKept, StandsForEither, bank_in, count_of};
+    ghost use Rattle.chart_store.specs.Store.{is_sound, room_of, state_of, used_of};
     ghost use Rattle.chart_store.specs.Submitted.{GivesAccepted};
     ghost use Rattle.chart_store.specs.Taken.{chart_of};
 
@@ -112,7 +113,8 @@ impl Store {
 
         // A refusal and want of memory change nothing; a fault of the desk leaves what is held, and ends the store.
         ensures unchanged { result ≢ Err DeskFault → OnErr result ((self.new ≡ self.old) × (desk.new ≡ desk.old)) }
-        ensures held { OnErr result ((state_of self.new ≡ state_of self.old) × (count_of self.new ≡ count_of self.old)) }
+        ensures held { OnErr result ((state_of self.new ≡ state_of self.old)
+            × (count_of self.new ≡ count_of self.old)) }
         ensures sound { (is_sound self.new ≡ false) ↔ (result ≡ Err DeskFault) }
 
         // When it returns, whatever a crash leaves stands for what is held.

@@ -73,8 +73,8 @@ pub fn push_depcnt02(
     Ok(())
 }
 
-/// What is drawn of the depth contour with a name, as `push_depcnt02` has it. Nothing is drawn where the cell has no such
-/// feature. The users of edges aren't asked.
+/// What is drawn of the depth contour with a name, as `push_depcnt02` has it. Nothing is drawn where the cell has no
+/// such feature. The users of edges aren't asked.
 pub fn depcnt02(
     alloc: Global,
     cell: &Cell,

@@ -1,10 +1,10 @@
 //! Conditional procedures of depths: depth areas, depth contours and soundings.
 //!
-//! The rules, and the names of colours, patterns, styles and symbols, are this project's own, in the manner of IHO S-52;
-//! they are those of no edition of it. Depths are whole centimetres.
+//! The rules, and the names of colours, patterns, styles and symbols, are this project's own, in the manner of IHO
+//! S-52; they are those of no edition of it. Depths are whole centimetres.
 //!
-//! Each procedure has two forms: one that finds its feature by name and gives the items, and one that adds them to those of
-//! a block, where the feature was found already.
+//! Each procedure has two forms: one that finds its feature by name and gives the items, and one that adds them to
+//! those of a block, where the feature was found already.
 #![tactic(auto)]
 
 mod colour;

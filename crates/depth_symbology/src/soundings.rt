@@ -2,7 +2,8 @@
 
 ghost use Rattle.std.specs.Prelude.{◌≡◌, ◌++◌, All, OnOk, IfOk};
 ghost use Rattle.chart_model.specs.Record.{IsCoord};
-ghost use Rattle.depth_symbology.specs.Soundings.{sounding_items, soundings_of, HasCoords, soundings_in, soundg02_of, soundg02_at};
+ghost use Rattle.depth_symbology.specs.Soundings.{sounding_items, soundings_of, HasCoords};
+ghost use Rattle.depth_symbology.specs.Soundings.{soundings_in, soundg02_of, soundg02_at};
 
 use area_rings::{Shape, feature_shape};
 use chart_model::{Cell, Coord, Feature, ItemList, Name, Settings, Target};
@@ -61,8 +62,8 @@ fn push_shape(
     }
 }
 
-/// Adds what is drawn of soundings: the digits of each coordinate that has a depth, at its place. Nothing is drawn of what
-/// is no point.
+/// Adds what is drawn of soundings: the digits of each coordinate that has a depth, at its place. Nothing is drawn of
+/// what is no point.
 pub fn push_soundg02(
     alloc: Global,
     items: &mut ItemList,

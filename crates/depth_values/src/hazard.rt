@@ -21,8 +21,8 @@ const DEEPEST: u32 = 9_999_999;
 /// The depth of a hazard of which nothing is known: it dries 15 metres.
 const DRIES: i32 = -1_500;
 
-/// VALSOU in centimetres; `None` where it is unknown: absent, empty, no depth, or more than 9,999,999 either way. It takes
-/// no memory.
+/// VALSOU in centimetres; `None` where it is unknown: absent, empty, no depth, or more than 9,999,999 either way. It
+/// takes no memory.
 pub fn sounding(feature: &Feature) -> Option<i32>
     ensures depth { result ≡ sounding_of feature.now }
     ensures within { IfSome result (IsWithin 9999999) }

@@ -99,8 +99,8 @@ pub(crate) fn least_among(
     Ok(least)
 }
 
-/// Whether one of those areas in or on which a point of the shape lies is safe: its least depth is the safety contour, in
-/// centimetres, or more.
+/// Whether one of those areas in or on which a point of the shape lies is safe: its least depth is the safety contour,
+/// in centimetres, or more.
 pub(crate) fn is_safe_among(
     alloc: Global,
     areas: &[DepthArea],

@@ -2,7 +2,8 @@
 
 ghost use Rattle.std.specs.Prelude.{◌≡◌, ◌↔◌, IfOk, IsSome};
 ghost use Rattle.std.specs.Option.{option_copied};
-ghost use Rattle.draw_list.specs.Block.{IsShown, block_at, block_in, block_with, line_for, geom_of, is_hidden, unknown_items};
+ghost use Rattle.draw_list.specs.Block.{IsShown, block_at, block_in, block_with};
+ghost use Rattle.draw_list.specs.Block.{line_for, geom_of, is_hidden, unknown_items};
 ghost use Rattle.draw_list.specs.Known.{AreKnown};
 ghost use Rattle.topology_cache.specs.Users.{AreUsersOf};
 
@@ -119,9 +120,9 @@ pub fn block_in(
 }
 
 /// What is drawn of the feature with a name: the priority and the instructions of the table's line for it, each on the
-/// whole feature, or what its procedure makes of the feature; or a question mark at priority 5 where there is no line. None
-/// exactly where it isn't shown: the cell has no such feature, it has no geometry, or its SCAMIN is below the denominator of
-/// the display scale. The users are those of the cell.
+/// whole feature, or what its procedure makes of the feature; or a question mark at priority 5 where there is no line.
+/// None exactly where it isn't shown: the cell has no such feature, it has no geometry, or its SCAMIN is below the
+/// denominator of the display scale. The users are those of the cell.
 pub fn block_of(
     alloc: Global,
     cell: &Cell,

@@ -71,8 +71,8 @@ fn blocks_of(alloc: Global, from: &Sources) -> Result<Vec<Drawn>, AllocError>
     Ok(blocks)
 }
 
-/// The drawing of a cell: the blocks of all features that are shown, by priority, then areas before lines before points,
-/// then by the features' numbers. The users are those of the cell.
+/// The drawing of a cell: the blocks of all features that are shown, by priority, then areas before lines before
+/// points, then by the features' numbers. The users are those of the cell.
 pub fn draw_cell(
     alloc: Global,
     cell: &Cell,

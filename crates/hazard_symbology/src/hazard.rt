@@ -11,8 +11,8 @@ use chart_model::{Cell, Feature, ItemList, Name, Settings};
 use depth_values::{DepthArea, depth_areas, hazard_depth_among};
 use std::alloc::{AllocError, Global};
 
-/// Adds what is drawn of a hazard, by its geometry and its depth: a hazard no deeper than the safety contour is a danger.
-/// Nothing is drawn of what has no geometry. It needs the depth areas of the cell.
+/// Adds what is drawn of a hazard, by its geometry and its depth: a hazard no deeper than the safety contour is a
+/// danger. Nothing is drawn of what has no geometry. It needs the depth areas of the cell.
 pub fn push_hazard(
     alloc: Global,
     items: &mut ItemList,
@@ -64,7 +64,8 @@ pub fn obstrn04(
     hazard_at(alloc, cell, settings, name)
 }
 
-/// What is drawn of the wreck with a name, as `push_hazard` has it. Nothing is drawn where the cell has no such feature.
+/// What is drawn of the wreck with a name, as `push_hazard` has it. Nothing is drawn where the cell has no such
+/// feature.
 pub fn wrecks02(
     alloc: Global,
     cell: &Cell,

@@ -76,8 +76,8 @@ fn push_by_depth(
     }
 }
 
-/// Adds what is drawn of a hazard of this depth at a point: the mark of an isolated danger alone; or else the symbol and
-/// the digits of its own depth, where that is known; or else the symbol of its class.
+/// Adds what is drawn of a hazard of this depth at a point: the mark of an isolated danger alone; or else the symbol
+/// and the digits of its own depth, where that is known; or else the symbol of its class.
 pub fn push_point(
     alloc: Global,
     items: &mut ItemList,

@@ -215,5 +215,5 @@ fn signed_of(bytes: &[u8]) -> i64
 fn octets(alloc: Global, bytes: &[u8]) -> Result<Octets, AllocError>
     ensures { IfOk result (λ octets. octets ≡ bytes.now) }
 {
-    Ok(Octets::from_vec(Vec::from_slice(alloc, bytes)?))
+    Octets::from_slice(alloc, bytes)
 }

@@ -102,7 +102,7 @@ pub fn key_in(name: &[u8]) -> &[u8]
 fn copied(alloc: Global, text: &[u8]) -> Result<Octets, AllocError>
     ensures { IfOk result (λ copy. copy ≡ text.now) }
 {
-    Ok(Octets::from_vec(text.to_vec(alloc)?))
+    Octets::from_slice(alloc, text)
 }
 
 impl Kind for PlainText {

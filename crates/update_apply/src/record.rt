@@ -39,9 +39,7 @@ pub fn copy_of(change: &UpdateRecord) -> Result<UpdateRecord, AllocError>
 fn attrs_of(alloc: Global, settings: AttrList) -> Result<AttrMap, AllocError>
     ensures { IfOk result (λ attrs. attrs ≡ set_attrs map.empty settings) }
 {
-    let mut attrs = AttrMap::new(alloc);
-    attrs.set_all(alloc, settings.as_slice())?;
-    Ok(attrs)
+    AttrMap::from_settings(alloc, settings.into_vec())
 }
 
 /// The vector record that an insertion puts. It takes over the lists of the change.

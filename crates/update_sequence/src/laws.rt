@@ -1,6 +1,7 @@
 //! Laws of the definitions.
 
-ghost use Rattle.std.specs.Prelude.{◌≡◌, ◌≢◌, ◌⊎◌, ◌↔◌, ℕ, true, false, List, [], ◌∷◌, ◌++◌, Option, Some, None, Ok, All, Contains, map, IfSome};
+ghost use Rattle.std.specs.Prelude.{◌≡◌, ◌≢◌, ◌⊎◌, ◌↔◌, ℕ, true, false, List, [], ◌∷◌};
+ghost use Rattle.std.specs.Prelude.{◌++◌, Option, Some, None, Ok, All, Contains, map, IfSome};
 ghost use Rattle.std.specs.Option.{option_map};
 ghost use Rattle.std.specs.Result.{IsOk, result_ok};
 ghost use Rattle.chart_closure.specs.Closed.{IsClosed};
@@ -29,7 +30,8 @@ use update_apply::{cells_are_kept, headers_are_kept};
 /// What a cell file says keeps what every data set and every change keeps.
 pub fn files_are_data_sets()
     ensures kept { (file : List ℕ) (dataset : DatasetValue) → data_set_in file ≡ Ok dataset → IsDataset dataset }
-    ensures changes { (file : List ℕ) (dataset : DatasetValue) → data_set_in file ≡ Ok dataset → All IsChange dataset.changes }
+    ensures changes { (file : List ℕ) (dataset : DatasetValue) → data_set_in file ≡ Ok dataset →
+        All IsChange dataset.changes }
 {
     data_sets_are_kept();
     changes_are_kept();
@@ -37,14 +39,16 @@ pub fn files_are_data_sets()
 
 /// A chart that is built is closed.
 pub fn charts_are_closed()
-    ensures { (chart : Option CellValue) (dataset : DatasetValue) (cell : CellValue) → built chart dataset ≡ Ok cell → IsClosed cell }
+    ensures { (chart : Option CellValue) (dataset : DatasetValue) (cell : CellValue) → built chart dataset ≡ Ok cell →
+        IsClosed cell }
 {
     first_is_least();
 }
 
 /// A chart that is built on a cell is a cell.
 pub fn charts_are_cells()
-    ensures { (chart : Option CellValue) (dataset : DatasetValue) (cell : CellValue) → IfSome chart IsCell → IsDataset dataset → All IsChange dataset.changes →
+    ensures { (chart : Option CellValue) (dataset : DatasetValue) (cell : CellValue) → IfSome chart IsCell →
+        IsDataset dataset → All IsChange dataset.changes →
         dataset.cancels ≡ false → built chart dataset ≡ Ok cell → IsCell cell }
 {
     cells_are_kept();
@@ -53,8 +57,10 @@ pub fn charts_are_cells()
 /// The chart of a base file has its header. That of an update has key, agency and scale of the chart
 /// before, and the update's edition, number and date of issue.
 pub fn headers_follow()
-    ensures base { (dataset : DatasetValue) (cell : CellValue) → built None dataset ≡ Ok cell → cell.header ≡ dataset.header }
-    ensures update { (chart : CellValue) (dataset : DatasetValue) (cell : CellValue) → built (Some chart) dataset ≡ Ok cell →
+    ensures base { (dataset : DatasetValue) (cell : CellValue) → built None dataset ≡ Ok cell →
+        cell.header ≡ dataset.header }
+    ensures update { (chart : CellValue) (dataset : DatasetValue) (cell : CellValue) →
+        built (Some chart) dataset ≡ Ok cell →
         cell.header ≡ header_after chart.header dataset.header }
 {
     headers_are_kept();
@@ -63,16 +69,20 @@ pub fn headers_follow()
 /// What one file more leaves.
 pub fn one_file_more()
     ensures none { (held_by [] ≡ None) × (rebuilt [] ≡ None) }
-    ensures held { (files : List (List ℕ)) (file : List ℕ) → held_by (files ++ file ∷ []) ≡ held_after (held_by files) file }
-    ensures chart { (files : List (List ℕ)) (file : List ℕ) → rebuilt (files ++ file ∷ []) ≡ chart_after (rebuilt files) file }
+    ensures held { (files : List (List ℕ)) (file : List ℕ) → held_by (files ++ file ∷ [])
+        ≡ held_after (held_by files) file }
+    ensures chart { (files : List (List ℕ)) (file : List ℕ) → rebuilt (files ++ file ∷ [])
+        ≡ chart_after (rebuilt files) file }
 {}
 
 /// A base file that may come first is a sound list, and so is a sound list with a file that may follow.
 /// Each sound list begins with sound lists.
 pub fn sound_lists_grow()
     ensures first { (key file : List ℕ) → Follows key [] file → IsSoundList key (file ∷ []) }
-    ensures next { (key : List ℕ) (files : List (List ℕ)) (file : List ℕ) → IsSoundList key files → Follows key files file → IsSoundList key (files ++ file ∷ []) }
-    ensures before { (key : List ℕ) (files rest : List (List ℕ)) → files ≢ [] → IsSoundList key (files ++ rest) → IsSoundList key files }
+    ensures next { (key : List ℕ) (files : List (List ℕ)) (file : List ℕ) → IsSoundList key files →
+        Follows key files file → IsSoundList key (files ++ file ∷ []) }
+    ensures before { (key : List ℕ) (files rest : List (List ℕ)) → files ≢ [] → IsSoundList key (files ++ rest) →
+        IsSoundList key files }
 {}
 
 /// What the test of lists says is whether they are sound.
@@ -86,10 +96,12 @@ pub fn accepted_files_follow()
     ensures replaces { (key file : List ℕ) (dataset : DatasetValue) (held : Option Held) → IsFileOf key file dataset →
         judged held dataset ≡ Ok Replace → IsOk (built None dataset) →
         Leaves key (file ∷ []) (Some (numbers_of dataset.header)) (result_ok (built None dataset)) }
-    ensures extends { (key : List ℕ) (files : List (List ℕ)) (file : List ℕ) (dataset : DatasetValue) → IsSoundList key files → IsFileOf key file dataset →
+    ensures extends { (key : List ℕ) (files : List (List ℕ)) (file : List ℕ) (dataset : DatasetValue) →
+        IsSoundList key files → IsFileOf key file dataset →
         judged (held_by files) dataset ≡ Ok Extend → IsOk (built (rebuilt files) dataset) →
         Leaves key (files ++ file ∷ []) (Some (numbers_of dataset.header)) (result_ok (built (rebuilt files) dataset)) }
-    ensures cancels { (key : List ℕ) (files : List (List ℕ)) (file : List ℕ) (dataset : DatasetValue) → IsSoundList key files → IsFileOf key file dataset →
+    ensures cancels { (key : List ℕ) (files : List (List ℕ)) (file : List ℕ) (dataset : DatasetValue) →
+        IsSoundList key files → IsFileOf key file dataset →
         judged (held_by files) dataset ≡ Ok Cancel → Leaves key (files ++ file ∷ []) (option_map cancelled (held_by files)) None }
 {
     files_are_data_sets();
@@ -114,8 +126,10 @@ pub fn sound_lists_are_held()
 /// second makes of what the first leaves.
 pub fn changes_are_made_in_turn()
     ensures none { (cell : CellValue) → folded cell [] ≡ Ok cell }
-    ensures one { (cell : CellValue) (change : Change) → folded cell (change ∷ []) ≡ unless (option_map of_build.Change (fault_of cell change)) (changed cell change) }
-    ensures turn { (cell : CellValue) (first rest : List Change) → folded cell (first ++ rest) ≡ folded_after (folded cell first) rest }
+    ensures one { (cell : CellValue) (change : Change) → folded cell (change ∷ [])
+        ≡ unless (option_map of_build.Change (fault_of cell change)) (changed cell change) }
+    ensures turn { (cell : CellValue) (first rest : List Change) →
+        folded cell (first ++ rest) ≡ folded_after (folded cell first) rest }
 {}
 
 /// A change of an update names a record, or the record is as it was.
