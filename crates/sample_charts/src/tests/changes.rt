@@ -9,7 +9,7 @@ use sample_rows::{Item, Row, Setting, change, chart, feature, name, vector};
 use std::alloc::Global;
 use std::process::Abort;
 use std::test::Fail;
-use update_apply::{ChangeFault, apply_record};
+use update_apply::{ChangeFault, Moves, apply_owned, apply_record};
 
 /// Items of these numbers.
 macro_rules! items {
@@ -128,5 +128,14 @@ fn hold(rt: &impl Abort, alloc: Global, number: usize, case: &Case) -> Result<()
         "case {number}"
     );
     assert!(rt; has_alone(alloc, &cell, &case.after)?, "case {number}");
+    let mut cell = chart_of(alloc, &case.before)?;
+    assert!(rt;
+        apply_owned(alloc, &mut cell, change, &mut Moves::of_file()) == case.answer,
+        "case {number}, given away"
+    );
+    assert!(rt;
+        has_alone(alloc, &cell, &case.after)?,
+        "case {number}, given away"
+    );
     Ok(())
 }
