@@ -14,3 +14,4 @@ mod Submitting
 mod Reading
 mod Staying
 mod Leaving
+mod FilesLeft

@@ -54,6 +54,8 @@ fn open_head<D: Desk>(desk: &mut D) -> Result<(), OpenFault>
     ensures settled { IsTrue D.tells → OnOk result ((file : ℕ) → file ≤ 2 →
         Only (D.contents desk.new file) (D.may_leave desk.new file)) }
     ensures files { IsTrue D.tells → OnOk result (SameFiles (D.contents desk.old) (D.contents desk.new)) }
+    ensures refused { IsTrue D.tells → IfErr result (ForeignHas (λ _.
+        SameFiles (D.contents desk.old) (D.contents desk.new))) }
     ensures crash { IsTrue D.tells → LeavesNoMore (D.may_leave desk.old) (D.may_leave desk.new) }
     ensures said { IsTrue D.tells → D.said desk.new ≡ D.said desk.old }
     ensures moments { IsTrue D.tells → LeavesOnly D.clock D.might desk.old desk.new
@@ -84,6 +86,8 @@ fn open_current<D: Desk>(alloc: Global, desk: &mut D) -> Result<(Bank, BankConte
     ensures long { IsTrue D.tells → 9 < length (D.contents desk.old 1) →
         OnOk result (SameFiles (D.contents desk.old) (D.contents desk.new)) }
     ensures others { IsTrue D.tells → OnOk result (SameOthers 1 (D.contents desk.old) (D.contents desk.new)) }
+    ensures refused { IsTrue D.tells → IfErr result (ForeignHas (λ _.
+        SameFiles (D.contents desk.old) (D.contents desk.new))) }
     ensures crash_others { IsTrue D.tells → LeavesNoMoreOfOthers 1 (D.may_leave desk.old) (D.may_leave desk.new) }
     ensures said { IsTrue D.tells → D.said desk.new ≡ D.said desk.old }
     ensures moments { IsTrue D.tells → LeavesOnly D.clock D.might desk.old desk.new
@@ -128,12 +132,14 @@ pub fn open_store<D: Desk, C: Ledger>(
     ensures count { IfOk result (λ store. count_of store ≡ 0) }
     ensures sound { IfOk result (λ store. is_sound store ≡ true) }
 
-    // A bank of nine bytes or fewer is written out, and a longer one is left.
+    // A bank of nine bytes or fewer is written out, and a longer one is left; files that are refused are left too.
     ensures short { IsTrue D.tells → length (D.contents desk.old 1) ≤ 9 →
         OnOk result (D.contents desk.new 1 ≡ nine_zeros) }
     ensures long { IsTrue D.tells → 9 < length (D.contents desk.old 1) →
         OnOk result (SameFiles (D.contents desk.old) (D.contents desk.new)) }
     ensures others { IsTrue D.tells → OnOk result (SameOthers 1 (D.contents desk.old) (D.contents desk.new)) }
+    ensures refused { IsTrue D.tells → IfErr result (ForeignHas (λ _.
+        SameFiles (D.contents desk.old) (D.contents desk.new))) }
     ensures said { IsTrue D.tells → D.said desk.new ≡ D.said desk.old }
 
     // A crash at any moment of it leaves what it might have left before, or what reads as a read of the files gave.

@@ -126,6 +126,12 @@ pub file-complete : (files : Files) (words : Option WordsValue) (said other : Wo
 file-complete files words said other ended lines e f at h w =
     read-by ended (table_in files said) lines at h (sym (same-table files words said other e f) ∙ w)
 
+-- it tells nothing of the store
+pub file-either : (ended : Status) → EndsAtFile ended → {X Y : Type 0} → X ⊎ (Y ⊎ ((ended ≡ status.NoMemory) ⊎ IsTrue (is_early ended)))
+file-either ended (which, of_file.Fault fault, e) = inr (inr (inr (ap is_early e)))
+file-either ended (which, of_file.ShelfFault, e) = inr (inr (inr (ap is_early e)))
+file-either ended (which, of_file.NoMemory, e) = inr (inr (inl e))
+
 -- ---- a run whose table was read
 
 -- it doesn't end early

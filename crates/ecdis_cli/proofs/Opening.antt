@@ -10,6 +10,7 @@ use Rattle.chart_ports.specs.Moments.{LeavesOnly, MayBeLeft, images_of}
 use Rattle.chart_ports.specs.declared.images.Images.{Images}
 use Rattle.chart_ports.proofs.Moments.{and_then, started, weaker}
 use Rattle.chart_store.specs.Images.{Place, Reading, StandFor, read_of}
+use Rattle.chart_store.specs.Opened.{ForeignHas}
 use Rattle.chart_store.specs.Store.{LeavesBefore, LeavesReading, room_of, state_of}
 use Rattle.chart_store.specs.declared.store.Store.{Store}
 use Rattle.session_core.specs.Fetch.{Files, Fetches, fetches_of}
@@ -38,6 +39,31 @@ ReadStands = (images : Images) (state : StateValue) (used : ℕ) → read_of ima
 
 ok-same : (a b : Reading) → ◌≡◌ {A = Result Reading Place} (Ok a) (Ok b) → a ≡ b
 ok-same a b e = cc
+
+err-same : (a b : Place) → ◌≡◌ {A = Result Reading Place} (Err a) (Err b) → a ≡ b
+err-same a b e = cc
+
+-- files that read are not refused
+pub not-refused : (found : Result Reading Place) (opening : Reading) (place : Place) → found ≡ Ok opening → found ≡ Err place → {X : Type 0} → X
+not-refused found opening place e f = absurd (let g : ◌≡◌ {A = Result Reading Place} (Ok opening) (Err place) = sym e ∙ f in cc)
+
+-- files that don't read are refused with their place, unless the disk failed or memory ran out
+pub refused-opening : (fault : OpenFault) (ended : Status) (found : Result Reading Place) (bank at : ℕ) → ended ≡ status_of_opening fault
+    → ForeignHas (λ place. found ≡ Err place) fault → found ≡ Err (record { bank = bank; at = at })
+    → (ended ≡ status.Foreign bank at) ⊎ ((ended ≡ status.DeskFault) ⊎ (ended ≡ status.NoMemory))
+refused-opening of_opening.DeskFault ended found bank at is has read = inr (inl is)
+refused-opening (of_opening.Foreign file place) ended found bank at is has read =
+    inl (is ∙ ap (λ (p : Place). status.Foreign p.bank p.at)
+    (err-same (record { bank = file; at = place }) (record { bank = bank; at = at }) (sym has ∙ read)))
+refused-opening of_opening.NoMemory ended found bank at is has read = inr (inr is)
+
+-- the same, where it may also have ended before
+pub or_early : (ended : Status) (bank at : ℕ)
+    → (ended ≡ status.Foreign bank at) ⊎ ((ended ≡ status.DeskFault) ⊎ (ended ≡ status.NoMemory))
+    → (ended ≡ status.Foreign bank at) ⊎ ((ended ≡ status.DeskFault) ⊎ ((ended ≡ status.NoMemory) ⊎ IsTrue (is_early ended)))
+or_early ended bank at (inl e) = inl e
+or_early ended bank at (inr (inl e)) = inr (inl e)
+or_early ended bank at (inr (inr e)) = inr (inr (inl e))
 
 -- what is read at the opening, as the model of what was opened
 pub opened-model : (portrayal : Portrayal) (found : Result Reading Place) (opening : Reading) (state : StateValue) (used : ℕ) → found ≡ Ok opening

@@ -86,10 +86,13 @@ pub fn run_ecdis<S: Source, L: Shelf, D: Desk, C: Ledger>(
     ensures short { IsTrue S.tells → result ≡ Status.Done → length (S.left script.old) ≤ SCRIPT_LIMIT }
     ensures same { IsTrue L.tells → L.files shelf.new ≡ L.files shelf.old }
 
-    // Each other end has its cause. Want of memory alone needs none. Files that are no store's end the run before
-    // anything is read of the script, or said.
+    // Each other end has its cause. Want of memory alone needs none. Files that are no store's end the run, unless the
+    // disk fails or memory runs out, before anything is read of the script, or said.
     ensures foreign { (bank at : ℕ) → IsTrue D.tells → result ≡ Status.Foreign bank at →
         read_of (images_of (D.contents desk.old)) ≡ Err (record { bank = bank; at = at }) }
+    ensures refused_files { (bank at : ℕ) → IsTrue D.tells →
+        read_of (images_of (D.contents desk.old)) ≡ Err (record { bank = bank; at = at }) →
+        (result ≡ Status.Foreign bank at) ⊎ ((result ≡ Status.DeskFault) ⊎ ((result ≡ Status.NoMemory) ⊎ IsTrue (is_early result))) }
     ensures unread { (bank at : ℕ) → result ≡ Status.Foreign bank at → script.new ≡ script.old }
     ensures unsaid { (bank at : ℕ) → IsTrue D.tells → result ≡ Status.Foreign bank at →
         D.said desk.new ≡ D.said desk.old }

@@ -92,6 +92,8 @@ impl Session {
             (commanded (model_of self.old) command reply).model.state) }
         ensures count { count_of (store_of self.new) ≤ count_of (store_of self.old) + 1 }
         ensures count_err { OnErr result (count_of (store_of self.new) ≡ count_of (store_of self.old)) }
+        ensures count_ok { OnOk result (count_of (store_of self.new) ≡ count_of (store_of self.old) + 1) }
+        ensures untouched { result ≢ Err EventFailed → OnErr result (desk.new ≡ desk.old) }
         ensures sound { result ≢ Err EventFailed → IsTrue (is_sound (store_of self.new)) }
         ensures kept { IsTrue D.tells → result ≢ Err EventFailed →
             IsKept (D.contents desk.new) (D.may_leave desk.new) (store_of self.new) }
@@ -120,6 +122,8 @@ impl Session {
             event (model_of self.old) (GivesEvent result (model_of self.old) (model_of self.new)) }
         ensures count { count_of (store_of self.new) ≤ count_of (store_of self.old) + 1 }
         ensures count_err { OnErr result (count_of (store_of self.new) ≡ count_of (store_of self.old)) }
+        ensures untouched { result ≢ Err EventFailed →
+            count_of (store_of self.new) ≡ count_of (store_of self.old) → desk.new ≡ desk.old }
         ensures sound { result ≢ Err EventFailed → IsTrue (is_sound (store_of self.new)) }
         ensures kept { IsTrue D.tells → result ≢ Err EventFailed →
             IsKept (D.contents desk.new) (D.may_leave desk.new) (store_of self.new) }
@@ -196,6 +200,10 @@ impl Session {
         // One command at most is accepted, and none where there is no reply.
         ensures count { count_of (store_of self.new) ≤ count_of (store_of self.old) + 1 }
         ensures count_err { OnErr result (count_of (store_of self.new) ≡ count_of (store_of self.old)) }
+
+        // A turn in which none is accepted leaves the disk as it is, unless the disk fails.
+        ensures untouched { result ≢ Err DeskFault →
+            count_of (store_of self.new) ≡ count_of (store_of self.old) → desk.new ≡ desk.old }
 
         // The desk keeps the store for the next turn.
         ensures sound { OnOk result (IsTrue (is_sound (store_of self.new))) }

@@ -4,8 +4,8 @@ use Rattle.std.specs.Prelude.{Err, map, string_bytes}
 use Rattle.chart_ports.specs.Moments.{MayBeLeft}
 use Rattle.command_words.specs.Reading.{value_of, words_of}
 use Rattle.ecdis_cli.specs.declared.run.status.Status.TheVariants as status
-use Rattle.ecdis_cli.proofs.Early.{any-is, any_portrayal, begun-not, early-not, file-complete, file-ends, file-fault, file-status, not-file, read-is, read-not}
-use Rattle.ecdis_cli.proofs.Opening.{complete, other-status, ran-later, ran-unopened, reading-none, refused-words, words-status}
+use Rattle.ecdis_cli.proofs.Early.{any-is, any_portrayal, begun-not, early-not, file-complete, file-either, file-ends, file-fault, file-status, not-file, read-is, read-not}
+use Rattle.ecdis_cli.proofs.Opening.{complete, or_early, other-status, ran-later, ran-unopened, reading-none, refused-words, words-status}
 use Rattle.ecdis_cli.proofs.run.run_ecdis.Goals as goal
 
 -- ---- the words
@@ -163,3 +163,11 @@ returns-clause-complete g c =
     λ said lines opening s l d is table read short source desk.
     complete _ opening _ _ _ _ _ _ _ read c.run_opened.ensures.begun (λ bank at foreign. c.run_opened.ensures.foreign bank at d foreign)
     c.run_opened.ensures.script_failed (c.run_opened.ensures.script_over s) c.run_opened.ensures.desk_failed short source desk
+
+pub returns-in-Err-clause-refused_files : goal.returns-in-Err-clause-refused_files
+returns-in-Err-clause-refused_files g c =
+    λ bank at d read. file-either _ c.in-Err.ensures.ends
+
+pub returns-clause-refused_files : goal.returns-clause-refused_files
+returns-clause-refused_files g c =
+    λ bank at d read. or_early _ bank at (c.run_opened.ensures.refused_files bank at d read)

@@ -7,7 +7,7 @@ use Rattle.chart_store.specs.Store.{IsKept, count_of, is_sound}
 use Rattle.chart_store.specs.declared.store.Store.{Store}
 use Rattle.session_core.specs.Session.{model_of, store_of}
 use Rattle.ecdis_cli.specs.Run.{outside_of}
-use Rattle.ecdis_cli.proofs.Opening.{opened-model, opening-status, other-status, ran-opened, ran-unopened, rose-later, session-model}
+use Rattle.ecdis_cli.proofs.Opening.{not-refused, opened-model, opening-status, other-status, ran-opened, ran-unopened, refused-opening, rose-later, session-model}
 use Rattle.ecdis_cli.proofs.run.opened.run_opened.Goals as goal
 
 pub returns-in-Err-clause-ran : goal.returns-in-Err-clause-ran
@@ -65,3 +65,11 @@ returns-clause-unread g c = λ bank at is. absurd (c.run_script.ensures.opened b
 
 pub returns-clause-unsaid : goal.returns-clause-unsaid
 returns-clause-unsaid g c = λ bank at d is. absurd (c.run_script.ensures.opened bank at is)
+
+pub returns-in-Err-clause-refused_files : goal.returns-in-Err-clause-refused_files
+returns-in-Err-clause-refused_files g c = λ bank at d read.
+    refused-opening c.in-Err.fault c.of_opening.result _ bank at c.of_opening.ensures (c.in-Err.ensures.foreign d) read
+
+pub returns-clause-refused_files : goal.returns-clause-refused_files
+returns-clause-refused_files g c = λ bank at d read.
+    not-refused _ _ (record { bank = bank; at = at }) (c.in-Ok.ensures.state d) read
