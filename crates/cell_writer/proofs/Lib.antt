@@ -1,0 +1,9 @@
+pub mod Framed
+pub mod RecordFaults
+pub mod Files
+pub mod MadeCells
+pub mod Updates
+pub mod Spellings
+pub mod Reading
+pub mod SoundFields
+pub mod DescriptiveReading
