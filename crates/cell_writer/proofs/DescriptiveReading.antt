@@ -5,7 +5,7 @@ use Rattle.iso8211_leader.specs.Leader.{frame_of}
 use Rattle.iso8211_leader.specs.Entry.{entry_of}
 use Rattle.iso8211_formats.specs.Reading.{at_most, before_end, behind, binary_format, closed_label, count_of, cut_at}
 use Rattle.iso8211_formats.specs.Reading.{descriptor_of, digits_and_rest, format_of, format_with, formats_of, grouped_labels}
-use Rattle.iso8211_formats.specs.Reading.{item_of, items_of, items_text, labels_of, layout_with, number_of as format_number}
+use Rattle.iso8211_formats.specs.Reading.{item_of, items_of, items_text, labels_of, layout_with, counting_number_of as format_number}
 use Rattle.iso8211_formats.specs.Reading.{open_format, parts_of, plain_labels, sized_format}
 use Rattle.iso8211_records.specs.Frames.{is_entry, is_leader}
 use Rattle.iso8211_records.specs.Reading.{data_records_at, descriptive_record_at, descriptors_in, directory_at, ends_at}
