@@ -7,3 +7,6 @@ pub mod Spellings
 pub mod Reading
 pub mod SoundFields
 pub mod DescriptiveReading
+pub mod FieldSpellings
+pub mod FileReading
+pub mod Headers

@@ -1,7 +1,7 @@
 -- A record that is written is a record that is read: its leader, its directory and its fields.
-use Rattle.std.proofs.Common.{◌≡◌, ℕ, zero, suc, ◌+◌, ◌-◌, ◌*◌, ◌/◌, ◌%◌, ◌^◌, ◌<◌, ◌≤◌, Bool, true, false, List, [], ◌∷◌, ◌++◌, length, take, drop, get_or, refl, sym, ap, subst, ◌∙◌, arith, append_assoc, append-nil, length-append, codes, map, IsTrue, lit≤}
+use Rattle.std.proofs.Common.{◌≡◌, ℕ, zero, suc, ◌+◌, ◌-◌, ◌/◌, ◌%◌, ◌^◌, ◌<◌, ◌≤◌, true, false, List, [], ◌∷◌, ◌++◌, length, take, drop, get_or, refl, sym, ap, subst, ◌∙◌, arith, append_assoc, append-nil, length-append, map, lit≤}
 use Rattle.std.specs.Char.{is_ascii_digit}
-use Rattle.std.specs.List.{AllByRecursion, slice_range, list_all}
+use Rattle.std.specs.List.{AllByRecursion, slice_range}
 use Rattle.std.proofs.lemmas.List.{take_at, drop_at, drop-drop, get_or_at}
 use Rattle.std.proofs.lemmas.Bool.{false≢true}
 use Rattle.std.proofs.lemmas.Bool.Decides.{nat_tests}
@@ -10,7 +10,7 @@ use Rattle.iso8211_leader.specs.Digits.{AreDigits, number_of}
 use Rattle.iso8211_leader.specs.Leader.{Frame, HasLeader, frame_of}
 use Rattle.iso8211_leader.specs.Entry.{IsEntry, entry_of}
 use Rattle.iso8211_leader.specs.declared.entry.Entry.{Entry}
-use Rattle.iso8211_records.specs.Record.{IsDirectory, IsEnded, IsInside, IsRecord, field_bytes, field_end}
+use Rattle.iso8211_records.specs.Record.{IsDirectory, IsEnded, IsInside, field_bytes}
 use Rattle.cell_writer.specs.Framing.{HasFields}
 use Rattle.cell_writer.specs.Record.{Field, base_of, digits, entries, entry, field_area, framed, leader_of, of_data, record_of}
 use Rattle.cell_writer.proofs.Framed.{length-digits, length-framed, length-leader_of}

@@ -35,13 +35,13 @@ length-number : (m n : ℕ) → length (b12 m ++ FIELD_TERMINATOR ∷ []) ≡ le
 unfolding b12
 length-number m n = refl
 
-vector_length : (name : Name) (vector : Vector) (m n : ℕ)
+pub vector_length : (name : Name) (vector : Vector) (m n : ℕ)
     → length (vector_record name vector m) ≡ length (vector_record name vector n)
 unfolding vector_record vector_fields identified field
 vector_length name vector m n =
     same_length _ (b12 m ++ FIELD_TERMINATOR ∷ []) (b12 n ++ FIELD_TERMINATOR ∷ []) _ (length-number m n)
 
-feature_length : (name : Name) (feature : Feature) (m n : ℕ)
+pub feature_length : (name : Name) (feature : Feature) (m n : ℕ)
     → length (feature_record name feature m) ≡ length (feature_record name feature n)
 unfolding feature_record feature_fields identified field
 feature_length name feature m n =

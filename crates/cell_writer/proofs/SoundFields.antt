@@ -4,16 +4,15 @@ use Rattle.std.specs.List.{flat_map}
 use Rattle.chart_model.specs.declared.name.Name.{Name}
 use Rattle.chart_model.specs.declared.cell.Vector.{Vector}
 use Rattle.chart_model.specs.declared.cell.Feature.{Feature}
-use Rattle.chart_model.specs.declared.dataset.Header.{Header}
 use Rattle.chart_model.specs.Cell.{CellValue}
 use Rattle.chart_model.specs.Codes.{FIELD_TERMINATOR}
-use Rattle.cell_writer.specs.declared.data_set.Purpose.TheVariants.{NewDataSet, Revision}
+use Rattle.cell_writer.specs.declared.data_set.Purpose.TheVariants.{NewDataSet}
 use Rattle.cell_writer.specs.Subfields.{b12}
 use Rattle.cell_writer.specs.Framing.{HasFields}
-use Rattle.cell_writer.specs.Record.{Field, base_of, entries, field, field_area, list_field, of_data, record_of}
+use Rattle.cell_writer.specs.Record.{Field, field, field_area, list_field, of_data, record_of}
 use Rattle.cell_writer.specs.Vector.{attributes, identified, point, sounding, vector_fields, vector_identifier, vector_pointer}
 use Rattle.cell_writer.specs.Feature.{feature_fields, feature_identifier, feature_pointer, object_name, related_object}
-use Rattle.cell_writer.specs.DataSet.{data_set_identifier, general_fields, parameter_fields, parameter_text, revision_fields, structure_text}
+use Rattle.cell_writer.specs.DataSet.{data_set_identifier, general_fields, parameter_fields, parameter_text, structure_text}
 use Rattle.cell_writer.specs.Written.{feature_record, vector_record}
 use Rattle.cell_writer.proofs.RecordFaults.{length-of_record}
 use Rattle.cell_writer.proofs.Reading.{Ended, Fit, has_fields}

@@ -1,5 +1,5 @@
 -- What is written of a value is the spelling that is read.
-use Rattle.std.proofs.Common.{◌≡◌, ℕ, suc, Bool, ◌-◌, pos, negsuc, ℤ, ◌+◌, ◌*◌, ◌/◌, ◌%◌, ◌^◌, ◌<◌, ◌≤◌, true, false, List, [], ◌∷◌, ◌++◌, All, inl, inr, refl, sym, ap, ◌∙◌, arith, cond}
+use Rattle.std.proofs.Common.{◌≡◌, ℕ, suc, Bool, ◌-◌, pos, negsuc, ℤ, ◌*◌, ◌^◌, ◌<◌, ◌≤◌, true, false, List, inl, inr, refl, sym, ap, ◌∙◌, arith, cond}
 use Rattle.std.specs.Prelude.{nat_lt, ◌-ℤ◌, FitsSigned}
 use Rattle.std.specs.Int.{w32}
 use Rattle.std.proofs.lemmas.Bool.Decides.{nat_tests}

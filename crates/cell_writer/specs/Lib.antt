@@ -9,3 +9,5 @@ pub mod Answers
 pub mod Generator
 pub mod Framing
 pub mod Layouts
+pub mod FieldValues
+pub mod RecordsRead

@@ -17,6 +17,9 @@ mod write;
 
 pub use fault::WriteFault;
 pub use generator::make_cell;
-pub use laws::{records_are_read, the_descriptive_record_is_read, values_are_spelled};
+pub use laws::{
+    fields_are_spelled, files_are_read, records_are_read, the_descriptive_record_is_read,
+    values_are_spelled,
+};
 pub use update::make_update;
 pub use write::write_cell;

@@ -65,8 +65,9 @@ pub(crate) fn put_vector_pointers(out: &mut Octets, pointers: &[Pointer]) -> Res
 fn put_place(out: &mut Octets, coord: Coord) -> Result<(), AllocError>
     ensures { OnOk result (out.new ≡ out.old ++ place coord) }
 {
-    put_b24(out, coord.y)?;
-    put_b24(out, coord.x)
+    let (latitude, longitude) = (coord.y, coord.x);
+    put_b24(out, latitude)?;
+    put_b24(out, longitude)
 }
 
 /// Adds a coordinate that has no depth.
