@@ -11,6 +11,10 @@ use Rattle.iso8211_formats.proofs.GivenValues.{map_some, chosen, guarded_some, s
 abbrev pub Lacks : ℕ → List ℕ → Type 0
 Lacks byte text = AllByRecursion (λ x. eqb x byte ≡ false) text
 
+pub Lacks-append : (byte : ℕ) (xs ys : List ℕ) → Lacks byte xs → Lacks byte ys → Lacks byte (xs ++ ys)
+Lacks-append byte [] ys p q = q
+Lacks-append byte (x ∷ xs) ys p q = (p.0, Lacks-append byte xs ys p.1 q)
+
 pub cut_at_found : (byte : ℕ) (text : List ℕ) (parts : List ℕ × List ℕ) → cut_at byte text ≡ Some parts → (text ≡ parts.0 ++ byte ∷ parts.1) × Lacks byte parts.0
 unfolding cut_at
 cut_at_found byte [] parts e = absurd cc

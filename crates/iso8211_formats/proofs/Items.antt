@@ -12,7 +12,7 @@ use Rattle.iso8211_formats.specs.Layout.{IsSound, IsWidth, IsBinarySize}
 use Rattle.iso8211_formats.specs.Grammar.{IsTextLetter, HasWidth, SpellsFormat, Item, IsItem, item_text, expanded}
 use Rattle.iso8211_formats.specs.Reading.{◌>>=◌, guarded, is_empty, cut_at, counting_number_of, count_of, digits_and_rest, is_text_letter, open_format, binary_format, format_with, sized_format, format_of, item_of, items_of}
 use Rattle.iso8211_formats.proofs.GivenValues.{bind_some, chosen, guarded_some, some_is}
-use Rattle.iso8211_formats.proofs.Cuts.{Lacks, cut_at_found, cut_at_again}
+use Rattle.iso8211_formats.proofs.Cuts.{Lacks, Lacks-append, cut_at_found, cut_at_again}
 use Rattle.iso8211_formats.proofs.Numbers.{counting_number_of_found, counting_number_of_again, digits_and_rest_found, digits_and_rest_again, count_of_found, count_of_again, SpellsCount-digits, Lacks-digits, test_from_AllDigits}
 
 -- a format's text, and a format that it may spell
@@ -182,10 +182,6 @@ format_text_starts text (Text width) (letter, (inr (inr l)), has) = (letter, _, 
 format_text_starts text (Unsigned size) h = (98, _, h, refl)
 format_text_starts text (Signed size) h = (98, _, h, refl)
 format_text_starts text (Bits width) has = (66, _, has.whole, refl)
-
-Lacks-append : (byte : ℕ) (xs ys : List ℕ) → Lacks byte xs → Lacks byte ys → Lacks byte (xs ++ ys)
-Lacks-append byte [] ys p q = q
-Lacks-append byte (x ∷ xs) ys p q = (p.0, Lacks-append byte xs ys p.1 q)
 
 width_text_lacks : (text : List ℕ) (letter width : ℕ) → eqb letter 44 ≡ false → HasWidth text letter width → Lacks 44 text
 width_text_lacks text letter width other has =

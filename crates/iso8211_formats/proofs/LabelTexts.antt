@@ -6,7 +6,7 @@ use Rattle.std.proofs.lemmas.Bool.{eqb-true, eq-eqb, cases_Bool, ne_eqb}
 use Rattle.iso8211_formats.specs.Grammar.{IsLabel, begins_at, marked_labels, array_descriptor}
 use Rattle.iso8211_formats.specs.Reading.{plain_labels, grouped_labels, labels_of}
 use Rattle.iso8211_formats.proofs.GivenValues.{map_some, chosen, some_is, or_some, none_unless}
-use Rattle.iso8211_formats.proofs.Cuts.{Lacks}
+use Rattle.iso8211_formats.proofs.Cuts.{Lacks, Lacks-append}
 
 -- four bytes
 abbrev pub IsFour : List ℕ → Type 0
@@ -302,10 +302,6 @@ lacks_parts : (byte : ℕ) (xs ys : List ℕ) → Lacks byte (xs ++ ys) → Lack
 lacks_parts byte [] ys p = (tt, p)
 lacks_parts byte (x ∷ xs) ys p = let rest = lacks_parts byte xs ys p.1 in ((p.0, rest.0), rest.1)
 
-lacks_append : (byte : ℕ) (xs ys : List ℕ) → Lacks byte xs → Lacks byte ys → Lacks byte (xs ++ ys)
-lacks_append byte [] ys p q = q
-lacks_append byte (x ∷ xs) ys p q = (p.0, lacks_append byte xs ys p.1 q)
-
 lacks_join : (pieces : List (List ℕ)) → Lacks 31 (join_with_byte 33 pieces) → AllByRecursion (λ piece. Lacks 31 piece) pieces
 lacks_join [] p = tt
 lacks_join (piece ∷ []) p = (p, tt)
@@ -316,7 +312,7 @@ lacks_join (piece ∷ next ∷ pieces) p =
 join_lacks : (pieces : List (List ℕ)) → AllByRecursion (λ piece. Lacks 31 piece) pieces → Lacks 31 (join_with_byte 33 pieces)
 join_lacks [] p = tt
 join_lacks (piece ∷ []) p = p.0
-join_lacks (piece ∷ next ∷ pieces) p = lacks_append 31 piece (33 ∷ join_with_byte 33 (next ∷ pieces)) p.0 (refl, join_lacks (next ∷ pieces) p.1)
+join_lacks (piece ∷ next ∷ pieces) p = Lacks-append 31 piece (33 ∷ join_with_byte 33 (next ∷ pieces)) p.0 (refl, join_lacks (next ∷ pieces) p.1)
 
 -- of a label, with or without a mark
 lacks_marked : (test : Bool) (label : List ℕ) → Lacks 31 (cond test (42 ∷ label) label) → Lacks 31 label

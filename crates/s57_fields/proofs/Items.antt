@@ -12,28 +12,29 @@ use Rattle.chart_model.specs.declared.record.Coord.{Coord}
 use Rattle.chart_model.specs.declared.record.Related.{Related}
 use Rattle.iso8211_formats.specs.Layout.{Layout}
 use Rattle.iso8211_records.specs.declared.value.Value.{Value}
-use Rattle.s57_fields.specs.declared.fault.FieldFault.{FieldFault}
-use Rattle.s57_fields.specs.Answers.{missing}
-use Rattle.s57_fields.specs.Columns.{column_in}
-use Rattle.s57_fields.specs.Groups.{GroupedField, AreGrouped, ItemsAreGroups, FaultIsFirst, groups_in, in_group, fault_in}
+use Rattle.s57_subfields.specs.declared.fault.FieldFault.{FieldFault}
+use Rattle.s57_subfields.specs.Answers.{missing}
+use Rattle.s57_subfields.specs.Columns.{column_in}
+use Rattle.s57_subfields.specs.Groups.{GroupedField, AreGrouped, ItemsAreGroups, FaultIsFirst, groups_in, in_group}
+use Rattle.s57_subfields.specs.Groups.{fault_in}
 use Rattle.s57_fields.specs.Items.{attribute_of, attribute_faults, vector_pointer_of, vector_pointer_faults}
 use Rattle.s57_fields.specs.Items.{feature_pointer_of, feature_pointer_faults, coordinate_of, coordinate_faults}
 use Rattle.s57_fields.specs.Items.{sounding_of, sounding_faults, related_of, related_faults}
-use Rattle.s57_fields.specs.Labels as labels
-use Rattle.s57_fields.specs.Lists.{attribute_row, attributes, attribute_columns, attributes_in}
-use Rattle.s57_fields.specs.Lists.{vrpt_row, vector_pointers, vector_pointer_columns, vector_pointers_in}
-use Rattle.s57_fields.specs.Lists.{fspt_row, feature_pointers, feature_pointer_columns, feature_pointers_in}
-use Rattle.s57_fields.specs.Lists.{sg2d_row, coordinates, coordinate_columns, coordinates_in}
-use Rattle.s57_fields.specs.Lists.{sg3d_row, soundings, sounding_columns, soundings_in}
-use Rattle.s57_fields.specs.Lists.{ffpt_row, related, related_columns, related_in}
-use Rattle.s57_fields.specs.Names.{record_name, object_name}
-use Rattle.s57_fields.specs.Number.{number_up_to, ONE_BYTE, TWO_BYTES}
-use Rattle.s57_fields.specs.Places.{subfield_of}
-use Rattle.s57_fields.specs.RowValues.{RowValues}
-use Rattle.s57_fields.specs.Signed.{number_within, depth_in, LATITUDE, LONGITUDE}
-use Rattle.s57_fields.specs.Texts.{plain_text}
-use Rattle.s57_fields.proofs.Groups.{column-is}
-use Rattle.s57_fields.specs.Tails.{both}
+use Rattle.s57_subfields.specs.Labels as labels
+use Rattle.s57_fields.specs.Attributes.{attribute_row, attributes, attribute_columns, attributes_in}
+use Rattle.s57_fields.specs.Vrpt.{vrpt_row, vector_pointers, vector_pointer_columns, vector_pointers_in}
+use Rattle.s57_fields.specs.Fspt.{fspt_row, feature_pointers, feature_pointer_columns, feature_pointers_in}
+use Rattle.s57_fields.specs.Sg2d.{sg2d_row, coordinates, coordinate_columns, coordinates_in}
+use Rattle.s57_fields.specs.Sg3d.{sg3d_row, soundings, sounding_columns, soundings_in}
+use Rattle.s57_fields.specs.Ffpt.{ffpt_row, related, related_columns, related_in}
+use Rattle.s57_subfields.specs.Names.{record_name, object_name}
+use Rattle.s57_subfields.specs.Number.{number_up_to, ONE_BYTE, TWO_BYTES}
+use Rattle.s57_subfields.specs.Places.{subfield_of}
+use Rattle.s57_subfields.specs.RowValues.{RowValues}
+use Rattle.s57_subfields.specs.Signed.{number_within, depth_in, LATITUDE, LONGITUDE}
+use Rattle.s57_subfields.specs.Texts.{plain_text}
+use Rattle.s57_subfields.proofs.GroupValues.{column-is}
+use Rattle.s57_subfields.specs.Tails.{both}
 use Rattle.s57_fields.proofs.Rows.{both-zip, items-made, two, three, four, five}
 use Rattle.s57_fields.proofs.Rows.{bind_then, ok_is, bind_fault, listed-there, listed-absent, listed-items}
 

@@ -6,8 +6,10 @@ use Rattle.std.proofs.lemmas.List.Elements.{All-cons, All-map}
 use Rattle.chart_model.specs.Codes.{NULL}
 use Rattle.chart_model.specs.Record.{IsWithin, IsDepth, IsCoord, AreCoords}
 use Rattle.chart_model.specs.declared.name.Name.{Name}
-use Rattle.s57_fields.specs.Lists.{coordinates, soundings, feature_pointers}
-use Rattle.s57_fields.specs.Signed.{LATITUDE, LONGITUDE}
+use Rattle.s57_fields.specs.Sg2d.{coordinates}
+use Rattle.s57_fields.specs.Sg3d.{soundings}
+use Rattle.s57_fields.specs.Fspt.{feature_pointers}
+use Rattle.s57_subfields.specs.Signed.{LATITUDE, LONGITUDE}
 
 first_holds : {A : Type 0} (P : A → Type 0) (x : A) (xs : List A) → All P (x ∷ xs) → P x
 first_holds P x xs all = all 0 x (omega arith)

@@ -1,14 +1,5 @@
-pub mod Digits
-pub mod Dots
-pub mod Every
-pub mod Fields
-pub mod Fieldwise
-pub mod Groups
 pub mod Items
 pub mod Joined
 pub mod Listed
-pub mod Numbers
 pub mod Passes
 pub mod Rows
-pub mod Tails
-pub mod Whole

@@ -2,9 +2,9 @@
 use Rattle.std.proofs.Common.{◌≡◌, true, false, List, [], ◌∷◌, Result, Ok, refl}
 use Rattle.std.specs.Prelude.{is_none}
 use Rattle.iso8211_records.specs.declared.value.Value.{Value}
-use Rattle.s57_fields.specs.declared.fault.FieldFault.{FieldFault}
-use Rattle.s57_fields.specs.RowValues.{first_of}
-use Rattle.s57_fields.specs.Columns.{listed}
+use Rattle.s57_subfields.specs.declared.fault.FieldFault.{FieldFault}
+use Rattle.s57_subfields.specs.RowValues.{first_of}
+use Rattle.s57_subfields.specs.Columns.{listed}
 
 pub listed_none : {A : Type 0} (fields : List (List Value)) (answer : Result (List A) FieldFault) → is_none (first_of fields) ≡ true → listed fields answer ≡ Ok []
 listed_none [] answer none = refl

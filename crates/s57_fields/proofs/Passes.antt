@@ -9,23 +9,28 @@ use Rattle.chart_model.specs.declared.record.Attr.{Attr}
 use Rattle.chart_model.specs.declared.record.Coord.{Coord}
 use Rattle.chart_model.specs.declared.record.Pointer.{Pointer}
 use Rattle.chart_model.specs.declared.record.Related.{Related}
-use Rattle.s57_fields.specs.declared.lists.AttributeRow.{AttributeRow}
-use Rattle.s57_fields.specs.declared.lists.RelatedRow.{RelatedRow}
-use Rattle.s57_fields.specs.declared.pointers.VectorPointerRow.{VectorPointerRow}
-use Rattle.s57_fields.specs.declared.pointers.FeaturePointerRow.{FeaturePointerRow}
-use Rattle.s57_fields.specs.declared.positions.CoordinateRow.{CoordinateRow}
-use Rattle.s57_fields.specs.declared.positions.SoundingRow.{SoundingRow}
-use Rattle.s57_fields.specs.declared.subfield.Place.TheVariants.{Repeated}
-use Rattle.s57_fields.specs.Lists.{attribute_columns, vector_pointer_columns, feature_pointer_columns}
-use Rattle.s57_fields.specs.Lists.{coordinate_columns, sounding_columns, related_columns}
-use Rattle.s57_fields.specs.Names.{record_name, object_name}
-use Rattle.s57_fields.specs.Number.{number_up_to, ONE_BYTE, TWO_BYTES}
-use Rattle.s57_fields.specs.RowValues.{RowValues}
-use Rattle.s57_fields.specs.Signed.{number_within, depth_in, LATITUDE, LONGITUDE}
-use Rattle.s57_fields.specs.Tails.{tails_of, behind, both, attribute_behind, vector_pointer_behind}
-use Rattle.s57_fields.specs.Tails.{feature_pointer_behind, coordinate_behind, sounding_behind, related_behind}
-use Rattle.s57_fields.specs.Texts.{plain_text}
-use Rattle.s57_fields.proofs.Tails.{column-read, unmade, both-sides, zip-sides}
+use Rattle.s57_fields.specs.declared.attributes.AttributeRow.{AttributeRow}
+use Rattle.s57_fields.specs.declared.ffpt.RelatedRow.{RelatedRow}
+use Rattle.s57_fields.specs.declared.vrpt.VectorPointerRow.{VectorPointerRow}
+use Rattle.s57_fields.specs.declared.fspt.FeaturePointerRow.{FeaturePointerRow}
+use Rattle.s57_fields.specs.declared.sg2d.CoordinateRow.{CoordinateRow}
+use Rattle.s57_fields.specs.declared.sg3d.SoundingRow.{SoundingRow}
+use Rattle.s57_subfields.specs.declared.subfield.Place.TheVariants.{Repeated}
+use Rattle.s57_fields.specs.Attributes.{attribute_columns}
+use Rattle.s57_fields.specs.Vrpt.{vector_pointer_columns}
+use Rattle.s57_fields.specs.Fspt.{feature_pointer_columns}
+use Rattle.s57_fields.specs.Sg2d.{coordinate_columns}
+use Rattle.s57_fields.specs.Sg3d.{sounding_columns}
+use Rattle.s57_fields.specs.Ffpt.{related_columns}
+use Rattle.s57_subfields.specs.Names.{record_name, object_name}
+use Rattle.s57_subfields.specs.Number.{number_up_to, ONE_BYTE, TWO_BYTES}
+use Rattle.s57_subfields.specs.RowValues.{RowValues}
+use Rattle.s57_subfields.specs.Signed.{number_within, depth_in, LATITUDE, LONGITUDE}
+use Rattle.s57_subfields.specs.Tails.{tails_of, behind, both}
+use Rattle.s57_fields.specs.Behind.{attribute_behind, vector_pointer_behind}
+use Rattle.s57_fields.specs.Behind.{feature_pointer_behind, coordinate_behind, sounding_behind, related_behind}
+use Rattle.s57_subfields.specs.Texts.{plain_text}
+use Rattle.s57_subfields.proofs.Tails.{column-read, unmade, both-sides, zip-sides}
 
 -- ---- ATTV and ATTF
 

@@ -3,11 +3,11 @@ use Rattle.std.proofs.Common.{◌≡◌, ◌≢◌, ◌∙◌, List, [], ◌∷�
 use Rattle.std.specs.Prelude.{option_and_then, option_map}
 use Rattle.std.specs.List.{zip}
 use Rattle.iso8211_records.specs.declared.value.Value.{Value}
-use Rattle.s57_fields.specs.declared.fault.FieldFault.{FieldFault}
+use Rattle.s57_subfields.specs.declared.fault.FieldFault.{FieldFault}
 use Rattle.chart_model.specs.Answers.{◌>>=◌, first_of}
-use Rattle.s57_fields.specs.Columns.{listed}
-use Rattle.s57_fields.specs.Groups.{GroupedField, values_in, groups_in, fault_in}
-use Rattle.s57_fields.specs.Tails.{both}
+use Rattle.s57_subfields.specs.Columns.{listed}
+use Rattle.s57_subfields.specs.Groups.{GroupedField, values_in, groups_in, fault_in}
+use Rattle.s57_subfields.specs.Tails.{both}
 
 -- ---- items
 

@@ -7,14 +7,14 @@ use Rattle.chart_model.specs.declared.record.Attr.{Attr}
 use Rattle.chart_model.specs.declared.record.Pointer.{Pointer}
 use Rattle.chart_model.specs.declared.record.Coord.{Coord}
 use Rattle.chart_model.specs.declared.record.Related.{Related}
-use Rattle.s57_fields.specs.declared.fault.FieldFault.{FieldFault}
-use Rattle.s57_fields.specs.Groups.{◌>>=◌, in_group, fault_under}
-use Rattle.s57_fields.specs.Labels as labels
-use Rattle.s57_fields.specs.Names.{record_name, object_name}
-use Rattle.s57_fields.specs.Number.{number_up_to, ONE_BYTE, TWO_BYTES}
-use Rattle.s57_fields.specs.RowValues.{RowValues}
-use Rattle.s57_fields.specs.Signed.{number_within, depth_in, LATITUDE, LONGITUDE}
-use Rattle.s57_fields.specs.Texts.{plain_text}
+use Rattle.s57_subfields.specs.declared.fault.FieldFault.{FieldFault}
+use Rattle.s57_subfields.specs.Groups.{◌>>=◌, in_group, fault_under}
+use Rattle.s57_subfields.specs.Labels as labels
+use Rattle.s57_subfields.specs.Names.{record_name, object_name}
+use Rattle.s57_subfields.specs.Number.{number_up_to, ONE_BYTE, TWO_BYTES}
+use Rattle.s57_subfields.specs.RowValues.{RowValues}
+use Rattle.s57_subfields.specs.Signed.{number_within, depth_in, LATITUDE, LONGITUDE}
+use Rattle.s57_subfields.specs.Texts.{plain_text}
 
 -- ---- ATTV and ATTF
 

@@ -1,25 +1,17 @@
 //! Laws of the definitions.
 
-ghost use Rattle.std.specs.Prelude.{List};
-ghost use Rattle.std.specs.List.{AllByRecursion};
-ghost use Rattle.iso8211_formats.specs.Layout.{Layout, IsLayout};
-ghost use Rattle.iso8211_records.specs.declared.value.Value.{Value as RawValue};
-ghost use Rattle.iso8211_records.specs.Kinds.{FitsLayout};
-ghost use Rattle.s57_fields.specs.Groups.{AreGrouped, GroupedField, ItemsAreGroups, FaultIsFirst};
+ghost use Rattle.s57_subfields.specs.Groups.{ItemsAreGroups, FaultIsFirst};
 ghost use Rattle.s57_fields.specs.Items.{attribute_of, attribute_faults, vector_pointer_of};
 ghost use Rattle.s57_fields.specs.Items.{vector_pointer_faults, feature_pointer_of, feature_pointer_faults};
 ghost use Rattle.s57_fields.specs.Items.{coordinate_of, coordinate_faults, sounding_of};
 ghost use Rattle.s57_fields.specs.Items.{sounding_faults, related_of, related_faults};
-ghost use Rattle.s57_fields.specs.Lists.{attribute_row, attributes_in, vrpt_row};
-ghost use Rattle.s57_fields.specs.Lists.{vector_pointers_in, fspt_row, feature_pointers_in};
-ghost use Rattle.s57_fields.specs.Lists.{sg2d_row, coordinates_in, sg3d_row, soundings_in, ffpt_row, related_in};
-
-/// The fields that a file is read as have whole groups.
-pub fn groups_are_whole()
-    ensures { (layout : Layout) (fields : List (List RawValue)) → IsLayout layout →
-        AllByRecursion (FitsLayout layout) fields →
-        (parts : List GroupedField) × AreGrouped layout parts fields }
-{}
+ghost use Rattle.s57_fields.specs.Attributes.{attribute_row, attributes_in};
+ghost use Rattle.s57_fields.specs.Vrpt.{vrpt_row};
+ghost use Rattle.s57_fields.specs.Vrpt.{vector_pointers_in};
+ghost use Rattle.s57_fields.specs.Fspt.{fspt_row, feature_pointers_in};
+ghost use Rattle.s57_fields.specs.Sg2d.{sg2d_row, coordinates_in};
+ghost use Rattle.s57_fields.specs.Sg3d.{sg3d_row, soundings_in};
+ghost use Rattle.s57_fields.specs.Ffpt.{ffpt_row, related_in};
 
 /// A list has as many items as the fields have groups, and each item is what the group in its place is read as.
 pub fn items_are_groups()

@@ -19,7 +19,7 @@ use Rattle.s57_records.specs.Subfields.{Subfields}
 use Rattle.s57_records.specs.declared.change.VectorHead.{VectorHead}
 use Rattle.s57_records.specs.declared.change.FeatureHead.{FeatureHead}
 use Rattle.chart_model.specs.Answers.{◌>>=◌}
-use Rattle.s57_fields.specs.Number.{ONE_BYTE, TWO_BYTES, FOUR_BYTES}
+use Rattle.s57_subfields.specs.Number.{ONE_BYTE, TWO_BYTES, FOUR_BYTES}
 use Rattle.s57_records.specs.Rows.{ensure, reads_as, is_instruction, ruin_of, unless_deleted, edit_of, is_vector_kind, vector_head, coords_of, vector_of, is_prim, inserts, checked_prim, foid_of, feature_head, feature_of}
 use Rattle.s57_records.proofs.AnswerLemmas.{bind_ok, bind_then, ensure_ok, chosen, ok_is}
 

@@ -11,7 +11,7 @@ use Rattle.s57_records.specs.declared.fault.DatasetFault.{DatasetFault}
 use Rattle.s57_records.specs.declared.fault.DatasetFault.TheVariants.{NoGeneral, Profile}
 use Rattle.s57_records.specs.Subfields.{Subfields}
 use Rattle.chart_model.specs.Answers.{◌>>=◌}
-use Rattle.s57_fields.specs.Number.{ONE_BYTE, TWO_BYTES}
+use Rattle.s57_subfields.specs.Number.{ONE_BYTE, TWO_BYTES}
 use Rattle.s57_records.specs.Rows.{ensure, reads_as, checked_edition, general_of, checked_structure, scale_of, vector_of, feature_of}
 use Rattle.s57_records.specs.Dataset.{Kind, general, parameters, vector, feature, other, kind_of, Said, change_is, scale_is, nothing, said_by, looked_at, all_of, change_in, scale_among, header_with, cancels, dataset_after, dataset_of}
 use Rattle.s57_records.proofs.AnswerLemmas.{bind_then, ensure_ok, chosen, ok_is}

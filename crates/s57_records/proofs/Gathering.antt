@@ -19,8 +19,8 @@ use Rattle.s57_records.specs.Gathering.{with_change, with_scale, gathered_with, 
 use Rattle.chart_model.specs.Dataset.{IsDataset}
 use Rattle.iso8211_records.specs.Kinds.{layout_at}
 use Rattle.s57_records.specs.declared.reader.DataRecord.{DataRecord}
-use Rattle.s57_records.specs.Reading.{reading}
-use Rattle.s57_records.specs.Readings.{all_subfields}
+use Rattle.s57_records.specs.RecordReading.{reading}
+use Rattle.s57_records.specs.LayoutReadings.{all_subfields}
 use Rattle.s57_records.specs.Resolved.{Descriptors}
 use Rattle.iso8211_records.specs.declared.record.RawField.{RawField}
 use Rattle.s57_records.specs.Rows.{general_of}

@@ -1,8 +1,9 @@
 pub mod AnswerLemmas
 pub mod Changes
 pub mod Datasets
-mod Kept
+mod KeptChanges
 mod Examples
 pub mod Sound
 pub mod Made
 pub mod Gathering
+mod SameTags

@@ -12,7 +12,7 @@ use Rattle.iso8211_records.specs.Kinds.{layout_at}
 use Rattle.s57_records.specs.declared.reader.DataRecord.{DataRecord}
 use Rattle.s57_records.specs.declared.change.VectorHead.{VectorHead}
 use Rattle.s57_records.specs.declared.change.FeatureHead.{FeatureHead}
-use Rattle.s57_records.specs.Reading.{reading}
+use Rattle.s57_records.specs.RecordReading.{reading}
 use Rattle.s57_records.specs.Rows.{unless_deleted, edit_of, vector_head, coords_of, foid_of, feature_head}
 use Rattle.s57_records.proofs.Changes.{AreSound, edit_is, are_coords, vector_head_is, vector_made, feature_head_is, feature_made}
 use Rattle.s57_records.proofs.Sound.{subfields_sound}

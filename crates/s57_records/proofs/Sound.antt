@@ -15,24 +15,27 @@ use Rattle.chart_model.specs.Record.{IsCoord, IsDepth, IsWithin, IsPlainText}
 use Rattle.iso8211_records.specs.declared.record.RawField.{RawField}
 use Rattle.iso8211_records.specs.declared.value.Value.{Value}
 use Rattle.iso8211_records.specs.declared.value.Value.TheVariants.{Number, Text, Bits}
-use Rattle.s57_fields.specs.declared.fault.FieldFault.{FieldFault}
-use Rattle.s57_fields.specs.declared.subfield.Subfield.{Subfield}
+use Rattle.s57_subfields.specs.declared.fault.FieldFault.{FieldFault}
+use Rattle.s57_subfields.specs.declared.subfield.Subfield.{Subfield}
 use Rattle.chart_model.specs.Answers.{◌>>=◌, or_fault}
-use Rattle.s57_fields.specs.Answers.{missing, bad}
-use Rattle.s57_fields.specs.RowValues.{RowValues, fields_in, first_of}
-use Rattle.s57_fields.specs.Places.{subfield_of}
-use Rattle.s57_fields.specs.Columns.{once_in, once_at, column_in, repeated_at, every, read_each, listed}
-use Rattle.s57_fields.specs.Number.{number_up_to, digits_up_to}
-use Rattle.s57_fields.specs.Signed.{number_within, whole_within, depth_in, LATITUDE, LONGITUDE}
-use Rattle.s57_fields.specs.Texts.{nine_digits, plain_text, is_plain, data_set_name, key_in}
+use Rattle.s57_subfields.specs.Answers.{missing, bad}
+use Rattle.s57_subfields.specs.RowValues.{RowValues, fields_in, first_of}
+use Rattle.s57_subfields.specs.Places.{subfield_of}
+use Rattle.s57_subfields.specs.Columns.{once_in, once_at, column_in, repeated_at, every, read_each, listed}
+use Rattle.s57_subfields.specs.Number.{number_up_to, digits_up_to}
+use Rattle.s57_subfields.specs.Signed.{number_within, whole_within, depth_in, LATITUDE, LONGITUDE}
+use Rattle.s57_subfields.specs.Texts.{nine_digits, plain_text, is_plain, data_set_name, key_in}
 use Rattle.s57_records.specs.declared.fault.DatasetFault.{DatasetFault}
-use Rattle.s57_fields.specs.declared.lists.AttributeRow.{AttributeRow}
-use Rattle.s57_fields.specs.declared.positions.CoordinateRow.{CoordinateRow}
-use Rattle.s57_fields.specs.declared.positions.SoundingRow.{SoundingRow}
-use Rattle.s57_fields.specs.declared.pointers.FeaturePointerRow.{FeaturePointerRow}
-use Rattle.s57_fields.specs.Names.{record_name}
-use Rattle.s57_fields.specs.Lists.{attribute_row, attributes, attribute_columns, attributes_in, fspt_row, feature_pointers, feature_pointer_columns, feature_pointers_in, sg2d_row, coordinates, coordinate_columns, coordinates_in, sg3d_row, soundings, sounding_columns, soundings_in}
-use Rattle.s57_records.specs.Readings.{widened, mapped, under, Layouts, has_field, coords_in, subfields_of, all_subfields}
+use Rattle.s57_fields.specs.declared.attributes.AttributeRow.{AttributeRow}
+use Rattle.s57_fields.specs.declared.sg2d.CoordinateRow.{CoordinateRow}
+use Rattle.s57_fields.specs.declared.sg3d.SoundingRow.{SoundingRow}
+use Rattle.s57_fields.specs.declared.fspt.FeaturePointerRow.{FeaturePointerRow}
+use Rattle.s57_subfields.specs.Names.{record_name}
+use Rattle.s57_fields.specs.Attributes.{attribute_row, attributes, attribute_columns, attributes_in}
+use Rattle.s57_fields.specs.Fspt.{fspt_row, feature_pointers, feature_pointer_columns, feature_pointers_in}
+use Rattle.s57_fields.specs.Sg2d.{sg2d_row, coordinates, coordinate_columns, coordinates_in}
+use Rattle.s57_fields.specs.Sg3d.{sg3d_row, soundings, sounding_columns, soundings_in}
+use Rattle.s57_records.specs.LayoutReadings.{widened, mapped, under, Layouts, has_field, coords_in, subfields_of, all_subfields}
 use Rattle.s57_records.proofs.AnswerLemmas.{chosen}
 use Rattle.s57_records.proofs.Changes.{AreSound, HasKeys, All-nil}
 

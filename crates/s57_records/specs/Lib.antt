@@ -2,7 +2,7 @@ pub mod Subfields
 pub mod Rows
 pub mod Dataset
 pub mod Gathering
-pub mod Readings
+pub mod LayoutReadings
 pub mod Answers
-pub mod Reading
+pub mod RecordReading
 pub mod Resolved

@@ -2,13 +2,23 @@
 use Rattle.std.specs.Prelude.{◌≡◌, ℕ, List, Option}
 use Rattle.iso8211_formats.specs.Layout.{Layout}
 use Rattle.iso8211_records.specs.Kinds.{layout_at}
-use Rattle.s57_fields.specs.Tags as tags
-use Rattle.s57_fields.specs.General.{dsid_row, dssi_row, dspm_row}
-use Rattle.s57_fields.specs.Identifiers.{vrid_row, frid_row, foid_row}
-use Rattle.s57_fields.specs.Lists.{attribute_row, vrpc_row, vrpt_row, sgcc_row, sg2d_row, sg3d_row}
-use Rattle.s57_fields.specs.Lists.{ffpc_row, ffpt_row, fspc_row, fspt_row}
-use Rattle.s57_fields.specs.Places.{subfield_of}
-use Rattle.s57_fields.specs.declared.lists.ControlRow.{ControlRow}
+use Rattle.s57_subfields.specs.Tags as tags
+use Rattle.s57_fields.specs.Dsid.{dsid_row}
+use Rattle.s57_fields.specs.Dssi.{dssi_row}
+use Rattle.s57_fields.specs.Dspm.{dspm_row}
+use Rattle.s57_fields.specs.Vrid.{vrid_row}
+use Rattle.s57_fields.specs.Frid.{frid_row}
+use Rattle.s57_fields.specs.Foid.{foid_row}
+use Rattle.s57_fields.specs.Attributes.{attribute_row}
+use Rattle.s57_fields.specs.Control.{vrpc_row, sgcc_row}
+use Rattle.s57_fields.specs.Vrpt.{vrpt_row}
+use Rattle.s57_fields.specs.Sg2d.{sg2d_row}
+use Rattle.s57_fields.specs.Sg3d.{sg3d_row}
+use Rattle.s57_fields.specs.Control.{ffpc_row, fspc_row}
+use Rattle.s57_fields.specs.Ffpt.{ffpt_row}
+use Rattle.s57_fields.specs.Fspt.{fspt_row}
+use Rattle.s57_subfields.specs.Places.{subfield_of}
+use Rattle.s57_fields.specs.declared.control.ControlRow.{ControlRow}
 use Rattle.s57_records.specs.declared.rows.GeneralRows.{GeneralRows}
 use Rattle.s57_records.specs.declared.rows.VectorRows.{VectorRows}
 use Rattle.s57_records.specs.declared.rows.FeatureRows.{FeatureRows}
@@ -48,6 +58,6 @@ feature_rows descriptors = record {
 
 -- the subfields of a control field's row are those of their labels
 pub record IsFound (layout : Option Layout) (row : ControlRow) : Type 0 where
-  pub instruction : row.instruction ≡ subfield_of layout row.instruction.label
-  pub index : row.index ≡ subfield_of layout row.index.label
-  pub count : row.count ≡ subfield_of layout row.count.label
+  pub instruction : row.instruction.subfield ≡ subfield_of layout row.instruction.subfield.label
+  pub index : row.index.subfield ≡ subfield_of layout row.index.subfield.label
+  pub count : row.count.subfield ≡ subfield_of layout row.count.subfield.label

@@ -10,7 +10,7 @@ use Rattle.chart_model.specs.declared.name.Foid.{Foid}
 use Rattle.chart_model.specs.declared.update_record.Control.{Control}
 use Rattle.chart_model.specs.Change.{Change}
 use Rattle.chart_model.specs.declared.record.Coord.{Coord}
-use Rattle.s57_fields.specs.Number.{ONE_BYTE, TWO_BYTES, FOUR_BYTES}
+use Rattle.s57_subfields.specs.Number.{ONE_BYTE, TWO_BYTES, FOUR_BYTES}
 use Rattle.s57_records.specs.declared.general.General.{General}
 use Rattle.s57_records.specs.declared.change.VectorHead.{VectorHead}
 use Rattle.s57_records.specs.declared.change.FeatureHead.{FeatureHead}

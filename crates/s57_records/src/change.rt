@@ -3,20 +3,21 @@
 ghost use Rattle.std.specs.Prelude.{◌≡◌};
 ghost use Rattle.s57_records.specs.Answers.{Gives};
 ghost use Rattle.s57_records.specs.Rows.{ruin_of, edit_of, vector_head, feature_head, checked_prim, foid_of};
-ghost use Rattle.s57_records.specs.Reading.{reading};
+ghost use Rattle.s57_records.specs.RecordReading.{reading};
 ghost use Rattle.s57_records.specs.Resolved.{IsFound};
-ghost use Rattle.s57_fields.specs.Places.{subfield_of};
+ghost use Rattle.s57_subfields.specs.Places.{subfield_of};
 ghost use Rattle.iso8211_records.specs.Kinds.{layout_at};
 
 use crate::fault::DatasetFault;
-use crate::reader::{DataRecord, byte, long, reads_as, short};
+use crate::reader::{DataRecord, reads_as};
 use chart_model::codes::{
     AREA, CONNECTED_NODE, EDGE, FEATURE, INSERT, ISOLATED_NODE, MODIFY, NO_PRIMITIVE, POINT,
 };
 use chart_model::{Control, Foid, Name};
-use s57_fields::labels::{PRIM, RCNM, RUIN};
-use s57_fields::tags::{FOID, FRID, VRID};
-use s57_fields::{ControlRow, Subfield};
+use s57_fields::ControlRow;
+use s57_subfields::labels::{PRIM, RCNM, RUIN};
+use s57_subfields::tags::{FOID, FRID, VRID};
+use s57_subfields::{OneByte, Single};
 use std::alloc::Global;
 
 /// The identifier of a vector record.
@@ -52,15 +53,15 @@ fn read_ruin(
     fields: &DataRecord<'_>,
     base: bool,
     tag: [u8; 4],
-    subfield: &Subfield,
+    instruction: &Single<OneByte>,
 ) -> Result<u8, DatasetFault>
-    requires { subfield.now ≡ subfield_of (layout_at fields.now.rows.now tag) RUIN }
+    requires { instruction.now.subfield ≡ subfield_of (layout_at fields.now.rows.now tag) RUIN }
     ensures { Gives result (ruin_of base fields.now.number (reading fields.now) tag) }
 {
     if base {
         return Ok(INSERT);
     }
-    let ruin = byte(alloc, &fields.values(tag), subfield)?;
+    let ruin = instruction.read(alloc, &fields.values(tag))?;
     if ruin < INSERT || ruin > MODIFY {
         return Err(DatasetFault::Value {
             record: fields.number,
@@ -82,23 +83,23 @@ pub(crate) fn read_edit(
     requires { IsFound (layout_at fields.now.rows.now control.now.tag) control.now.row }
     ensures { let row = control.now.row in
         Gives result (edit_of base ruin fields.now.number (reading fields.now) control.now.tag
-        row.instruction.label row.index.label row.count.label) }
+        row.instruction.subfield.label row.index.subfield.label row.count.subfield.label) }
 {
     if base || ruin != MODIFY || !fields.has(control.tag) {
         return Ok(None);
     }
     let row = &control.row;
     let values = fields.values(control.tag);
-    let instruction = byte(alloc, &values, &row.instruction)?;
+    let instruction = row.instruction.read(alloc, &values)?;
     if instruction < INSERT || instruction > MODIFY {
-        let label = row.instruction.label;
+        let label = row.instruction.subfield.label;
         return Err(DatasetFault::Value {
             record: fields.number,
             label,
         });
     }
-    let index = short(alloc, &values, &row.index)?;
-    let count = short(alloc, &values, &row.count)?;
+    let index = row.index.read(alloc, &values)?;
+    let count = row.count.read(alloc, &values)?;
     Ok(Some(Control {
         instruction,
         index,
@@ -117,12 +118,12 @@ pub(crate) fn read_vector_head(
 {
     let row = &fields.rows.vector().vrid;
     let values = fields.values(VRID);
-    let rcnm = byte(alloc, &values, &row.rcnm)?;
+    let rcnm = row.rcnm.read(alloc, &values)?;
     if rcnm != ISOLATED_NODE && rcnm != CONNECTED_NODE && rcnm != EDGE {
         return Err(DatasetFault::Profile(RCNM));
     }
-    let rcid = long(alloc, &values, &row.rcid)?;
-    let version = short(alloc, &values, &row.rver)?;
+    let rcid = row.rcid.read(alloc, &values)?;
+    let version = row.rver.read(alloc, &values)?;
     let ruin = read_ruin(alloc, fields, base, VRID, &row.ruin)?;
     Ok(VectorHead {
         target: Name { rcnm, rcid },
@@ -164,16 +165,16 @@ pub(crate) fn read_feature_head(
 {
     let row = &fields.rows.feature().frid;
     let values = fields.values(FRID);
-    let rcnm = byte(alloc, &values, &row.rcnm)?;
+    let rcnm = row.rcnm.read(alloc, &values)?;
     if rcnm != FEATURE {
         return Err(DatasetFault::Profile(RCNM));
     }
-    let rcid = long(alloc, &values, &row.rcid)?;
-    let prim = byte(alloc, &values, &row.prim)?;
+    let rcid = row.rcid.read(alloc, &values)?;
+    let prim = row.prim.read(alloc, &values)?;
     check_prim(alloc, fields, base, prim)?;
-    let grup = byte(alloc, &values, &row.grup)?;
-    let class = short(alloc, &values, &row.objl)?;
-    let version = short(alloc, &values, &row.rver)?;
+    let grup = row.grup.read(alloc, &values)?;
+    let class = row.objl.read(alloc, &values)?;
+    let version = row.rver.read(alloc, &values)?;
     let ruin = read_ruin(alloc, fields, base, FRID, &row.ruin)?;
     Ok(FeatureHead {
         target: Name { rcnm, rcid },

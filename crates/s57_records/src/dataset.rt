@@ -7,8 +7,8 @@ ghost use Rattle.s57_records.specs.Answers.{Gives};
 ghost use Rattle.s57_records.specs.Dataset.{kind_of, header_with, cancels, dataset_of};
 ghost use Rattle.s57_records.specs.Gathering.{gathered_with, gather, nothing_gathered, needed_scale, dataset_gathered};
 ghost use Rattle.s57_records.specs.Rows.{general_of};
-ghost use Rattle.s57_records.specs.Reading.{reading};
-ghost use Rattle.s57_records.specs.Readings.{all_subfields};
+ghost use Rattle.s57_records.specs.RecordReading.{reading};
+ghost use Rattle.s57_records.specs.LayoutReadings.{all_subfields};
 
 use crate::fault::DatasetFault;
 use crate::feature::read_feature;
@@ -18,7 +18,7 @@ use crate::rows::Rows;
 use crate::vector::read_vector;
 use chart_model::{ChangeList, Dataset, Header};
 use iso8211_records::{RawRecord, RecordFile};
-use s57_fields::tags::{DSID, DSPM, FRID, VRID};
+use s57_subfields::tags::{DSID, DSPM, FRID, VRID};
 use std::alloc::Global;
 
 /// What is gathered from the records after the first.

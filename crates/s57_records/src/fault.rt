@@ -3,7 +3,7 @@
 ghost use Rattle.std.specs.Prelude.{◌≡◌};
 ghost use Rattle.s57_records.specs.declared.fault.DatasetFault.TheVariants.{NoMemory};
 
-use s57_fields::FieldFault;
+use s57_subfields::FieldFault;
 use std::alloc::{AllocError, AllocFailed};
 
 /// Why a file is no data set: the first fault by record, then by field, then by subfield. Records are
@@ -40,7 +40,7 @@ impl<T: Drop> From<AllocFailed<T>> for DatasetFault {
 
 impl From<FieldFault> for DatasetFault {
     ghost use Rattle.std.specs.Prelude.{◌≡◌};
-    ghost use Rattle.s57_records.specs.Readings.{fault_of};
+    ghost use Rattle.s57_records.specs.LayoutReadings.{fault_of};
 
     ghost from_gives = { λ fault e. e ≡ fault_of fault };
 

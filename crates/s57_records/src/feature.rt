@@ -2,13 +2,13 @@
 
 ghost use Rattle.s57_records.specs.Answers.{Gives};
 ghost use Rattle.s57_records.specs.Rows.{feature_of};
-ghost use Rattle.s57_records.specs.Reading.{reading};
+ghost use Rattle.s57_records.specs.RecordReading.{reading};
 
 use crate::change::{ControlField, read_edit, read_feature_head, read_foid};
 use crate::fault::DatasetFault;
 use crate::reader::DataRecord;
 use chart_model::{Coords, UpdateRecord};
-use s57_fields::tags::{FFPC, FSPC};
+use s57_subfields::tags::{FFPC, FSPC};
 use std::alloc::Global;
 
 /// The change that a feature stands for.

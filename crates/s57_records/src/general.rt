@@ -2,17 +2,17 @@
 
 ghost use Rattle.std.specs.Prelude.{◌≡◌, IfOk};
 ghost use Rattle.chart_model.specs.Key.{IsKey};
-ghost use Rattle.s57_fields.specs.Texts.{key_in};
+ghost use Rattle.s57_subfields.specs.Texts.{key_in};
 ghost use Rattle.s57_records.specs.Answers.{Gives};
 ghost use Rattle.s57_records.specs.Rows.{checked_edition, general_of, checked_structure, scale_of};
-ghost use Rattle.s57_records.specs.Reading.{reading};
+ghost use Rattle.s57_records.specs.RecordReading.{reading};
 
 use crate::fault::DatasetFault;
-use crate::reader::{DataRecord, byte, long, once, reads_as, short};
+use crate::reader::{DataRecord, reads_as};
 use chart_model::{Key, Octets};
-use s57_fields::labels::{AALL, COMF, COUN, DUNI, EDTN, PROF, SOMF};
-use s57_fields::tags::{DSID, DSPM, DSSI};
-use s57_fields::{DataSetName, EightBytes, NineDigits, key_in};
+use s57_subfields::key_in;
+use s57_subfields::labels::{AALL, COMF, COUN, DUNI, EDTN, PROF, SOMF};
+use s57_subfields::tags::{DSID, DSPM, DSSI};
 use std::alloc::Global;
 
 /// The general information of a data set.
@@ -59,17 +59,17 @@ pub(crate) fn read_general(alloc: Global, fields: &DataRecord<'_>) -> Result<Gen
 {
     let row = &fields.rows.general().dsid;
     let values = fields.values(DSID);
-    let name = once(alloc, &values, &row.dsnm, &DataSetName)?;
+    let name = row.dsnm.read(alloc, &values)?;
     let key = key_of(&name);
-    let edition = once(alloc, &values, &row.edtn, &NineDigits)?;
+    let edition = row.edtn.read(alloc, &values)?;
     check_edition(alloc, fields, edition)?;
-    let update = once(alloc, &values, &row.updn, &NineDigits)?;
-    let issued = once(alloc, &values, &row.isdt, &EightBytes)?;
-    let prof = byte(alloc, &values, &row.prof)?;
+    let update = row.updn.read(alloc, &values)?;
+    let issued = row.isdt.read(alloc, &values)?;
+    let prof = row.prof.read(alloc, &values)?;
     if prof != 1 && prof != 2 {
         return Err(DatasetFault::Profile(PROF));
     }
-    let agency = short(alloc, &values, &row.agen)?;
+    let agency = row.agen.read(alloc, &values)?;
     Ok(General {
         key,
         edition,
@@ -89,7 +89,7 @@ pub(crate) fn check_structure(alloc: Global, fields: &DataRecord<'_>) -> Result<
         return Ok(());
     }
     let row = &fields.rows.general().dssi;
-    let aall = byte(alloc, &fields.values(DSSI), &row.aall)?;
+    let aall = row.aall.read(alloc, &fields.values(DSSI))?;
     if aall > 1 {
         return Err(DatasetFault::Profile(AALL));
     }
@@ -104,17 +104,17 @@ pub(crate) fn read_scale(alloc: Global, fields: &DataRecord<'_>) -> Result<u32, 
 {
     let row = &fields.rows.general().dspm;
     let values = fields.values(DSPM);
-    let scale = long(alloc, &values, &row.cscl)?;
-    if byte(alloc, &values, &row.duni)? != 1 {
+    let scale = row.cscl.read(alloc, &values)?;
+    if row.duni.read(alloc, &values)? != 1 {
         return Err(DatasetFault::Profile(DUNI));
     }
-    if byte(alloc, &values, &row.coun)? != 1 {
+    if row.coun.read(alloc, &values)? != 1 {
         return Err(DatasetFault::Profile(COUN));
     }
-    if long(alloc, &values, &row.comf)? != 10_000_000 {
+    if row.comf.read(alloc, &values)? != 10_000_000 {
         return Err(DatasetFault::Profile(COMF));
     }
-    if long(alloc, &values, &row.somf)? != 10 {
+    if row.somf.read(alloc, &values)? != 10 {
         return Err(DatasetFault::Profile(SOMF));
     }
     Ok(scale)

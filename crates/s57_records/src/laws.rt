@@ -6,7 +6,7 @@ ghost use Rattle.chart_model.specs.Dataset.{DatasetValue, IsDataset, IsPlainInse
 ghost use Rattle.iso8211_records.specs.declared.record.RawField.{RawField};
 ghost use Rattle.s57_records.specs.Rows.{vector_of, feature_of};
 ghost use Rattle.s57_records.specs.Dataset.{dataset_of};
-ghost use Rattle.s57_records.specs.Readings.{Layouts, subfields_of, all_subfields};
+ghost use Rattle.s57_records.specs.LayoutReadings.{Layouts, subfields_of, all_subfields};
 
 use chart_model::keys_are_tested;
 

@@ -1,11 +1,12 @@
 //! The subfields of one data record.
 
-ghost use Rattle.std.specs.Prelude.{◌≡◌, codes, IfOk, MatchResult};
-ghost use Rattle.s57_fields.specs.Columns.{once_in};
-ghost use Rattle.s57_fields.specs.Number.{number_up_to, ONE_BYTE, TWO_BYTES, FOUR_BYTES};
-ghost use Rattle.s57_fields.specs.RowValues.{fields_in};
+ghost use Rattle.std.specs.Prelude.{◌≡◌, codes, MatchResult};
+ghost use Rattle.std.specs.Str.{bytes_eq};
+ghost use Rattle.s57_subfields.specs.Columns.{once_in};
+ghost use Rattle.s57_subfields.specs.Number.{number_up_to, ONE_BYTE};
+ghost use Rattle.s57_subfields.specs.RowValues.{fields_in};
 ghost use Rattle.s57_records.specs.Answers.{Gives};
-ghost use Rattle.s57_records.specs.Readings.{widened, has_field};
+ghost use Rattle.s57_records.specs.LayoutReadings.{widened, has_field};
 ghost use Rattle.s57_records.specs.Rows.{reads_as, unless_deleted};
 
 use crate::fault::DatasetFault;
@@ -13,8 +14,8 @@ use crate::rows::Rows;
 use chart_model::codes::DELETE;
 use chart_model::{AttrList, Coords, Foid, Pointers, RelatedList};
 use iso8211_records::RawField;
-use s57_fields::tags::{ATTF, ATTV, FFPT, FOID, FSPT, SG2D, SG3D, VRPT};
-use s57_fields::{FourBytes, Kind, OneByte, RowFields, Subfield, TwoBytes};
+use s57_subfields::tags::{ATTF, ATTV, FFPT, FOID, FSPT, SG2D, SG3D, VRPT};
+use s57_subfields::{FieldFault, OneByte, RowFields, Single};
 use std::alloc::Global;
 
 /// One data record of a file.
@@ -26,76 +27,37 @@ pub(crate) struct DataRecord<'a> {
     pub fields: &'a [RawField],
 }
 
-/// What a subfield that stands once is read as.
-pub(crate) fn once<K: Kind>(
-    alloc: Global,
-    values: &RowFields<'_>,
-    subfield: &Subfield,
-    kind: &K,
-) -> Result<K::Output, DatasetFault>
-    ensures found { Gives result (widened (once_in (K.reads kind.now) values.now subfield.now)) }
-    ensures holds { IfOk result (K.holds kind.now) }
-{
-    let read = subfield.once(alloc, values, kind)?;
-    Ok(read)
-}
-
-/// A number of one byte.
-pub(crate) fn byte(
-    alloc: Global,
-    values: &RowFields<'_>,
-    subfield: &Subfield,
-) -> Result<u8, DatasetFault>
-    ensures { Gives result (widened (once_in (number_up_to ONE_BYTE) values.now subfield.now)) }
-{
-    once(alloc, values, subfield, &OneByte)
-}
-
-/// A number of two bytes.
-pub(crate) fn short(
-    alloc: Global,
-    values: &RowFields<'_>,
-    subfield: &Subfield,
-) -> Result<u16, DatasetFault>
-    ensures { Gives result (widened (once_in (number_up_to TWO_BYTES) values.now subfield.now)) }
-{
-    once(alloc, values, subfield, &TwoBytes)
-}
-
-/// A number of four bytes.
-pub(crate) fn long(
-    alloc: Global,
-    values: &RowFields<'_>,
-    subfield: &Subfield,
-) -> Result<u32, DatasetFault>
-    ensures { Gives result (widened (once_in (number_up_to FOUR_BYTES) values.now subfield.now)) }
-{
-    once(alloc, values, subfield, &FourBytes)
-}
-
 /// Whether a number of one byte is this one.
 pub(crate) fn reads_as(
     alloc: Global,
     values: &RowFields<'_>,
-    subfield: &Subfield,
+    single: &Single<OneByte>,
     number: u8,
 ) -> Result<bool, DatasetFault>
     ensures { MatchResult result
-        (λ is. is ≡ reads_as (widened (once_in (number_up_to ONE_BYTE) values.now subfield.now)) number)
+        (λ is. is ≡ reads_as (widened (once_in (number_up_to ONE_BYTE) values.now single.now.subfield)) number)
         (λ fault. fault ≡ DatasetFault.NoMemory) }
 {
-    match byte(alloc, values, subfield) {
+    match single.read(alloc, values) {
         Ok(read) => Ok(read == number),
-        Err(DatasetFault::NoMemory) => Err(DatasetFault::NoMemory),
+        Err(FieldFault::NoMemory) => Err(DatasetFault::NoMemory),
         Err(_) => Ok(false),
     }
+}
+
+/// Whether two tags are the same. They are compared as numbers, since the comparison of arrays looks at them byte by
+/// byte.
+fn is_same(tag: &[u8; 4], other: &[u8; 4]) -> bool
+    ensures { result ≡ bytes_eq tag.now other.now }
+{
+    u32::from_le_bytes(*tag) == u32::from_le_bytes(*other)
 }
 
 /// Whether a record has a field of this tag.
 fn has_tag(fields: &[RawField], tag: [u8; 4]) -> bool
     ensures { result ≡ has_field fields.now tag }
 {
-    fields.iter().any(|field| field.tag == tag)
+    fields.iter().any(|field| is_same(&field.tag, &tag))
 }
 
 /// A list of a record: what its row reads in the fields of a tag, and the empty list where the record
@@ -111,7 +73,7 @@ macro_rules! read_list {
 }
 
 impl<'a> DataRecord<'a> {
-    ghost use Rattle.s57_records.specs.Reading.{reading};
+    ghost use Rattle.s57_records.specs.RecordReading.{reading};
 
     /// Whether the record has a field of this tag.
     pub fn has(&self, tag: [u8; 4]) -> bool

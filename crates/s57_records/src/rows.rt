@@ -4,13 +4,13 @@ ghost use Rattle.std.specs.Prelude.{◌≡◌};
 ghost use Rattle.s57_records.specs.Resolved.{general_rows, vector_rows, feature_rows};
 
 use iso8211_records::DescriptorMap;
-use s57_fields::tags::{
-    ATTF, ATTV, DSID, DSPM, DSSI, FFPC, FFPT, FOID, FRID, FSPC, FSPT, SG2D, SG3D, SGCC, VRID, VRPC,
-    VRPT,
-};
 use s57_fields::{
     AttributeRow, ControlRow, CoordinateRow, DsidRow, DspmRow, DssiRow, FeaturePointerRow, FoidRow,
     FridRow, RelatedRow, SoundingRow, VectorPointerRow, VridRow,
+};
+use s57_subfields::tags::{
+    ATTF, ATTV, DSID, DSPM, DSSI, FFPC, FFPT, FOID, FRID, FSPC, FSPT, SG2D, SG3D, SGCC, VRID, VRPC,
+    VRPT,
 };
 use std::marker::Model;
 

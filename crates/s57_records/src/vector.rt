@@ -2,13 +2,13 @@
 
 ghost use Rattle.s57_records.specs.Answers.{Gives};
 ghost use Rattle.s57_records.specs.Rows.{coords_of, vector_of};
-ghost use Rattle.s57_records.specs.Reading.{reading};
+ghost use Rattle.s57_records.specs.RecordReading.{reading};
 
 use crate::change::{ControlField, read_edit, read_vector_head};
 use crate::fault::DatasetFault;
 use crate::reader::DataRecord;
 use chart_model::{Coords, RelatedList, UpdateRecord};
-use s57_fields::tags::{SG2D, SG3D, SGCC, VRPC};
+use s57_subfields::tags::{SG2D, SG3D, SGCC, VRPC};
 use std::alloc::Global;
 
 /// The tag of arcs, which a record must not have.

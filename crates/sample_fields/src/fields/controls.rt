@@ -2,8 +2,8 @@
 
 use super::read;
 use chart_model::Control;
-use s57_fields::tags::{FFPC, FSPC, SGCC, VRPC};
 use s57_fields::{read_ffpc, read_fspc, read_sgcc, read_vrpc};
+use s57_subfields::tags::{FFPC, FSPC, SGCC, VRPC};
 use std::test::Fail;
 
 fn control(instruction: u8, index: u16, count: u16) -> Control {

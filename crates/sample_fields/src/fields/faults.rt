@@ -2,9 +2,10 @@
 
 use super::read;
 use iso8211_records::FileFault;
-use s57_fields::labels::{ATVL, YCOO};
-use s57_fields::tags::{ATTV, SG2D, VRPC};
-use s57_fields::{FieldFault, read_attv, read_sg2d, read_vrpc};
+use s57_fields::{read_attv, read_sg2d, read_vrpc};
+use s57_subfields::FieldFault;
+use s57_subfields::labels::{ATVL, YCOO};
+use s57_subfields::tags::{ATTV, SG2D, VRPC};
 use std::test::Fail;
 
 #[test]

@@ -1,8 +1,8 @@
 //! What a file says of its data set.
 
 use super::read;
-use s57_fields::tags::{DSID, DSPM, DSSI};
 use s57_fields::{read_dsid, read_dspm, read_dssi};
+use s57_subfields::tags::{DSID, DSPM, DSSI};
 use std::test::Fail;
 
 #[test]

@@ -2,8 +2,8 @@
 
 use super::read;
 use chart_model::Foid;
-use s57_fields::tags::{FOID, FRID, VRID};
 use s57_fields::{read_foid, read_frid, read_vrid};
+use s57_subfields::tags::{FOID, FRID, VRID};
 use std::test::Fail;
 
 #[test]

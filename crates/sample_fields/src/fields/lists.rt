@@ -2,8 +2,8 @@
 
 use super::read;
 use chart_model::{Coord, Foid, Name, Pointer, Related};
-use s57_fields::tags::{ATTF, ATTV, FFPT, FSPT, SG2D, SG3D, VRPT};
 use s57_fields::{read_attf, read_attv, read_ffpt, read_fspt, read_sg2d, read_sg3d, read_vrpt};
+use s57_subfields::tags::{ATTF, ATTV, FFPT, FSPT, SG2D, SG3D, VRPT};
 use std::test::Fail;
 
 fn coord(y: i32, x: i32, z: Option<i32>) -> Coord {

@@ -1,7 +1,7 @@
 use Rattle.std.proofs.Common.{◌≡◌, ◌+◌, length}
 use Rattle.iso8211_records.specs.Kinds.{layout_at}
 use Rattle.s57_records.specs.Gathering.{gather, nothing_gathered}
-use Rattle.s57_records.specs.Readings.{all_subfields}
+use Rattle.s57_records.specs.LayoutReadings.{all_subfields}
 use Rattle.s57_records.proofs.dataset.gather_all.Given as goal
 
 abbrev pub invariant-loop-first : goal.invariant-loop-first

@@ -1,5 +1,5 @@
 use Rattle.s57_records.proofs.Changes.{vector_is_plain, feature_is_plain}
-use Rattle.s57_records.specs.Readings.{subfields_of}
+use Rattle.s57_records.specs.LayoutReadings.{subfields_of}
 use Rattle.s57_records.proofs.laws.base_records_insert.Goals as goal
 
 pub returns-clause-vector : goal.returns-clause-vector

@@ -1,7 +1,7 @@
 use Rattle.s57_records.proofs.Changes.{vector_is_change, feature_is_change}
-use Rattle.s57_records.proofs.Kept.{changes_are}
+use Rattle.s57_records.proofs.KeptChanges.{changes_are}
 use Rattle.s57_records.proofs.Sound.{subfields_sound, all_sound}
-use Rattle.s57_records.specs.Readings.{subfields_of, all_subfields}
+use Rattle.s57_records.specs.LayoutReadings.{subfields_of, all_subfields}
 use Rattle.s57_records.proofs.laws.changes_are_kept.Goals as goal
 
 pub returns-clause-vector : goal.returns-clause-vector

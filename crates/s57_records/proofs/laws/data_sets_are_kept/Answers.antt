@@ -1,6 +1,6 @@
 use Rattle.s57_records.proofs.Datasets.{dataset_is}
 use Rattle.s57_records.proofs.Sound.{all_sound, all_keyed}
-use Rattle.s57_records.specs.Readings.{all_subfields}
+use Rattle.s57_records.specs.LayoutReadings.{all_subfields}
 use Rattle.s57_records.proofs.laws.data_sets_are_kept.Goals as goal
 
 pub returns : goal.returns

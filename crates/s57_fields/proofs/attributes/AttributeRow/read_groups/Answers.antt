@@ -1,0 +1,11 @@
+use Rattle.std.proofs.Common.{◌∙◌, Ok, ap, sym}
+use Rattle.s57_fields.proofs.Passes.{attributes-pass}
+use Rattle.s57_fields.proofs.attributes.AttributeRow.read_groups.Goals as goal
+
+pub returns-in-Ok-Some-clause-found : goal.returns-in-Ok-Some-clause-found
+returns-in-Ok-Some-clause-found c =
+    attributes-pass c.args.self.now c.args.values.now
+    c.in-Some.groups.at c.in-Some.groups.between c.in-Some-distance.atvl
+    c.in-Ok-Some.attrs.items c.in-Some.ensures c.in-Some-distance.ensures
+    (rw c.in-Ok-Some.field-0-is at c.in-Ok-Some.ensures.found)
+    ∙ ap (λ xs. Ok xs) (sym c.from_vec.ensures)

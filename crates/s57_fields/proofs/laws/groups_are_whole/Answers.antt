@@ -1,5 +1,0 @@
-use Rattle.s57_fields.proofs.Whole.{fields_are_whole}
-use Rattle.s57_fields.proofs.laws.groups_are_whole.Goals as goal
-
-pub returns : goal.returns
-returns c = λ layout fields is fits. fields_are_whole layout fields is fits

@@ -1,0 +1,7 @@
+//! The bounds of positions.
+
+/// The greatest latitude, in degrees times 10,000,000.
+pub(crate) const LATITUDE: u32 = 900_000_000;
+
+/// The greatest longitude, in degrees times 10,000,000.
+pub(crate) const LONGITUDE: u32 = 1_800_000_000;

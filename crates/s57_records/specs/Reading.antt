@@ -1,8 +1,0 @@
--- What a data record's subfields read as.
-use Rattle.iso8211_records.specs.Kinds.{layout_at}
-use Rattle.s57_records.specs.declared.reader.DataRecord.{DataRecord}
-use Rattle.s57_records.specs.Subfields.{Subfields}
-use Rattle.s57_records.specs.Readings.{subfields_of}
-
-abbrev pub reading : DataRecord → Subfields
-reading r = subfields_of (layout_at r.rows.now) r.number r.fields.now

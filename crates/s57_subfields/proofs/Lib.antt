@@ -1,0 +1,9 @@
+pub mod Digits
+pub mod Dots
+pub mod Every
+pub mod Fields
+pub mod Fieldwise
+pub mod GroupValues
+pub mod Numbers
+pub mod Tails
+pub mod Whole

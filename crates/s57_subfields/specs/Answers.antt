@@ -1,0 +1,28 @@
+-- What a reader answers, beside what it was to answer.
+use Rattle.std.specs.Prelude.{ℕ, List, Option, Some, None, Result}
+use Rattle.chart_model.specs.Answers as answers
+use Rattle.s57_subfields.specs.declared.fault.FieldFault.{FieldFault}
+use Rattle.s57_subfields.specs.declared.fault.FieldFault.TheVariants.{MissingField, Value as BadValue, NoMemory}
+use Rattle.s57_subfields.specs.RowValues.{RowValues}
+
+-- a subfield of the row isn't in the field's descriptor
+abbrev pub missing : RowValues → FieldFault
+missing row = MissingField row.number row.tag
+
+-- a value under the label isn't what it has to be
+abbrev pub bad : RowValues → List ℕ → FieldFault
+bad row label = BadValue row.number label
+
+-- want of memory tells nothing
+abbrev pub told : FieldFault → Option FieldFault
+told NoMemory = None
+told fault = Some fault
+
+abbrev pub Fails : {X : Type 0} → FieldFault → Result X FieldFault → Type 0
+Fails fault wanted = answers.FailsBy told fault wanted
+
+abbrev pub GivesBy : {X Y : Type 0} → (X → Y) → Result X FieldFault → Result Y FieldFault → Type 0
+GivesBy view answer wanted = answers.GivesBy told view answer wanted
+
+abbrev pub Gives : {X : Type 0} → Result X FieldFault → Result X FieldFault → Type 0
+Gives answer wanted = answers.Gives told answer wanted

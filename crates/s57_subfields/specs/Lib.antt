@@ -1,0 +1,13 @@
+pub mod Answers
+pub mod Columns
+pub mod Groups
+pub mod Labels
+pub mod Names
+pub mod Number
+pub mod Places
+pub mod RowValues
+pub mod Signed
+pub mod Singles
+pub mod Tags
+pub mod Tails
+pub mod Texts

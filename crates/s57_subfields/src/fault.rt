@@ -1,0 +1,34 @@
+//! Why a field was not read.
+
+ghost use Rattle.std.specs.Prelude.{◌≡◌};
+ghost use Rattle.s57_subfields.specs.declared.fault.FieldFault.TheVariants.{NoMemory};
+
+use std::alloc::{AllocError, AllocFailed};
+
+/// Why a field was not read. Data records are counted from 1.
+#[derive(Clone, Copy, Debug, PartialEq, Eq)]
+pub enum FieldFault {
+    /// A subfield isn't in the descriptor of the record's field with this tag, or not on its side of the
+    /// repeated group.
+    MissingField { record: usize, tag: [u8; 4] },
+    /// A value under this label has the wrong kind, or is out of its width or range.
+    Value { record: usize, label: [u8; 4] },
+    /// There was no memory for the values.
+    NoMemory,
+}
+
+impl From<AllocError> for FieldFault {
+    ghost from_gives = { λ _ e. e ≡ NoMemory };
+
+    fn from(_: AllocError) -> FieldFault {
+        FieldFault::NoMemory
+    }
+}
+
+impl<T: Drop> From<AllocFailed<T>> for FieldFault {
+    ghost from_gives = { λ _ e. e ≡ NoMemory };
+
+    fn from(_: AllocFailed<T>) -> FieldFault {
+        FieldFault::NoMemory
+    }
+}
