@@ -13,7 +13,7 @@ use Rattle.chart_model.specs.declared.name.Name.{Name}
 use Rattle.chart_model.specs.Names.{name_cmp}
 use Rattle.chart_closure.specs.declared.fault.ClosureFault.{ClosureFault}
 use Rattle.chart_model.specs.Answers.{first_of}
-use Rattle.chart_closure.proofs.Names.{name_cmp-total, name_cmp-IsAntisymmetric}
+use Rattle.chart_model.proofs.Names.{name_cmp-total, name_cmp-IsAntisymmetric}
 
 pub first_of-append : (xs ys : List (Option ClosureFault)) → first_of (xs ++ ys) ≡ option_or (first_of xs) (first_of ys)
 first_of-append [] ys = refl

@@ -1,5 +1,4 @@
 pub mod Faults
-pub mod Names
 pub mod Least
 pub mod Closures
-pub mod Kept
+pub mod Unchanged

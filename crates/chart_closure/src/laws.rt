@@ -5,7 +5,7 @@ ghost use Rattle.chart_model.specs.declared.name.Name.{Name};
 ghost use Rattle.chart_model.specs.Cell.{CellValue, IsCell};
 ghost use Rattle.chart_closure.specs.declared.fault.ClosureFault.{ClosureFault};
 ghost use Rattle.chart_closure.specs.Closed.{closure_fault, fault_at, IsClosed, IsLeastFault};
-ghost use Rattle.chart_closure.specs.Kept.{KeepsRecords, StandsAsBefore};
+ghost use Rattle.chart_closure.specs.Unchanged.{KeepsRecords, StandsAsBefore};
 
 use area_rings::shapes_are_kept;
 

@@ -8,7 +8,7 @@ mod refusals;
 
 use chart_ports::Steps;
 use iso8211_records::{FileFault, RecordFile, read_file};
-use s57_fields::tags::{DSID, DSPM, DSSI, FOID, FRID, SG3D, SGCC, VRID};
+use s57_subfields::tags::{DSID, DSPM, DSSI, FOID, FRID, SG3D, SGCC, VRID};
 use std::alloc::Global;
 use std::marker::Brand;
 use std::sync::ledger::{Blank, Ledger};

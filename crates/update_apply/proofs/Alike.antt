@@ -8,7 +8,7 @@ use Rattle.chart_model.specs.declared.name.Name.{Name}
 use Rattle.chart_model.specs.declared.record.Coord.{Coord}
 use Rattle.chart_model.specs.declared.update_record.Control.{Control}
 use Rattle.chart_model.specs.Record.{AreCoords, IsCoord}
-use Rattle.update_apply.specs.declared.judge.Kept.{Kept}
+use Rattle.update_apply.specs.declared.judge.HeldRecord.{HeldRecord}
 use Rattle.update_apply.specs.declared.fault.ChangeFault.{ChangeFault}
 use Rattle.update_apply.specs.declared.fault.ChangeFault.TheVariants as fault
 use Rattle.update_apply.specs.Edited.{edited, edited_by}
@@ -66,16 +66,16 @@ same-depths false true e = absurd (true≢false e)
 same-depths false false e = refl
 
 -- where no depths are mixed the given ones are like the kept ones
-given-alike : (name : Name) (control : Control) (kept : Kept) (x y : Coord) (xs ys : List Coord) → kept.coords ≡ length (y ∷ ys) → kept.depths ≡ is_some y.z
-    → mixed_fault name (Some control) kept (x ∷ xs) ≡ None → control.instruction == 2 ≡ false → is_some x.z ≡ is_some y.z
-given-alike name control kept x y xs ys many depths none other =
-    let some : kept.coords == 0 ≡ false = ap (λ n. n == 0) many ∙ ne_eqb (length (y ∷ ys)) 0 (λ e. omega (arith, e)) in
-    same-depths kept.depths (is_some x.z)
-    (sym (λ i. not (other i) && not (some i) && not (beq kept.depths (is_some x.z))) ∙ quiet _ (fault.Mixed name) none)
+given-alike : (name : Name) (control : Control) (held : HeldRecord) (x y : Coord) (xs ys : List Coord) → held.coords ≡ length (y ∷ ys) → held.depths ≡ is_some y.z
+    → mixed_fault name (Some control) held (x ∷ xs) ≡ None → control.instruction == 2 ≡ false → is_some x.z ≡ is_some y.z
+given-alike name control held x y xs ys many depths none other =
+    let some : held.coords == 0 ≡ false = ap (λ n. n == 0) many ∙ ne_eqb (length (y ∷ ys)) 0 (λ e. omega (arith, e)) in
+    same-depths held.depths (is_some x.z)
+    (sym (λ i. not (other i) && not (some i) && not (beq held.depths (is_some x.z))) ∙ quiet _ (fault.Mixed name) none)
     ∙ depths
 
-module _ (name : Name) (control : Control) (kept : Kept) where
-  alike-edited : (given items : List Coord) → kept.coords ≡ length items → kept.depths ≡ have_depths items → mixed_fault name (Some control) kept given ≡ None
+module _ (name : Name) (control : Control) (held : HeldRecord) where
+  alike-edited : (given items : List Coord) → held.coords ≡ length items → held.depths ≡ have_depths items → mixed_fault name (Some control) held given ≡ None
       → AreCoords given → AreCoords items → (b : Bool) × HasDepths b (edited_by control given items)
   alike-edited [] items many depths none new old =
       (have_depths items, all-edited-by (λ coord. is_some coord.z ≡ have_depths items) control [] items (λ _. All-nil _) (from-alike items old))
@@ -84,15 +84,15 @@ module _ (name : Name) (control : Control) (kept : Kept) where
   alike-edited (x ∷ xs) (y ∷ ys) many depths none new old = (
     is_some y.z,
     all-edited-by (λ coord. is_some coord.z ≡ is_some y.z) control (x ∷ xs) (y ∷ ys)
-        (λ other. subst (λ b. HasDepths b (x ∷ xs)) (given-alike name control kept x y xs ys many depths none other) (from-alike (x ∷ xs) new)) (from-alike (y ∷ ys) old),
+        (λ other. subst (λ b. HasDepths b (x ∷ xs)) (given-alike name control held x y xs ys many depths none other) (from-alike (x ∷ xs) new)) (from-alike (y ∷ ys) old),
   )
 
 -- coordinates that are edited without a fault stay those of one record
-pub coords-edited : (name : Name) (edit : Option Control) (kept : Kept) (given items : List Coord) → kept.coords ≡ length items → kept.depths ≡ have_depths items
-    → mixed_fault name edit kept given ≡ None → AreCoords given → AreCoords items → AreCoords (edited edit given items)
-coords-edited name None kept given items many depths none new old = old
-coords-edited name (Some control) kept given items many depths none new old =
-    let alike = alike-edited name control kept given items many depths none new old in
+pub coords-edited : (name : Name) (edit : Option Control) (held : HeldRecord) (given items : List Coord) → held.coords ≡ length items → held.depths ≡ have_depths items
+    → mixed_fault name edit held given ≡ None → AreCoords given → AreCoords items → AreCoords (edited edit given items)
+coords-edited name None held given items many depths none new old = old
+coords-edited name (Some control) held given items many depths none new old =
+    let alike = alike-edited name control held given items many depths none new old in
     record {
       each = all-edited IsCoord (Some control) given items new.each old.each;
       alike = to-alike alike.0 _ alike.1;

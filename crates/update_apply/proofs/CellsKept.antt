@@ -14,7 +14,7 @@ use Rattle.chart_model.specs.Names.{name_cmp, edited_at, edited_in}
 use Rattle.chart_model.proofs.Names.{name_cmp-total, name_cmp-IsAntisymmetric}
 use Rattle.chart_model.proofs.Maps.{Each, each-insert, each-remove}
 use Rattle.update_apply.specs.Changed.{inserted_vector, inserted_feature, modified_vector, modified_feature, changed_in, changed}
-use Rattle.update_apply.specs.Fault.{is_feature, inserts, deletes, modifies, fault_of, kept_vector}
+use Rattle.update_apply.specs.Fault.{is_feature, inserts, deletes, modifies, fault_of, held_vector}
 use Rattle.update_apply.proofs.Texts.{texts-new, texts-set}
 use Rattle.update_apply.proofs.Alike.{all-edited, coords-edited}
 use Rattle.update_apply.proofs.NoFault.{none-vector, none-edits}
@@ -26,7 +26,7 @@ third n range one two = eq-eqb n 3 (omega (arith, range, eqb-false n 1 one, eqb-
 changed-each : {V : Type 0} (inserted : Change → V) (modified : Change → V → V) (P : Name → V → Type 0) (records : map.FinMap name_cmp V) (change : Change)
     → IsInRange 1 3 change.ruin → Each P records
     → (inserts change ≡ true → P change.target (inserted change))
-    → ((kept : V) → modifies change ≡ true → map.get records change.target ≡ Some kept → P change.target (modified change kept))
+    → ((held : V) → modifies change ≡ true → map.get records change.target ≡ Some held → P change.target (modified change held))
     → Each P (changed_in inserted modified records change)
 changed-each {V} inserted modified P records change range each new old =
     let name = change.target in
@@ -38,53 +38,53 @@ changed-each {V} inserted modified P records change range each new old =
             | true ↦ λ d. each-remove name_cmp-total P records name each
             | false ↦ λ d. elim (map.get records name) as (λ (o : Option V). map.get records name ≡ o → Each P (edited_at (modified change) records name o)) [
               | None ↦ λ absent. each
-              | Some kept ↦ λ there. each-insert name_cmp-total name_cmp-IsAntisymmetric P records name (modified change kept) each (old kept (third change.ruin range e d) there)
+              | Some held ↦ λ there. each-insert name_cmp-total name_cmp-IsAntisymmetric P records name (modified change held) each (old held (third change.ruin range e d) there)
             ] refl
           ] refl
     ] refl
 
 -- the fact of the record that is kept
-kept-has : {V : Type 0} (P : Name → V → Type 0) (records : map.FinMap name_cmp V) (name : Name) (kept : V) → Each P records → map.get records name ≡ Some kept → P name kept
-kept-has {V} P records name kept each there = subst (λ (o : Option V). IfSome o (P name)) there (each name)
+held-has : {V : Type 0} (P : Name → V → Type 0) (records : map.FinMap name_cmp V) (name : Name) (held : V) → Each P records → map.get records name ≡ Some held → P name held
+held-has {V} P records name held each there = subst (λ (o : Option V). IfSome o (P name)) there (each name)
 
 module _ (cell : CellValue) (change : Change) (is : IsCell cell) (has : IsChange change) (none : fault_of cell change ≡ None) where
-  vectors-kept : is_feature change.target ≡ false → IsVectorName change.target → Each IsVector (changed_in inserted_vector modified_vector cell.vectors change)
-  vectors-kept other named =
+  vectors-held : is_feature change.target ≡ false → IsVectorName change.target → Each IsVector (changed_in inserted_vector modified_vector cell.vectors change)
+  vectors-held other named =
       changed-each inserted_vector modified_vector IsVector cell.vectors change has.ruin is.vectors
       (λ new. record { named = named; attrs = texts-new change.attrs has.attrs; coords = has.coords })
-      (λ kept so there.
-      let old = kept-has IsVector cell.vectors change.target kept is.vectors there in
-      let edits = none-edits change (kept_vector kept) (none-vector cell change none kept other there) so in
+      (λ held so there.
+      let old = held-has IsVector cell.vectors change.target held is.vectors there in
+      let edits = none-edits change (held_vector held) (none-vector cell change none held other there) so in
       record {
         named = named;
-        attrs = texts-set kept.attrs change.attrs has.attrs old.attrs;
-        coords = coords-edited change.target change.coord_edit (kept_vector kept) change.coords kept.coords refl refl edits.1.1.1.1.1.1.1.1.1.0 has.coords old.coords;
+        attrs = texts-set held.attrs change.attrs has.attrs old.attrs;
+        coords = coords-edited change.target change.coord_edit (held_vector held) change.coords held.coords refl refl edits.1.1.1.1.1.1.1.1.1.0 has.coords old.coords;
       })
 
-  features-kept : IsFeatureName change.target → Each IsFeature (changed_in inserted_feature modified_feature cell.features change)
-  features-kept named =
+  features-held : IsFeatureName change.target → Each IsFeature (changed_in inserted_feature modified_feature cell.features change)
+  features-held named =
       let plain = has.feature named in
       changed-each inserted_feature modified_feature IsFeature cell.features change has.ruin is.features
       (λ new. record { named = named; prim = (has.insert named (eqb-true change.ruin 1 new)).prim; attrs = texts-new change.attrs has.attrs; topi = plain.topi })
-      (λ kept so there.
-      let old = kept-has IsFeature cell.features change.target kept is.features there in
+      (λ held so there.
+      let old = held-has IsFeature cell.features change.target held is.features there in
       record {
         named = named;
         prim = old.prim;
-        attrs = texts-set kept.attrs change.attrs has.attrs old.attrs;
-        topi = all-edited (λ pointer. pointer.topi ≡ 255) change.pointer_edit change.pointers kept.pointers plain.topi old.topi;
+        attrs = texts-set held.attrs change.attrs has.attrs old.attrs;
+        topi = all-edited (λ pointer. pointer.topi ≡ 255) change.pointer_edit change.pointers held.pointers plain.topi old.topi;
       })
 
   vector-name : is_feature change.target ≡ false → IsVectorName change.target
   vector-name other = ⊎_elim (λ (v : IsVectorName change.target). v) (λ (f : IsFeatureName change.target). absurd (eqb-false change.target.rcnm 100 other f)) has.target
 
-  pub cells-kept : IsCell (changed cell change)
-  cells-kept =
+  pub cells-held : IsCell (changed cell change)
+  cells-held =
       elim (is_feature change.target) as (λ b. is_feature change.target ≡ b → IsCell (if b
       then record cell { features = changed_in inserted_feature modified_feature cell.features change }
       else record cell { vectors = changed_in inserted_vector modified_vector cell.vectors change })) [
-        | true ↦ λ so. record { header = is.header; vectors = is.vectors; features = features-kept (eqb-true change.target.rcnm 100 so) }
-        | false ↦ λ other. record { header = is.header; vectors = vectors-kept other (vector-name other); features = is.features }
+        | true ↦ λ so. record { header = is.header; vectors = is.vectors; features = features-held (eqb-true change.target.rcnm 100 so) }
+        | false ↦ λ other. record { header = is.header; vectors = vectors-held other (vector-name other); features = is.features }
       ] refl
 
 -- the cell with its records of one kind changed, or as they were
@@ -96,7 +96,7 @@ features-changed cell change after (Ok done) so is has none ok err =
     (sym (ap (λ features. record cell { features = features }) ok
     ∙ ap (λ (b : Bool). if b then record cell { features = changed_in inserted_feature modified_feature cell.features change }
     else record cell { vectors = changed_in inserted_vector modified_vector cell.vectors change }) (sym (eq-eqb change.target.rcnm 100 so))))
-    (cells-kept cell change is has none)
+    (cells-held cell change is has none)
 features-changed cell change after (Err e) so is has none ok err = subst (λ features. IsCell (record cell { features = features })) (sym err) is
 
 pub vectors-changed : (cell : CellValue) (change : Change) (after : map.FinMap name_cmp Vector) (r : Result (Unit {0}) AllocError) → change.target.rcnm ≢ 100
@@ -107,5 +107,5 @@ vectors-changed cell change after (Ok done) other is has none ok err =
     (sym (ap (λ vectors. record cell { vectors = vectors }) ok
     ∙ ap (λ (b : Bool). if b then record cell { features = changed_in inserted_feature modified_feature cell.features change }
     else record cell { vectors = changed_in inserted_vector modified_vector cell.vectors change }) (sym (ne_eqb change.target.rcnm 100 other))))
-    (cells-kept cell change is has none)
+    (cells-held cell change is has none)
 vectors-changed cell change after (Err e) other is has none ok err = subst (λ vectors. IsCell (record cell { vectors = vectors })) (sym err) is

@@ -19,19 +19,19 @@ quiet true what e = absurd (true≢false (ap is_some e))
 quiet false what e = refl
 
 -- places that are no fault of an index are in the list
-pub record IsPlaced (control : Control) (kept : ℕ) : Type 0 where
+pub record IsPlaced (control : Control) (held : ℕ) : Type 0 where
   pub first : 1 ≤ control.index
-  pub insert : control.instruction ≡ 1 → control.index ≤ kept + 1
-  pub others : control.instruction == 1 ≡ false → control.index + control.count ≤ kept + 1
+  pub insert : control.instruction ≡ 1 → control.index ≤ held + 1
+  pub others : control.instruction == 1 ≡ false → control.index + control.count ≤ held + 1
 
-pub placed : (name : Name) (control : Control) (kept : ℕ) → index_fault name (Some control) kept ≡ None → IsPlaced control kept
-placed name control kept none =
-    let parts = or_parts (control.index == 0) (nat_lt (kept + 1) (behind control)) (quiet _ (fault.Index name kept control.index) none) in
-    let fits = ltb-false (kept + 1) (behind control) parts.1 in
+pub placed : (name : Name) (control : Control) (held : ℕ) → index_fault name (Some control) held ≡ None → IsPlaced control held
+placed name control held none =
+    let parts = or_parts (control.index == 0) (nat_lt (held + 1) (behind control)) (quiet _ (fault.Index name held control.index) none) in
+    let fits = ltb-false (held + 1) (behind control) parts.1 in
     record {
       first = omega (arith, eqb-false control.index 0 parts.0);
-      insert = λ is. subst (λ (b : Bool). (if b then control.index else control.index + control.count) ≤ kept + 1) (ap (λ n. n == 1) is) fits;
-      others = λ not. subst (λ (b : Bool). (if b then control.index else control.index + control.count) ≤ kept + 1) not fits;
+      insert = λ is. subst (λ (b : Bool). (if b then control.index else control.index + control.count) ≤ held + 1) (ap (λ n. n == 1) is) fits;
+      others = λ not. subst (λ (b : Bool). (if b then control.index else control.index + control.count) ≤ held + 1) not fits;
     }
 
 -- a list around n of its items

@@ -9,5 +9,5 @@ same-header : (b : Bool) (x y cell : CellValue) → x.header ≡ cell.header →
 same-header true x y cell p q = p
 same-header false x y cell p q = q
 
-pub headers-kept : (cell : CellValue) (change : Change) → (changed cell change).header ≡ cell.header
-headers-kept cell change = same-header (is_feature change.target) _ _ cell refl refl
+pub headers-held : (cell : CellValue) (change : Change) → (changed cell change).header ≡ cell.header
+headers-held cell change = same-header (is_feature change.target) _ _ cell refl refl

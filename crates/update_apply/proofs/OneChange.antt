@@ -10,10 +10,10 @@ use Rattle.chart_model.specs.Cell.{CellValue}
 use Rattle.chart_model.specs.Change.{Change, IsChange}
 use Rattle.chart_model.specs.Record.{IsVectorName, IsFeatureName}
 use Rattle.chart_model.specs.Names.{name_cmp, edited_at, edited_in}
-use Rattle.update_apply.specs.declared.judge.Kept.{Kept}
+use Rattle.update_apply.specs.declared.judge.HeldRecord.{HeldRecord}
 use Rattle.update_apply.specs.declared.fault.ChangeFault.TheVariants as fault
 use Rattle.update_apply.specs.Changed.{inserted_vector, inserted_feature, modified_vector, modified_feature, changed_in, changed, IsModifiedVector, IsModifiedFeature, ChangesIn, Changes}
-use Rattle.update_apply.specs.Fault.{is_feature, inserts, fault_by, fault_of, kept_vector, kept_feature, kept_faults, edit_faults}
+use Rattle.update_apply.specs.Fault.{is_feature, inserts, fault_by, fault_of, held_vector, held_feature, held_faults, edit_faults}
 use Rattle.update_apply.proofs.Edits.{quiet, is-edited, only-edited}
 use Rattle.update_apply.proofs.NoFault.{AreNone, none-vector, none-feature, none-edits}
 
@@ -28,23 +28,23 @@ module _ {V : Type 0} (inserted : Change → V) (modified : Change → V → V) 
       ap (λ (n : ℕ). if n == 1 then map.insert records change.target (inserted change)
       else if n == 2 then map.remove records change.target else edited_in (modified change) records change.target) two
 
-  other-in : (kept : V) → change.ruin ≡ 3 → map.get records change.target ≡ Some kept → changed_in inserted modified records change ≡ map.insert records change.target (modified change kept)
-  other-in kept three there =
+  other-in : (held : V) → change.ruin ≡ 3 → map.get records change.target ≡ Some held → changed_in inserted modified records change ≡ map.insert records change.target (modified change held)
+  other-in held three there =
       ap (λ (n : ℕ). if n == 1 then map.insert records change.target (inserted change)
       else if n == 2 then map.remove records change.target else edited_in (modified change) records change.target) three
       ∙ ap (edited_at (modified change) records change.target) there
 
   module _ (IsModified : Change → V → V → Type 0) where
-    changes-in : (kept_of : V → Kept)
+    changes-in : (held_of : V → HeldRecord)
         → (map.get records change.target ≡ None → not (inserts change) ≡ false)
-        → ((kept : V) → map.get records change.target ≡ Some kept → AreNone (kept_faults change (kept_of kept)))
-        → ((kept : V) → AreNone (edit_faults change (kept_of kept)) → IsModified change kept (modified change kept))
+        → ((held : V) → map.get records change.target ≡ Some held → AreNone (held_faults change (held_of held)))
+        → ((held : V) → AreNone (edit_faults change (held_of held)) → IsModified change held (modified change held))
         → ChangesIn inserted IsModified change records (changed_in inserted modified records change)
-    changes-in kept_of absent present is-modified = record {
+    changes-in held_of absent present is-modified = record {
       insert = λ one. (
         elim (map.get records change.target) as (λ (o : Option V). map.get records change.target ≡ o → o ≡ None) [
           | None ↦ λ e. refl
-          | Some kept ↦ λ e. absurd (true≢false (sym (ap (λ n. n == 1) one) ∙ quiet _ (fault.Present change.target) (present kept e).0))
+          | Some held ↦ λ e. absurd (true≢false (sym (ap (λ n. n == 1) one) ∙ quiet _ (fault.Present change.target) (present held e).0))
         ] refl,
         new-in one,
       );
@@ -53,12 +53,12 @@ module _ {V : Type 0} (inserted : Change → V) (modified : Change → V → V) 
     }
       where
         modifies-in : change.ruin ≡ 3 → (o : Option V) → map.get records change.target ≡ o
-            → (kept : V) × (made : V) × (map.get records change.target ≡ Some kept) × IsModified change kept made × (changed_in inserted modified records change ≡ map.insert records change.target made)
+            → (held : V) × (made : V) × (map.get records change.target ≡ Some held) × IsModified change held made × (changed_in inserted modified records change ≡ map.insert records change.target made)
         modifies-in three None e = absurd (true≢false (ap (λ n. not (n == 1)) (sym three) ∙ absent e))
-        modifies-in three (Some kept) e =
-            (kept, modified change kept, e, is-modified kept (none-edits change (kept_of kept) (present kept e) (ap (λ n. n == 3) three)), other-in kept three e)
+        modifies-in three (Some held) e =
+            (held, modified change held, e, is-modified held (none-edits change (held_of held) (present held e) (ap (λ n. n == 3) three)), other-in held three e)
 
-    only-in : IsInRange 1 3 change.ruin → ((kept made : V) → IsModified change kept made → made ≡ modified change kept)
+    only-in : IsInRange 1 3 change.ruin → ((held made : V) → IsModified change held made → made ≡ modified change held)
         → (after : map.FinMap name_cmp V) → ChangesIn inserted IsModified change records after → after ≡ changed_in inserted modified records change
     only-in range only after is = by (change.ruin == 1) (change.ruin == 2) refl refl
       where
@@ -70,16 +70,16 @@ module _ {V : Type 0} (inserted : Change → V) (modified : Change → V → V) 
             let so = is.modify three in
             so.4 ∙ ap (map.insert records change.target) (only so.0 so.1 so.3) ∙ sym (other-in so.0 three so.2)
 
-only-vector : (change : Change) → IsChange change → (kept made : Vector) → IsModifiedVector change kept made → made ≡ modified_vector change kept
-only-vector change has kept made is =
-    let pointers = only-edited change.pointer_edit change.pointers kept.pointers made.pointers has.pointer_edit is.pointers in
-    let coords = only-edited change.coord_edit change.coords kept.coords made.coords has.coord_edit is.coords in
+only-vector : (change : Change) → IsChange change → (held made : Vector) → IsModifiedVector change held made → made ≡ modified_vector change held
+only-vector change has held made is =
+    let pointers = only-edited change.pointer_edit change.pointers held.pointers made.pointers has.pointer_edit is.pointers in
+    let coords = only-edited change.coord_edit change.coords held.coords made.coords has.coord_edit is.coords in
     λ i. record { version = is.version i; attrs = is.attrs i; pointers = pointers i; coords = coords i }
 
-only-feature : (change : Change) → IsChange change → (kept made : Feature) → IsModifiedFeature change kept made → made ≡ modified_feature change kept
-only-feature change has kept made is =
-    let pointers = only-edited change.pointer_edit change.pointers kept.pointers made.pointers has.pointer_edit is.pointers in
-    let related = only-edited change.related_edit change.related kept.related made.related has.related_edit is.related in
+only-feature : (change : Change) → IsChange change → (held made : Feature) → IsModifiedFeature change held made → made ≡ modified_feature change held
+only-feature change has held made is =
+    let pointers = only-edited change.pointer_edit change.pointers held.pointers made.pointers has.pointer_edit is.pointers in
+    let related = only-edited change.related_edit change.related held.related made.related has.related_edit is.related in
     λ i. record { prim = is.prim i; grup = is.grup i; class = is.class i; version = is.version i; foid = is.foid i; attrs = is.attrs i; related = related i; pointers = pointers i }
 
 no-feature : (change : Change) → is_feature change.target ≡ false → IsFeatureName change.target → ⊥
@@ -93,37 +93,37 @@ module _ (cell : CellValue) (change : Change) (has : IsChange change) where
     absent-vector : is_feature change.target ≡ false → map.get cell.vectors change.target ≡ None → not (inserts change) ≡ false
     absent-vector other e =
         quiet _ (fault.Absent change.target)
-        ((λ i. fault_by (if sym other i then option_map kept_feature (map.get cell.features change.target) else option_map kept_vector (sym e i)) change) ∙ none)
+        ((λ i. fault_by (if sym other i then option_map held_feature (map.get cell.features change.target) else option_map held_vector (sym e i)) change) ∙ none)
 
     absent-feature : is_feature change.target ≡ true → map.get cell.features change.target ≡ None → not (inserts change) ≡ false
     absent-feature so e =
         quiet _ (fault.Absent change.target)
-        ((λ i. fault_by (if sym so i then option_map kept_feature (sym e i) else option_map kept_vector (map.get cell.vectors change.target)) change) ∙ none)
+        ((λ i. fault_by (if sym so i then option_map held_feature (sym e i) else option_map held_vector (map.get cell.vectors change.target)) change) ∙ none)
 
     vectors-change : is_feature change.target ≡ false → ChangesIn inserted_vector IsModifiedVector change cell.vectors (changed_in inserted_vector modified_vector cell.vectors change)
     vectors-change other =
-        changes-in inserted_vector modified_vector cell.vectors change IsModifiedVector kept_vector (absent-vector other)
-        (λ kept there. none-vector cell change none kept other there)
-        (λ kept edits. record {
+        changes-in inserted_vector modified_vector cell.vectors change IsModifiedVector held_vector (absent-vector other)
+        (λ held there. none-vector cell change none held other there)
+        (λ held edits. record {
           version = refl;
           attrs = refl;
-          pointers = is-edited change.target change.pointer_edit change.pointers kept.pointers has.pointer_edit edits.1.1.1.1.1.1.0;
-          coords = is-edited change.target change.coord_edit change.coords kept.coords has.coord_edit edits.1.1.1.1.1.1.1.0;
+          pointers = is-edited change.target change.pointer_edit change.pointers held.pointers has.pointer_edit edits.1.1.1.1.1.1.0;
+          coords = is-edited change.target change.coord_edit change.coords held.coords has.coord_edit edits.1.1.1.1.1.1.1.0;
         })
 
     features-change : is_feature change.target ≡ true → ChangesIn inserted_feature IsModifiedFeature change cell.features (changed_in inserted_feature modified_feature cell.features change)
     features-change so =
-        changes-in inserted_feature modified_feature cell.features change IsModifiedFeature kept_feature (absent-feature so)
-        (λ kept there. none-feature cell change none kept so there)
-        (λ kept edits. record {
+        changes-in inserted_feature modified_feature cell.features change IsModifiedFeature held_feature (absent-feature so)
+        (λ held there. none-feature cell change none held so there)
+        (λ held edits. record {
           prim = refl;
           grup = refl;
           class = refl;
           foid = refl;
           version = refl;
           attrs = refl;
-          related = is-edited change.target change.related_edit change.related kept.related has.related_edit edits.1.1.1.1.1.1.1.1.0;
-          pointers = is-edited change.target change.pointer_edit change.pointers kept.pointers has.pointer_edit edits.1.1.1.1.1.1.0;
+          related = is-edited change.target change.related_edit change.related held.related has.related_edit edits.1.1.1.1.1.1.1.1.0;
+          pointers = is-edited change.target change.pointer_edit change.pointers held.pointers has.pointer_edit edits.1.1.1.1.1.1.0;
         })
 
     pub change-follows : Changes cell change (changed cell change)

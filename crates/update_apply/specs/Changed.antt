@@ -39,35 +39,35 @@ inserted_feature change = record {
 
 -- what a modification makes of a record
 abbrev pub modified_vector : Change → Vector → Vector
-modified_vector change kept = record {
-  version = kept.version + 1;
-  attrs = set_attrs kept.attrs change.attrs;
-  pointers = edited change.pointer_edit change.pointers kept.pointers;
-  coords = edited change.coord_edit change.coords kept.coords;
+modified_vector change held = record {
+  version = held.version + 1;
+  attrs = set_attrs held.attrs change.attrs;
+  pointers = edited change.pointer_edit change.pointers held.pointers;
+  coords = edited change.coord_edit change.coords held.coords;
 }
 
 abbrev pub modified_feature : Change → Feature → Feature
-modified_feature change kept = record {
-  prim = kept.prim;
-  grup = kept.grup;
-  class = kept.class;
-  version = kept.version + 1;
-  foid = kept.foid;
-  attrs = set_attrs kept.attrs change.attrs;
-  related = edited change.related_edit change.related kept.related;
-  pointers = edited change.pointer_edit change.pointers kept.pointers;
+modified_feature change held = record {
+  prim = held.prim;
+  grup = held.grup;
+  class = held.class;
+  version = held.version + 1;
+  foid = held.foid;
+  attrs = set_attrs held.attrs change.attrs;
+  related = edited change.related_edit change.related held.related;
+  pointers = edited change.pointer_edit change.pointers held.pointers;
 }
 
 -- what a record has to be for that: the version follows, and each edit fits its list
-pub record FitsVector (change : Change) (kept : Vector) : Type 0 where
-  pub version : change.version ≡ kept.version + 1
-  pub pointers : FitsEach change.pointer_edit change.pointers kept.pointers
-  pub coords : FitsEach change.coord_edit change.coords kept.coords
+pub record FitsVector (change : Change) (held : Vector) : Type 0 where
+  pub version : change.version ≡ held.version + 1
+  pub pointers : FitsEach change.pointer_edit change.pointers held.pointers
+  pub coords : FitsEach change.coord_edit change.coords held.coords
 
-pub record FitsFeature (change : Change) (kept : Feature) : Type 0 where
-  pub version : change.version ≡ kept.version + 1
-  pub pointers : FitsEach change.pointer_edit change.pointers kept.pointers
-  pub related : FitsEach change.related_edit change.related kept.related
+pub record FitsFeature (change : Change) (held : Feature) : Type 0 where
+  pub version : change.version ≡ held.version + 1
+  pub pointers : FitsEach change.pointer_edit change.pointers held.pointers
+  pub related : FitsEach change.related_edit change.related held.related
 
 module _ {V : Type 0} (inserted : Change → V) (modified : Change → V → V) where
   -- a record is put, is taken out, or is modified where there is one
@@ -87,22 +87,22 @@ changed cell change =
 -- ---- as a relation
 
 -- the version follows, attributes are set and lists edited
-pub record IsModifiedVector (change : Change) (kept made : Vector) : Type 0 where
-  pub version : made.version ≡ kept.version + 1
-  pub attrs : made.attrs ≡ set_attrs kept.attrs change.attrs
-  pub pointers : IsEdited change.pointer_edit change.pointers kept.pointers made.pointers
-  pub coords : IsEdited change.coord_edit change.coords kept.coords made.coords
+pub record IsModifiedVector (change : Change) (held made : Vector) : Type 0 where
+  pub version : made.version ≡ held.version + 1
+  pub attrs : made.attrs ≡ set_attrs held.attrs change.attrs
+  pub pointers : IsEdited change.pointer_edit change.pointers held.pointers made.pointers
+  pub coords : IsEdited change.coord_edit change.coords held.coords made.coords
 
 -- the same of a feature, which keeps what it is
-pub record IsModifiedFeature (change : Change) (kept made : Feature) : Type 0 where
-  pub prim : made.prim ≡ kept.prim
-  pub grup : made.grup ≡ kept.grup
-  pub class : made.class ≡ kept.class
-  pub foid : made.foid ≡ kept.foid
-  pub version : made.version ≡ kept.version + 1
-  pub attrs : made.attrs ≡ set_attrs kept.attrs change.attrs
-  pub related : IsEdited change.related_edit change.related kept.related made.related
-  pub pointers : IsEdited change.pointer_edit change.pointers kept.pointers made.pointers
+pub record IsModifiedFeature (change : Change) (held made : Feature) : Type 0 where
+  pub prim : made.prim ≡ held.prim
+  pub grup : made.grup ≡ held.grup
+  pub class : made.class ≡ held.class
+  pub foid : made.foid ≡ held.foid
+  pub version : made.version ≡ held.version + 1
+  pub attrs : made.attrs ≡ set_attrs held.attrs change.attrs
+  pub related : IsEdited change.related_edit change.related held.related made.related
+  pub pointers : IsEdited change.pointer_edit change.pointers held.pointers made.pointers
 
 -- a record is new, is taken out, or is another under its name; all others stay
 pub record ChangesIn {V : Type 0} (inserted : Change → V) (IsModified : Change → V → V → Type 0) (change : Change)
@@ -111,7 +111,7 @@ pub record ChangesIn {V : Type 0} (inserted : Change → V) (IsModified : Change
       (map.get records change.target ≡ None) × (after ≡ map.insert records change.target (inserted change))
   pub delete : change.ruin ≡ DELETE → after ≡ map.remove records change.target
   pub modify : change.ruin ≡ MODIFY →
-      (kept : V) × (made : V) × (map.get records change.target ≡ Some kept) × IsModified change kept made ×
+      (held : V) × (made : V) × (map.get records change.target ≡ Some held) × IsModified change held made ×
       (after ≡ map.insert records change.target made)
 
 -- the header and the records of the other kind stay

@@ -14,7 +14,7 @@ use Rattle.chart_model.specs.Cell.{CellValue}
 use Rattle.chart_model.specs.Change.{Change}
 use Rattle.chart_model.specs.Answers.{first_of, when}
 use Rattle.chart_model.specs.Codes.{FEATURE, INSERT, DELETE, MODIFY}
-use Rattle.update_apply.specs.declared.judge.Kept.{Kept}
+use Rattle.update_apply.specs.declared.judge.HeldRecord.{HeldRecord}
 use Rattle.update_apply.specs.declared.fault.ChangeFault.{ChangeFault}
 use Rattle.update_apply.specs.declared.fault.ChangeFault.TheVariants as fault
 
@@ -25,8 +25,8 @@ abbrev pub have_depths : List Coord → Bool
 have_depths [] = false
 have_depths (coord ∷ more) = is_some coord.z
 
-abbrev pub kept_vector : Vector → Kept
-kept_vector vector = record {
+abbrev pub held_vector : Vector → HeldRecord
+held_vector vector = record {
   version = vector.version;
   foid = None;
   attrs = map.len vector.attrs;
@@ -36,8 +36,8 @@ kept_vector vector = record {
   related = 0;
 }
 
-abbrev pub kept_feature : Feature → Kept
-kept_feature feature = record {
+abbrev pub held_feature : Feature → HeldRecord
+held_feature feature = record {
   version = feature.version;
   foid = Some feature.foid;
   attrs = map.len feature.attrs;
@@ -50,11 +50,11 @@ kept_feature feature = record {
 abbrev pub is_feature : Name → Bool
 is_feature name = name.rcnm == FEATURE
 
-abbrev pub kept_under : CellValue → Name → Option Kept
-kept_under cell name =
+abbrev pub held_under : CellValue → Name → Option HeldRecord
+held_under cell name =
     if is_feature name
-    then option_map kept_feature (map.get cell.features name)
-    else option_map kept_vector (map.get cell.vectors name)
+    then option_map held_feature (map.get cell.features name)
+    else option_map held_vector (map.get cell.vectors name)
 
 -- ---- the conditions
 
@@ -69,15 +69,15 @@ modifies change = change.ruin == MODIFY
 
 -- the kept version and 1, and in a deletion the kept version too
 abbrev pub fits_version : Change → ℕ → Bool
-fits_version change kept = (change.version == kept + 1) || (deletes change && (change.version == kept))
+fits_version change held = (change.version == held + 1) || (deletes change && (change.version == held))
 
 abbrev pub same_foid : Foid → Foid → Bool
 same_foid x y = (x.agen == y.agen) && (x.fidn == y.fidn) && (x.fids == y.fids)
 
 -- an identifier that is given and isn't the one that is kept
 abbrev pub foid_fault : Name → Option Foid → Option Foid → Option ChangeFault
-foid_fault name (Some kept) (Some given) = when (not (same_foid kept given)) (fault.Foid name kept given)
-foid_fault name (Some kept) None = None
+foid_fault name (Some held) (Some given) = when (not (same_foid held given)) (fault.Foid name held given)
+foid_fault name (Some held) None = None
 foid_fault name None given = None
 
 -- items that are given without a control field
@@ -99,56 +99,56 @@ behind control = if control.instruction == INSERT then control.index else contro
 
 -- a place 0, or one that is over the list's length
 abbrev pub index_fault : Name → Option Control → ℕ → Option ChangeFault
-index_fault name None kept = None
-index_fault name (Some control) kept =
-    when ((control.index == 0) || nat_lt (kept + 1) (behind control)) (fault.Index name kept control.index)
+index_fault name None held = None
+index_fault name (Some control) held =
+    when ((control.index == 0) || nat_lt (held + 1) (behind control)) (fault.Index name held control.index)
 
 -- coordinates with depths put among coordinates without, or the other way round
-abbrev pub mixed_fault : Name → Option Control → Kept → List Coord → Option ChangeFault
-mixed_fault name None kept given = None
-mixed_fault name (Some control) kept [] = None
-mixed_fault name (Some control) kept (coord ∷ more) =
-    when (not (control.instruction == DELETE) && not (kept.coords == 0) && not (beq kept.depths (is_some coord.z)))
+abbrev pub mixed_fault : Name → Option Control → HeldRecord → List Coord → Option ChangeFault
+mixed_fault name None held given = None
+mixed_fault name (Some control) held [] = None
+mixed_fault name (Some control) held (coord ∷ more) =
+    when (not (control.instruction == DELETE) && not (held.coords == 0) && not (beq held.depths (is_some coord.z)))
     (fault.Mixed name)
 
 -- ---- the first fault
 
 -- the faults of the three edits of a modification, in the order in which they count
-abbrev pub edit_faults : Change → Kept → List (Option ChangeFault)
-edit_faults change kept =
+abbrev pub edit_faults : Change → HeldRecord → List (Option ChangeFault)
+edit_faults change held =
     control_fault change.target change.pointer_edit change.pointers
     ∷ control_fault change.target change.coord_edit change.coords
     ∷ control_fault change.target change.related_edit change.related
     ∷ count_fault change.target change.pointer_edit change.pointers
     ∷ count_fault change.target change.coord_edit change.coords
     ∷ count_fault change.target change.related_edit change.related
-    ∷ index_fault change.target change.pointer_edit kept.pointers
-    ∷ index_fault change.target change.coord_edit kept.coords
-    ∷ index_fault change.target change.related_edit kept.related
-    ∷ mixed_fault change.target change.coord_edit kept change.coords
+    ∷ index_fault change.target change.pointer_edit held.pointers
+    ∷ index_fault change.target change.coord_edit held.coords
+    ∷ index_fault change.target change.related_edit held.related
+    ∷ mixed_fault change.target change.coord_edit held change.coords
     ∷ []
 
 -- other changes edit no list
-abbrev pub edits_fault : Change → Kept → Option ChangeFault
-edits_fault change kept = if modifies change then first_of (edit_faults change kept) else None
+abbrev pub edits_fault : Change → HeldRecord → Option ChangeFault
+edits_fault change held = if modifies change then first_of (edit_faults change held) else None
 
 -- the faults of a change of a record that is kept, in the order in which they count
-abbrev pub kept_faults : Change → Kept → List (Option ChangeFault)
-kept_faults change kept =
+abbrev pub held_faults : Change → HeldRecord → List (Option ChangeFault)
+held_faults change held =
     when (inserts change) (fault.Present change.target)
-    ∷ when (not (fits_version change kept.version)) (fault.Version change.target kept.version change.version)
-    ∷ foid_fault change.target kept.foid change.foid
-    ∷ edits_fault change kept
+    ∷ when (not (fits_version change held.version)) (fault.Version change.target held.version change.version)
+    ∷ foid_fault change.target held.foid change.foid
+    ∷ edits_fault change held
     ∷ []
 
 -- the first fault of a change, by what is kept under its name
-abbrev pub fault_by : Option Kept → Change → Option ChangeFault
+abbrev pub fault_by : Option HeldRecord → Change → Option ChangeFault
 fault_by None change = when (not (inserts change)) (fault.Absent change.target)
-fault_by (Some kept) change = first_of (kept_faults change kept)
+fault_by (Some held) change = first_of (held_faults change held)
 
 -- the first fault of a change of a record of the cell
 abbrev pub fault_of : CellValue → Change → Option ChangeFault
-fault_of cell change = fault_by (kept_under cell change.target) change
+fault_of cell change = fault_by (held_under cell change.target) change
 
 -- the fault that an answer tells: want of memory is none of the change
 abbrev pub told : Result (Unit {0}) ChangeFault → Option ChangeFault

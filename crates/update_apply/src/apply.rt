@@ -8,7 +8,7 @@ ghost use Rattle.update_apply.specs.Changed.{modified_vector, modified_feature};
 ghost use Rattle.update_apply.specs.Fault as spec;
 
 use crate::fault::ChangeFault;
-use crate::judge::{fault_by, kept_for};
+use crate::judge::{fault_by, held_for};
 use crate::moves::Moves;
 use crate::record::{Modification, copy_of, inserted_feature, inserted_vector};
 use chart_model::codes::{DELETE, FEATURE, INSERT};
@@ -21,7 +21,7 @@ fn change_vectors(
     vectors: &mut VectorMap,
     change: &UpdateRecord,
 ) -> Result<(), AllocError>
-    requires { spec.fault_by (option_map spec.kept_vector (map.get vectors.old change.now.target)) change.now ≡ None }
+    requires { spec.fault_by (option_map spec.held_vector (map.get vectors.old change.now.target)) change.now ≡ None }
     ensures ok { OnOk result (vectors.new ≡ changed_in inserted_vector modified_vector vectors.old change.now) }
     ensures err { OnErr result (vectors.new ≡ vectors.old) }
 {
@@ -41,7 +41,7 @@ fn change_vectors_owned(
     vectors: &mut VectorMap,
     change: UpdateRecord,
 ) -> Result<(), AllocError>
-    requires { spec.fault_by (option_map spec.kept_vector (map.get vectors.old change.target)) change ≡ None }
+    requires { spec.fault_by (option_map spec.held_vector (map.get vectors.old change.target)) change ≡ None }
     ensures ok { OnOk result (vectors.new ≡ changed_in inserted_vector modified_vector vectors.old change) }
     ensures err { OnErr result (vectors.new ≡ vectors.old) }
 {
@@ -59,7 +59,7 @@ fn change_features(
     features: &mut FeatureMap,
     change: &UpdateRecord,
 ) -> Result<(), AllocError>
-    requires { spec.fault_by (option_map spec.kept_feature (map.get features.old change.now.target)) change.now ≡ None }
+    requires { spec.fault_by (option_map spec.held_feature (map.get features.old change.now.target)) change.now ≡ None }
     ensures ok { OnOk result (features.new ≡ changed_in inserted_feature modified_feature features.old change.now) }
     ensures err { OnErr result (features.new ≡ features.old) }
 {
@@ -79,7 +79,7 @@ fn change_features_owned(
     features: &mut FeatureMap,
     change: UpdateRecord,
 ) -> Result<(), AllocError>
-    requires { spec.fault_by (option_map spec.kept_feature (map.get features.old change.target)) change ≡ None }
+    requires { spec.fault_by (option_map spec.held_feature (map.get features.old change.target)) change ≡ None }
     ensures ok { OnOk result (features.new ≡ changed_in inserted_feature modified_feature features.old change) }
     ensures err { OnErr result (features.new ≡ features.old) }
 {
@@ -99,11 +99,11 @@ fn change_features_owned(
 fn judge(cell: &Cell, change: &UpdateRecord, moves: &mut Moves) -> Result<(), ChangeFault>
     ensures { spec.told result ≡ spec.fault_of cell.now change.now }
 {
-    let kept = kept_for(cell, change);
-    if let Some(fault) = fault_by(kept, change) {
+    let held = held_for(cell, change);
+    if let Some(fault) = fault_by(held, change) {
         return Err(fault);
     }
-    moves.take(kept, change).map_err(|_| ChangeFault::NoMemory)
+    moves.take(held, change).map_err(|_| ChangeFault::NoMemory)
 }
 
 /// Makes a change of one record to a cell, as far as the budget of moves lets it. On any refusal the cell is as it

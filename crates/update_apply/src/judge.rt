@@ -10,7 +10,7 @@ use chart_model::{Cell, Control, Coord, Feature, Foid, Name, UpdateRecord, Vecto
 
 /// What a cell has under a name, as far as changes are judged by it.
 #[derive(Clone, Copy, Debug)]
-pub struct Kept {
+pub struct HeldRecord {
     pub version: u16,
     /// `None` for a vector record.
     pub foid: Option<Foid>,
@@ -36,11 +36,11 @@ fn have_depths(coords: &[Coord]) -> bool
     }
 }
 
-fn kept_vector(vector: &Vector) -> Kept
-    ensures { result ≡ spec.kept_vector vector.now }
+fn held_vector(vector: &Vector) -> HeldRecord
+    ensures { result ≡ spec.held_vector vector.now }
 {
     let coords = vector.coords.as_slice();
-    Kept {
+    HeldRecord {
         version: vector.version,
         foid: None,
         attrs: vector.attrs.len(),
@@ -51,10 +51,10 @@ fn kept_vector(vector: &Vector) -> Kept
     }
 }
 
-fn kept_feature(feature: &Feature) -> Kept
-    ensures { result ≡ spec.kept_feature feature.now }
+fn held_feature(feature: &Feature) -> HeldRecord
+    ensures { result ≡ spec.held_feature feature.now }
 {
-    Kept {
+    HeldRecord {
         version: feature.version,
         foid: Some(feature.foid),
         attrs: feature.attrs.len(),
@@ -66,21 +66,21 @@ fn kept_feature(feature: &Feature) -> Kept
 }
 
 /// What a cell has under a name.
-fn kept_under(cell: &Cell, name: Name) -> Option<Kept>
-    ensures { result ≡ spec.kept_under cell.now name }
+fn held_under(cell: &Cell, name: Name) -> Option<HeldRecord>
+    ensures { result ≡ spec.held_under cell.now name }
 {
     if name.rcnm == FEATURE {
-        cell.features.get(name).map(kept_feature)
+        cell.features.get(name).map(held_feature)
     } else {
-        cell.vectors.get(name).map(kept_vector)
+        cell.vectors.get(name).map(held_vector)
     }
 }
 
 /// What a cell has under the name of a change.
-pub fn kept_for(cell: &Cell, change: &UpdateRecord) -> Option<Kept>
-    ensures { result ≡ spec.kept_under cell.now change.now.target }
+pub fn held_for(cell: &Cell, change: &UpdateRecord) -> Option<HeldRecord>
+    ensures { result ≡ spec.held_under cell.now change.now.target }
 {
-    kept_under(cell, change.target)
+    held_under(cell, change.target)
 }
 
 /// The first fault of several.
@@ -103,10 +103,10 @@ fn when(so: bool, fault: ChangeFault) -> Option<ChangeFault>
 }
 
 /// An identifier that is given and isn't the one that is kept.
-fn foid_fault(name: Name, kept: Option<Foid>, given: Option<Foid>) -> Option<ChangeFault>
-    ensures { result ≡ spec.foid_fault name kept given }
+fn foid_fault(name: Name, held: Option<Foid>, given: Option<Foid>) -> Option<ChangeFault>
+    ensures { result ≡ spec.foid_fault name held given }
 {
-    match (kept, given) {
+    match (held, given) {
         (Some(kept), Some(given)) => when(kept != given, ChangeFault::Foid { name, kept, given }),
         _ => None,
     }
@@ -162,14 +162,14 @@ fn index_fault(name: Name, edit: Option<Control>, length: usize) -> Option<Chang
 fn mixed_fault(
     name: Name,
     edit: Option<Control>,
-    kept: &Kept,
+    held: &HeldRecord,
     given: &[Coord],
 ) -> Option<ChangeFault>
-    ensures { result ≡ spec.mixed_fault name edit kept.now given.now }
+    ensures { result ≡ spec.mixed_fault name edit held.now given.now }
 {
     let control = edit?;
     let coord = given.first()?;
-    let so = control.instruction != DELETE && kept.coords != 0 && kept.depths != coord.z.is_some();
+    let so = control.instruction != DELETE && held.coords != 0 && held.depths != coord.z.is_some();
     when(so, ChangeFault::Mixed { name })
 }
 
@@ -188,8 +188,8 @@ fn edits_nothing(change: &UpdateRecord) -> bool
 }
 
 /// The first fault of the three edits of a modification.
-fn edits_fault(change: &UpdateRecord, kept: &Kept) -> Option<ChangeFault>
-    ensures { result ≡ spec.edits_fault change.now kept.now }
+fn edits_fault(change: &UpdateRecord, held: &HeldRecord) -> Option<ChangeFault>
+    ensures { result ≡ spec.edits_fault change.now held.now }
 {
     if change.ruin != MODIFY || edits_nothing(change) {
         return None;
@@ -205,38 +205,38 @@ fn edits_fault(change: &UpdateRecord, kept: &Kept) -> Option<ChangeFault>
         count_fault(name, change.pointer_edit, pointers),
         count_fault(name, change.coord_edit, coords),
         count_fault(name, change.related_edit, related),
-        index_fault(name, change.pointer_edit, kept.pointers),
-        index_fault(name, change.coord_edit, kept.coords),
-        index_fault(name, change.related_edit, kept.related),
-        mixed_fault(name, change.coord_edit, kept, coords),
+        index_fault(name, change.pointer_edit, held.pointers),
+        index_fault(name, change.coord_edit, held.coords),
+        index_fault(name, change.related_edit, held.related),
+        mixed_fault(name, change.coord_edit, held, coords),
     ])
 }
 
 /// Whether a version follows the one that is kept, or in a deletion is the same.
-fn fits_version(change: &UpdateRecord, kept: u16) -> bool
-    ensures { result ≡ spec.fits_version change.now kept }
+fn fits_version(change: &UpdateRecord, held: u16) -> bool
+    ensures { result ≡ spec.fits_version change.now held }
 {
-    change.version as u32 == kept as u32 + 1 || change.ruin == DELETE && change.version == kept
+    change.version as u32 == held as u32 + 1 || change.ruin == DELETE && change.version == held
 }
 
 /// The first fault of a change of a record, by what the cell has under its name.
-pub fn fault_by(kept: Option<Kept>, change: &UpdateRecord) -> Option<ChangeFault>
-    ensures { result ≡ spec.fault_by kept change.now }
+pub fn fault_by(held: Option<HeldRecord>, change: &UpdateRecord) -> Option<ChangeFault>
+    ensures { result ≡ spec.fault_by held change.now }
 {
     let name = change.target;
     let inserts = change.ruin == INSERT;
-    let Some(kept) = kept else {
+    let Some(held) = held else {
         return when(!inserts, ChangeFault::Absent { name });
     };
     let version = ChangeFault::Version {
         name,
-        kept: kept.version,
+        kept: held.version,
         given: change.version,
     };
     first_of(&[
         when(inserts, ChangeFault::Present { name }),
-        when(!fits_version(change, kept.version), version),
-        foid_fault(name, kept.foid, change.foid),
-        edits_fault(change, &kept),
+        when(!fits_version(change, held.version), version),
+        foid_fault(name, held.foid, change.foid),
+        edits_fault(change, &held),
     ])
 }

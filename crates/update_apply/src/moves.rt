@@ -4,7 +4,7 @@
 //! edits a long list again and again, can ask for more work than there is time for. No file that was made from a
 //! chart comes near the budget.
 
-use crate::judge::Kept;
+use crate::judge::HeldRecord;
 use chart_model::codes::MODIFY;
 use chart_model::{Control, UpdateRecord};
 use std::alloc::AllocError;
@@ -34,15 +34,15 @@ impl Moves {
     /// `AllocError` where less is left.
     pub(crate) fn take(
         &mut self,
-        kept: Option<Kept>,
+        held: Option<HeldRecord>,
         change: &UpdateRecord,
     ) -> Result<(), AllocError> {
-        if let Some(kept) = kept
+        if let Some(held) = held
             && change.ruin == MODIFY
         {
             self.left = self
                 .left
-                .checked_sub(moved(&kept, change))
+                .checked_sub(moved(&held, change))
                 .ok_or(AllocError)?;
         }
         Ok(())
@@ -60,11 +60,11 @@ fn shifted(edit: Option<Control>, length: usize) -> usize {
 
 /// The items that a modification may move: those of the lists that it shifts, and the attributes for each that it
 /// sets.
-fn moved(kept: &Kept, change: &UpdateRecord) -> usize {
+fn moved(held: &HeldRecord, change: &UpdateRecord) -> usize {
     let settings = change.attrs.as_slice().len().min(FEW);
-    kept.attrs
+    held.attrs
         .saturating_mul(settings)
-        .saturating_add(shifted(change.pointer_edit, kept.pointers))
-        .saturating_add(shifted(change.coord_edit, kept.coords))
-        .saturating_add(shifted(change.related_edit, kept.related))
+        .saturating_add(shifted(change.pointer_edit, held.pointers))
+        .saturating_add(shifted(change.coord_edit, held.coords))
+        .saturating_add(shifted(change.related_edit, held.related))
 }

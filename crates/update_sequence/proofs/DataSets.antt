@@ -7,7 +7,7 @@ use Rattle.iso8211_records.specs.Kinds.{layout_at}
 use Rattle.iso8211_records.specs.RecordFile.{record_file_of}
 use Rattle.iso8211_records.specs.declared.fault.FileFault.{FileFault}
 use Rattle.s57_records.specs.Dataset.{dataset_of}
-use Rattle.s57_records.specs.Readings.{all_subfields}
+use Rattle.s57_records.specs.LayoutReadings.{all_subfields}
 use Rattle.s57_records.specs.declared.fault.DatasetFault.{DatasetFault}
 use Rattle.update_sequence.specs.Reading.{tags_read, fault_of_file, fault_of_records, data_set_of, data_set_in}
 

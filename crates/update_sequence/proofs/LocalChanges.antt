@@ -15,12 +15,12 @@ use Rattle.chart_model.specs.Change.{Change}
 use Rattle.chart_model.specs.Names.{name_cmp, edited_at, edited_in}
 use Rattle.area_rings.specs.KeptEdges.{StandsFor}
 use Rattle.chart_closure.specs.Closed.{fault_at, IsClosed}
-use Rattle.chart_closure.specs.Kept.{KeepsRecords, ShowsTheSame, StandsStill, StandsAsBefore}
+use Rattle.chart_closure.specs.Unchanged.{KeepsRecords, ShowsTheSame, StandsStill, StandsAsBefore}
 use Rattle.update_apply.specs.declared.fault.ChangeFault.{ChangeFault}
 use Rattle.update_apply.specs.declared.fault.ChangeFault.TheVariants as fault
 use Rattle.update_apply.specs.Edited.{edited, edited_by}
 use Rattle.chart_model.specs.Answers.{when, first_of}
-use Rattle.update_apply.specs.Fault.{is_feature, kept_vector, kept_feature, inserts, deletes, modifies, count_fault, edit_faults, kept_faults, fault_by, fault_of}
+use Rattle.update_apply.specs.Fault.{is_feature, held_vector, held_feature, inserts, deletes, modifies, count_fault, edit_faults, held_faults, fault_by, fault_of}
 use Rattle.update_apply.specs.Changed.{changed, changed_in, inserted_vector, inserted_feature, modified_vector, modified_feature}
 use Rattle.update_sequence.specs.Built.{begun, folded}
 use Rattle.update_sequence.specs.Extended.{keeps_coords, is_local, are_local, asks_closure, asked_target, are_sound}
@@ -91,10 +91,10 @@ first-none (Some what ∷ more) e = absurd (true≢false (ap is_some e))
 
 module _ (cell : CellValue) (change : Change) (kept : Vector) (none : fault_of cell change ≡ None) (other : is_feature change.target ≡ false)
     (there : map.get cell.vectors change.target ≡ Some kept) where
-  kept-none : AreNone (kept_faults change (kept_vector kept))
+  kept-none : AreNone (held_faults change (held_vector kept))
   kept-none =
-      first-none (kept_faults change (kept_vector kept))
-      (sym (λ i. fault_by (if other i then option_map kept_feature (map.get cell.features change.target) else option_map kept_vector (there i)) change) ∙ none)
+      first-none (held_faults change (held_vector kept))
+      (sym (λ i. fault_by (if other i then option_map held_feature (map.get cell.features change.target) else option_map held_vector (there i)) change) ∙ none)
 
   -- a record that is there isn't inserted
   not-inserted : inserts change ≡ false
@@ -102,8 +102,8 @@ module _ (cell : CellValue) (change : Change) (kept : Vector) (none : fault_of c
 
   counted : modifies change ≡ true → count_fault change.target change.coord_edit change.coords ≡ None
   counted so =
-      (first-none (edit_faults change (kept_vector kept))
-      (ap (λ (b : Bool). if b then first_of (edit_faults change (kept_vector kept)) else None) (sym so) ∙ kept-none.1.1.1.0)).1.1.1.1.0
+      (first-none (edit_faults change (held_vector kept))
+      (ap (λ (b : Bool). if b then first_of (edit_faults change (held_vector kept)) else None) (sym so) ∙ kept-none.1.1.1.0)).1.1.1.1.0
 
 -- ---- vector records that stand for those before
 

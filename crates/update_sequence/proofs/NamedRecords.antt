@@ -17,12 +17,12 @@ use Rattle.chart_model.specs.Cell.{CellValue}
 use Rattle.chart_model.specs.Change.{Change}
 use Rattle.chart_model.specs.Dataset.{DatasetValue}
 use Rattle.chart_model.specs.Names.{name_cmp, edited_at}
-use Rattle.update_apply.specs.declared.judge.Kept.{Kept}
+use Rattle.update_apply.specs.declared.judge.HeldRecord.{HeldRecord}
 use Rattle.update_apply.specs.declared.fault.ChangeFault.{ChangeFault}
 use Rattle.update_apply.specs.declared.fault.ChangeFault.TheVariants as fault
 use Rattle.update_apply.specs.Changed.{changed, changed_in, inserted_vector, inserted_feature, modified_vector}
 use Rattle.update_apply.specs.Changed.{modified_feature}
-use Rattle.update_apply.specs.Fault.{is_feature, inserts, deletes, kept_vector, kept_feature, fault_by, fault_of}
+use Rattle.update_apply.specs.Fault.{is_feature, inserts, deletes, held_vector, held_feature, fault_by, fault_of}
 use Rattle.update_sequence.specs.declared.fault.BuildFault.TheVariants as of_build
 use Rattle.update_sequence.specs.Built.{begun, folded, built}
 use Rattle.update_sequence.specs.Others.{HasOther, delete_none}
@@ -62,7 +62,7 @@ quiet-one : (b : Bool) (fault : ChangeFault) → when b fault ≡ None → b ≡
 quiet-one true fault e = absurd cc
 quiet-one false fault e = refl
 
-module _ {V : Type 0} (version : V → ℕ) (kept_of : V → Kept) (inserted : Change → V) (modified : Change → V → V)
+module _ {V : Type 0} (version : V → ℕ) (held_of : V → HeldRecord) (inserted : Change → V) (modified : Change → V → V)
     (raises : (change : Change) (kept : V) → version (modified change kept) ≡ version kept + 1) where
   abbrev made_by : finite.FinMap name_cmp V → Change → Bool → Bool → Option V → finite.FinMap name_cmp V
   made_by records change inserting deleting found =
@@ -71,7 +71,7 @@ module _ {V : Type 0} (version : V → ℕ) (kept_of : V → Kept) (inserted : C
       else edited_at (modified change) records change.target found
 
   raised : (records : finite.FinMap name_cmp V) (change : Change) (inserting : Bool) (found : Option V) →
-      inserts change ≡ inserting → fault_by (option_map kept_of found) change ≡ None →
+      inserts change ≡ inserting → fault_by (option_map held_of found) change ≡ None →
       age_in version found < age_in version (finite.get (made_by records change inserting false found) change.target)
   raised records change true None is none =
       let new = ap (age_in version) (get-new records change.target (inserted change)) in omega (arith, new)
@@ -84,7 +84,7 @@ module _ {V : Type 0} (version : V → ℕ) (kept_of : V → Kept) (inserted : C
       omega (arith, new, raises change kept)
 
   raised-in : (records : finite.FinMap name_cmp V) (change : Change) → deletes change ≡ false →
-      fault_by (option_map kept_of (finite.get records change.target)) change ≡ None →
+      fault_by (option_map held_of (finite.get records change.target)) change ≡ None →
       age_in version (finite.get records change.target)
       < age_in version (finite.get (changed_in inserted modified records change) change.target)
   raised-in records change stays none =
@@ -100,14 +100,14 @@ made_of b cell change =
     else record cell { vectors = changed_in inserted_vector modified_vector cell.vectors change }
 
 older-by : (b : Bool) (cell : CellValue) (change : Change) → deletes change ≡ false →
-    fault_by (if b then option_map kept_feature (finite.get cell.features change.target)
-    else option_map kept_vector (finite.get cell.vectors change.target)) change ≡ None →
+    fault_by (if b then option_map held_feature (finite.get cell.features change.target)
+    else option_map held_vector (finite.get cell.vectors change.target)) change ≡ None →
     age_by b cell change.target < age_by b (made_of b cell change) change.target
 older-by true cell change stays none =
-    raised-in (λ (feature : Feature). feature.version) kept_feature inserted_feature modified_feature (λ change kept. refl)
+    raised-in (λ (feature : Feature). feature.version) held_feature inserted_feature modified_feature (λ change kept. refl)
     cell.features change stays none
 older-by false cell change stays none =
-    raised-in (λ (vector : Vector). vector.version) kept_vector inserted_vector modified_vector (λ change kept. refl)
+    raised-in (λ (vector : Vector). vector.version) held_vector inserted_vector modified_vector (λ change kept. refl)
     cell.vectors change stays none
 
 -- no record gets younger, and the one that is changed gets older

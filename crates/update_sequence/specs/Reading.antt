@@ -8,7 +8,7 @@ use Rattle.iso8211_records.specs.Kinds.{layout_at}
 use Rattle.iso8211_records.specs.declared.fault.FileFault.{FileFault}
 use Rattle.iso8211_records.specs.declared.fault.FileFault.TheVariants as of_file
 use Rattle.s57_records.specs.Dataset.{dataset_of}
-use Rattle.s57_records.specs.Readings.{all_subfields}
+use Rattle.s57_records.specs.LayoutReadings.{all_subfields}
 use Rattle.s57_records.specs.declared.fault.DatasetFault.{DatasetFault}
 use Rattle.s57_records.specs.declared.fault.DatasetFault.TheVariants as of_records
 use Rattle.update_sequence.specs.declared.fault.ReadFault.{ReadFault}

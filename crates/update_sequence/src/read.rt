@@ -9,11 +9,11 @@ use crate::fault::ReadFault;
 use chart_model::Dataset;
 use chart_ports::Steps;
 use iso8211_records::read_file;
-use s57_fields::tags::{
+use s57_records::read_dataset;
+use s57_subfields::tags::{
     ATTF, ATTV, DSID, DSPM, DSSI, FFPC, FFPT, FOID, FRID, FSPC, FSPT, SG2D, SG3D, SGCC, VRID, VRPC,
     VRPT,
 };
-use s57_records::read_dataset;
 use std::alloc::Global;
 use std::sync::ledger::Ledger;
 

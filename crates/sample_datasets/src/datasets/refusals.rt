@@ -1,9 +1,9 @@
 //! Files that are no data sets.
 
 use super::read;
-use s57_fields::labels::CCUI;
-use s57_fields::tags::{DSPM, FOID};
 use s57_records::{DatasetFault, read_dataset};
+use s57_subfields::labels::CCUI;
+use s57_subfields::tags::{DSPM, FOID};
 use std::test::Fail;
 
 /// The tag of arcs, which a record must not have.

@@ -1,5 +1,5 @@
 use Rattle.std.proofs.Common.{false}
-use Rattle.chart_closure.proofs.Kept.{chart_stays}
+use Rattle.chart_closure.proofs.Unchanged.{chart_stays}
 use Rattle.chart_closure.proofs.laws.closed_charts_stay_closed.Goals as goal
 
 pub returns : goal.returns

@@ -5,5 +5,5 @@ use Rattle.update_apply.proofs.apply.judge.Goals as goal
 
 pub returns-in-Some : goal.returns-in-Some
 returns-in-Some c =
-    let is = sym (sym c.in-Some.is ∙ c.fault_by.ensures ∙ ap (λ kept. fault_by kept c.args.change.now) c.kept_for-kept.ensures) in
+    let is = sym (sym c.in-Some.is ∙ c.fault_by.ensures ∙ ap (λ held. fault_by held c.args.change.now) c.held_for-held.ensures) in
     told-fault c.args.cell.now c.args.change.now c.in-Some.fault is ∙ sym is

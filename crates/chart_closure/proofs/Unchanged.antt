@@ -15,7 +15,7 @@ use Rattle.chart_closure.specs.declared.fault.ClosureFault.{ClosureFault}
 use Rattle.chart_closure.specs.declared.fault.ClosureFault.TheVariants.{Dangling, EdgeNodes, RingOpen, WrongPointer}
 use Rattle.chart_model.specs.Answers.{when, first_of}
 use Rattle.chart_closure.specs.Closed.{has_record, absent_target, may_point, may_show, vector_fault, feature_fault, fault_at, IsClosed}
-use Rattle.chart_closure.specs.Kept.{KeepsRecords, ShowsTheSame, StandsStill, StandsAsBefore}
+use Rattle.chart_closure.specs.Unchanged.{KeepsRecords, ShowsTheSame, StandsStill, StandsAsBefore}
 use Rattle.chart_closure.proofs.Faults.{points_rightly, lacks_line, shows_rightly, lacks_rings, vector_sound, feature_sound}
 
 -- the records, the lines and the shapes that there were are there
