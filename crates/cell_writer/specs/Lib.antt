@@ -1,13 +1,1 @@
-pub mod Subfields
-pub mod Record
-pub mod Vector
-pub mod Feature
-pub mod DataSet
-pub mod Descriptive
-pub mod Written
-pub mod Answers
-pub mod Generator
-pub mod Framing
-pub mod Layouts
-pub mod FieldValues
-pub mod RecordsRead
+pub mod ReadBack

@@ -1,35 +1,19 @@
-//! Cells as files.
+//! Cells as files that read back.
 
-ghost use Rattle.chart_model.specs.Answers.{unless};
-ghost use Rattle.std.specs.Option.{option_or};
-ghost use Rattle.cell_writer.specs.Answers.{GivesWritten};
-ghost use Rattle.cell_writer.specs.Written.{length_fault, written};
+ghost use Rattle.std.specs.Prelude.{IfOk};
+ghost use Rattle.chart_closure.specs.Closed.{IsClosed};
+ghost use Rattle.cell_bytes.specs.Answers.{GivesWritten};
+ghost use Rattle.cell_bytes.specs.Written.{written};
+ghost use Rattle.cell_writer.specs.ReadBack.{IsBaseFileOf};
 
-use crate::descriptive::put_descriptive_record;
-use crate::fault::WriteFault;
-use crate::file::CellFile;
+use cell_bytes::{WriteFault, files_are_read, spell_cell};
+use chart_closure::first_is_least;
 use chart_model::{Cell, Octets};
 use std::alloc::Global;
 
-/// The most bytes of a cell file.
-const FILE_LIMIT: usize = 8_388_608;
-
-/// The bytes of a file, unless there is a fault of one of its records, or the file is too long.
-fn finish(bytes: Octets, fault: Option<WriteFault>) -> Result<Octets, WriteFault>
-    ensures { GivesWritten result (unless (option_or fault (length_fault bytes)) bytes) }
-{
-    if let Some(fault) = fault {
-        return Err(fault);
-    }
-    let length = bytes.as_slice().len();
-    if length > FILE_LIMIT {
-        return Err(WriteFault::CellLong(length));
-    }
-    Ok(bytes)
-}
-
 /// Writes a cell as a base file of its edition and update: a data descriptive record, a record of general information,
-/// one of parameters, one of each vector and one of each feature. All records insert.
+/// one of parameters, one of each vector and one of each feature. All records insert. Of a closed chart the file reads
+/// back as the same chart.
 ///
 /// The file and the longest record are kept at once.
 ///
@@ -37,13 +21,12 @@ fn finish(bytes: Octets, fault: Option<WriteFault>) -> Result<Octets, WriteFault
 ///
 /// `RecordLong` with the least name of a record that is too long, or else `CellLong`; `NoMemory`.
 pub fn write_cell(alloc: Global, cell: &Cell) -> Result<Octets, WriteFault>
-    ensures { GivesWritten result (written cell.now) }
+    ensures exact { GivesWritten result (written cell.now) }
+    ensures reads_back { IsClosed cell.now → IfOk result (λ file. IsBaseFileOf cell.now file) }
 {
-    let mut file = CellFile::new(alloc);
-    put_descriptive_record(&mut file.bytes)?;
-    file.put_general(alloc, cell)?;
-    file.put_parameters(alloc, cell)?;
-    let of_vectors = file.put_vectors(alloc, cell)?;
-    let of_features = file.put_features(alloc, cell)?;
-    finish(file.into_bytes(), of_features.or(of_vectors))
+    // The laws are of cells, and a value is known to be one where a field of it is read.
+    let _ = &cell.header;
+    first_is_least();
+    files_are_read();
+    spell_cell(alloc, cell)
 }

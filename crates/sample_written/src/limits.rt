@@ -3,7 +3,7 @@
 ghost use Rattle.std.specs.Prelude.{IfOk, IsSome};
 ghost use Rattle.chart_model.specs.Record.{AreCoords, IsCoord};
 
-use cell_writer::{WriteFault, write_cell};
+use cell_bytes::{WriteFault, spell_cell};
 use chart_model::{Cell, Coord, Coords, Name, Sequence, UpdateRecord};
 use sample_rows::chart;
 use std::alloc::{AllocError, Global};
@@ -64,9 +64,9 @@ fn cell_of(alloc: Global, nodes: u32, count: usize) -> Result<Cell, Fail> {
 
 #[test]
 fn records_at_their_limit(rt: HostRuntime) -> Result<(), Fail> {
-    let whole = write_cell(rt.alloc(), &cell_of(rt.alloc(), 1, 8326)?)?;
+    let whole = spell_cell(rt.alloc(), &cell_of(rt.alloc(), 1, 8326)?)?;
     assert_eq!(rt; whole.as_slice().len(), 2004 + 99_992);
-    let fault = write_cell(rt.alloc(), &cell_of(rt.alloc(), 2, 8327)?).err();
+    let fault = spell_cell(rt.alloc(), &cell_of(rt.alloc(), 2, 8327)?).err();
     let name = Name { rcnm: 110, rcid: 0 };
     assert_eq!(rt; fault, Some(WriteFault::RecordLong(name, 100_004)));
     Ok(())
@@ -74,16 +74,16 @@ fn records_at_their_limit(rt: HostRuntime) -> Result<(), Fail> {
 
 #[test]
 fn files_at_their_limit(rt: HostRuntime) -> Result<(), Fail> {
-    let whole = write_cell(rt.alloc(), &cell_of(rt.alloc(), 83, 8326)?)?;
+    let whole = spell_cell(rt.alloc(), &cell_of(rt.alloc(), 83, 8326)?)?;
     assert_eq!(rt; whole.as_slice().len(), 2004 + 83 * 99_992);
-    let fault = write_cell(rt.alloc(), &cell_of(rt.alloc(), 84, 8326)?).err();
+    let fault = spell_cell(rt.alloc(), &cell_of(rt.alloc(), 84, 8326)?).err();
     assert_eq!(rt; fault, Some(WriteFault::CellLong(2004 + 84 * 99_992)));
     Ok(())
 }
 
 #[test]
 fn numbers_turn_over(rt: HostRuntime) -> Result<(), Fail> {
-    let file = write_cell(rt.alloc(), &cell_of(rt.alloc(), 65_536, 0)?)?;
+    let file = spell_cell(rt.alloc(), &cell_of(rt.alloc(), 65_536, 0)?)?;
     let records = file.as_slice();
     assert_eq!(rt; records.len(), 2004 + 65_536 * 65);
     // the last record has the number 65,538

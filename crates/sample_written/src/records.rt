@@ -1,6 +1,6 @@
 //! Records.
 
-use cell_writer::write_cell;
+use cell_bytes::spell_cell;
 use sample_rows::{Foid, Row, chart, feature, vector};
 use std::test::Fail;
 
@@ -101,7 +101,7 @@ const RECORDS: [(Row, &[u8]); 10] = [
 #[test]
 fn records_alone(rt: HostRuntime) -> Result<(), Fail> {
     for (row, bytes) in RECORDS {
-        let file = write_cell(rt.alloc(), &chart(rt.alloc(), &[row])?)?;
+        let file = spell_cell(rt.alloc(), &chart(rt.alloc(), &[row])?)?;
         let (_, written) = file.as_slice().split_at_checked(BEFORE).ok_or("a record")?;
         assert!(rt; written == bytes);
     }

@@ -1,28 +1,11 @@
-use Rattle.std.proofs.Common.{ℕ, List, ◌++◌, Result, ◌∙◌, ap, subst}
-use Rattle.cell_writer.specs.declared.fault.WriteFault.{WriteFault}
-use Rattle.cell_writer.specs.Answers.{GivesWritten}
-use Rattle.cell_writer.specs.Descriptive.{descriptive_record}
-use Rattle.cell_writer.proofs.Files.{written_by}
+use Rattle.std.proofs.Common.{subst}
+use Rattle.chart_model.specs.Cell.{IsCell}
+use Rattle.cell_writer.proofs.BaseFile.{written-back}
+use Rattle.cell_writer.proofs.ListsRead.{lists-read}
+use Rattle.cell_writer.proofs.RecordsRead.{file-read}
 use Rattle.cell_writer.proofs.write.write_cell.Goals as goal
 
-pub returns : goal.returns
-returns c =
-    let P : Result (List ℕ) WriteFault → Type 0 = λ w. GivesWritten c.finish.result w in
-    subst P
-    (written_by c.args.cell.now c.put_descriptive_record.new.out c.put_general.new.self.bytes c.put_parameters.new.self.bytes
-    c.put_vectors.new.self.bytes c.into_bytes.result c.new-file.result.number c.put_general.new.self.number
-    c.put_parameters.new.self.number c.put_vectors.new.self.number c.in_ok-of_vectors.of_vectors
-    c.in_ok-of_features.of_features c.or.result
-    record {
-      begun = c.in_ok-put_descriptive_record.ensures ∙ ap (λ (l : List ℕ). l ++ descriptive_record) c.new-file.ensures.bytes;
-      first = c.new-file.ensures.number;
-      general = c.in_ok-put_general.ensures.bytes;
-      second = c.in_ok-put_general.ensures.number;
-      parameters = c.in_ok-put_parameters.ensures.bytes;
-      third = c.in_ok-put_parameters.ensures.number;
-      vectors = c.in_ok-of_vectors.ensures.bytes;
-      last = c.in_ok-of_vectors.ensures.number;
-      features = c.into_bytes.ensures ∙ c.in_ok-of_features.ensures.bytes;
-    }
-    c.in_ok-of_vectors.ensures.fault c.in_ok-of_features.ensures.fault c.or.ensures)
-    c.finish.ensures
+pub returns-clause-reads_back : goal.returns-clause-reads_back
+returns-clause-reads_back c = λ closed.
+    written-back c.first_is_least.ensures.none (file-read lists-read c.files_are_read.ensures.given)
+    c.args.cell.now c.spell_cell.result (subst IsCell c.cell.view_is c.cell.invariant) c.spell_cell.ensures.in_range c.spell_cell.ensures.exact closed

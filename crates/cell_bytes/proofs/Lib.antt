@@ -1,0 +1,13 @@
+pub mod Framed
+pub mod RecordFaults
+pub mod Files
+pub mod MadeCells
+pub mod Updates
+pub mod Spellings
+pub mod Reading
+pub mod SoundFields
+pub mod DescriptiveReading
+pub mod FieldSpellings
+pub mod FileReading
+pub mod Headers
+pub mod Ranges

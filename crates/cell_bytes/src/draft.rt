@@ -1,0 +1,59 @@
+//! Records in the making.
+
+ghost use Rattle.std.specs.Prelude.{◌≡◌, [], OnOk};
+ghost use Rattle.cell_bytes.specs.Record.{field, list_field, no_fields, with_fields};
+
+use crate::fields::{Fields, clear};
+use chart_model::Octets;
+use std::alloc::{AllocError, Global};
+
+/// A record in the making: its fields so far, and the text of the field that comes next.
+#[derive(Debug, Drop)]
+pub(crate) struct Draft {
+    pub(crate) fields: Fields,
+    pub(crate) text: Octets,
+}
+
+impl Draft {
+    /// A record without a field. It takes no memory.
+    pub(crate) fn new(alloc: Global) -> Draft
+        ensures fields { result.fields ≡ no_fields }
+        ensures text { result.text ≡ [] }
+    {
+        Draft {
+            fields: Fields::new(alloc),
+            text: Octets::from_vec(Vec::new(alloc)),
+        }
+    }
+
+    /// Takes all fields out. It takes no memory.
+    pub(crate) fn clear(&mut self, alloc: Global)
+        ensures fields { self.new.fields ≡ no_fields }
+        ensures text { self.new.text ≡ [] }
+    {
+        self.fields.clear(alloc);
+        clear(alloc, &mut self.text);
+    }
+
+    /// Ends the field whose text was written.
+    pub(crate) fn end_field(&mut self, alloc: Global, tag: [u8; 4]) -> Result<(), AllocError>
+        ensures fields { OnOk result (self.new.fields ≡ with_fields self.old.fields (field tag self.old.text)) }
+        ensures text { OnOk result (self.new.text ≡ []) }
+    {
+        self.fields.add(tag, self.text.as_slice())?;
+        clear(alloc, &mut self.text);
+        Ok(())
+    }
+
+    /// Ends the field of a list whose items were written. A list without an item gets no field.
+    #[tactic(auto, unfolding(crate::specs::Record::list_field))]
+    pub(crate) fn end_list(&mut self, alloc: Global, tag: [u8; 4]) -> Result<(), AllocError>
+        ensures fields { OnOk result (self.new.fields ≡ with_fields self.old.fields (list_field tag self.old.text)) }
+        ensures text { OnOk result (self.new.text ≡ []) }
+    {
+        if self.text.as_slice().is_empty() {
+            return Ok(());
+        }
+        self.end_field(alloc, tag)
+    }
+}

@@ -1,0 +1,136 @@
+//! The fields of records (ISO/IEC 8211, records).
+
+ghost use Rattle.std.specs.Prelude.{◌≡◌, ◌++◌, ◌+◌, [], length, codes, IfOk, OnOk};
+ghost use Rattle.cell_bytes.specs.Record.{base_of, digits, field, framed, leader_of, no_fields, with_fields};
+
+use chart_model::Octets;
+use chart_model::codes::FIELD_TERMINATOR;
+use std::alloc::{AllocError, Global};
+use std::mem;
+
+/// What the leader of a record says beside lengths.
+#[derive(Clone, Copy, Debug)]
+pub(crate) struct Kind {
+    /// The interchange level, the leader identifier, and what stands up to the base address.
+    pub(crate) identification: [u8; 7],
+    /// The indicator of the extended character set.
+    pub(crate) character_set: [u8; 3],
+}
+
+/// The data descriptive record.
+pub(crate) const DESCRIPTIVE: Kind = Kind {
+    identification: *b"3LE1 09",
+    character_set: *b" ! ",
+};
+
+/// A data record.
+pub(crate) const OF_DATA: Kind = Kind {
+    identification: *b" D     ",
+    character_set: *b"   ",
+};
+
+/// The sizes of a directory entry's parts: five digits for a length and for a position, and four bytes for a tag.
+const ENTRY_MAP: [u8; 4] = *b"5504";
+
+/// The bytes of a leader.
+const LEADER_LENGTH: usize = 24;
+
+/// The fields of a record so far: its directory and its field area.
+#[derive(Debug, Drop)]
+pub(crate) struct Fields {
+    pub(crate) directory: Octets,
+    pub(crate) area: Octets,
+}
+
+/// The digits of a number below 100,000; of a greater one, the last five.
+#[tactic(auto, unfolding(crate::specs::Record::digits))]
+fn five_digits(number: usize) -> [u8; 5]
+    ensures { result ≡ digits 5 number }
+{
+    let digit = |place: usize| b'0' + (number / place % 10) as u8;
+    [digit(10_000), digit(1_000), digit(100), digit(10), digit(1)]
+}
+
+/// Takes the bytes out. Their room stays.
+pub(crate) fn clear(alloc: Global, octets: &mut Octets)
+    ensures { octets.new ≡ [] }
+{
+    let empty = Octets::from_vec(Vec::new(alloc));
+    let mut bytes = mem::replace(octets, empty).into_vec();
+    bytes.clear();
+    *octets = Octets::from_vec(bytes);
+}
+
+/// Adds the leader of a record with this base address and so many bytes.
+#[tactic(auto, unfolding(crate::specs::Record::leader_of))]
+fn put_leader(out: &mut Octets, kind: Kind, base: usize, length: usize) -> Result<(), AllocError>
+    ensures { OnOk result (out.new ≡ out.old ++ leader_of kind base length) }
+{
+    out.extend_from_slice(&five_digits(length))?;
+    out.extend_from_slice(&kind.identification)?;
+    out.extend_from_slice(&five_digits(base))?;
+    out.extend_from_slice(&kind.character_set)?;
+    out.extend_from_slice(&ENTRY_MAP)
+}
+
+impl Fields {
+    /// No field yet. It takes no memory.
+    pub(crate) fn new(alloc: Global) -> Fields
+        ensures { result ≡ no_fields }
+    {
+        Fields {
+            directory: Octets::from_vec(Vec::new(alloc)),
+            area: Octets::from_vec(Vec::new(alloc)),
+        }
+    }
+
+    /// Takes all fields out. It takes no memory.
+    pub(crate) fn clear(&mut self, alloc: Global)
+        ensures { self.new ≡ no_fields }
+    {
+        clear(alloc, &mut self.directory);
+        clear(alloc, &mut self.area);
+    }
+
+    /// Adds a field: its entry to the directory, and its text and a field terminator to the field area.
+    #[tactic(auto, unfolding(crate::specs::Record::field, crate::specs::Record::with_field, crate::specs::Record::entry))]
+    pub(crate) fn add(&mut self, tag: [u8; 4], text: &[u8]) -> Result<(), AllocError>
+        ensures { OnOk result (self.new ≡ with_fields self.old (field tag text.now)) }
+    {
+        let position = self.area.as_slice().len();
+        self.area.extend_from_slice(text)?;
+        self.area.extend_from_slice(&[FIELD_TERMINATOR])?;
+        let length = self.area.as_slice().len() - position;
+        self.directory.extend_from_slice(&tag)?;
+        self.directory.extend_from_slice(&five_digits(length))?;
+        self.directory.extend_from_slice(&five_digits(position))
+    }
+
+    /// The base address of the field area. One that doesn't fit is want of memory: a directory has few entries.
+    fn base(&self) -> Result<usize, AllocError>
+        ensures { IfOk result (λ base. base ≡ base_of self.now.directory) }
+    {
+        let directory = self.directory.as_slice().len();
+        directory.checked_add(LEADER_LENGTH + 1).ok_or(AllocError)
+    }
+
+    /// The bytes of a record of these fields. A number that doesn't fit is want of memory.
+    pub(crate) fn record_length(&self) -> Result<usize, AllocError>
+        ensures { IfOk result (λ bytes. bytes ≡ base_of self.now.directory + length self.now.area) }
+    {
+        self.base()?
+            .checked_add(self.area.as_slice().len())
+            .ok_or(AllocError)
+    }
+
+    /// Adds the bytes of a record of these fields.
+    #[tactic(auto, unfolding(crate::specs::Record::framed))]
+    pub(crate) fn put(&self, out: &mut Octets, kind: Kind) -> Result<(), AllocError>
+        ensures { OnOk result (out.new ≡ out.old ++ framed kind self.now.directory self.now.area) }
+    {
+        put_leader(out, kind, self.base()?, self.record_length()?)?;
+        out.extend_from_slice(self.directory.as_slice())?;
+        out.extend_from_slice(&[FIELD_TERMINATOR])?;
+        out.extend_from_slice(self.area.as_slice())
+    }
+}

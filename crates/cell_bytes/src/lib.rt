@@ -1,0 +1,25 @@
+//! Cells as bytes: a cell is written as a base file (S-57 Appendix B.1) that reads back as the same cell.
+#![tactic(auto)]
+
+mod data_set;
+mod descriptive;
+mod draft;
+mod fault;
+mod fields;
+mod file;
+mod generator;
+mod laws;
+mod lists;
+mod records;
+mod subfields;
+mod update;
+mod write;
+
+pub use fault::WriteFault;
+pub use generator::make_cell;
+pub use laws::{
+    fields_are_spelled, files_are_read, records_are_read, the_descriptive_record_is_read,
+    values_are_spelled,
+};
+pub use update::make_update;
+pub use write::spell_cell;

@@ -1,0 +1,131 @@
+//! Updates of the cells that are made for trials.
+
+ghost use Rattle.std.specs.Prelude.{◌≡◌, ◌++◌, ◌∷◌, [], ◌≤◌, filter, map, IfOk, OnOk};
+ghost use Rattle.std.specs.Int.{IsInRange};
+ghost use Rattle.chart_model.specs.Codes.{MODIFY as MODIFIES};
+ghost use Rattle.cell_bytes.specs.Record.{alone, of_data, record_of};
+ghost use Rattle.cell_bytes.specs.DataSet.{revision_fields};
+ghost use Rattle.cell_bytes.specs.Generator.{deepened, deepened_areas, deepened_fields, made_update, made_version};
+ghost use Rattle.cell_bytes.specs.Generator.{area_name, is_deepened};
+ghost use Rattle.cell_bytes.specs.Vector.{name_text};
+ghost use Rattle.cell_bytes.specs.Feature.{described};
+ghost use Rattle.cell_bytes.specs.Subfields.{b11};
+ghost use Rattle.cell_bytes.specs.Written.{next_number, number_behind, numbered};
+
+use crate::descriptive::put_descriptive_record;
+use crate::draft::Draft;
+use crate::file::CellFile;
+use crate::generator::{DEPARE, DRVAL1, decimal, made_header};
+use crate::lists::{put_attribute, put_name};
+use crate::records::{begin, draft_revision};
+use crate::subfields::{put_b11, put_b12};
+use chart_model::codes::{AREA, FEATURE, MODIFY};
+use chart_model::{Header, Name, Octets};
+use std::alloc::{AllocError, Global};
+
+/// Adds the identifier of the record that modifies an area.
+#[tactic(auto, unfolding(crate::specs::Feature::described))]
+fn put_identifier(out: &mut Octets, update: u32, area: u32) -> Result<(), AllocError>
+    requires { IsInRange 1 999 update }
+    ensures { OnOk result (out.new
+        ≡ out.old ++ (name_text (area_name area) ++ described AREA 1 42 (made_version update) ++ b11 MODIFIES)) }
+{
+    let name = Name {
+        rcnm: FEATURE,
+        rcid: area,
+    };
+    put_name(out, name)?;
+    put_b11(out, AREA)?;
+    put_b11(out, 1)?;
+    put_b12(out, DEPARE)?;
+    put_b12(out, (2 + (update - 1) / 30) as u16)?;
+    put_b11(out, MODIFY)
+}
+
+/// Makes the record that modifies an area.
+#[tactic(auto, unfolding(crate::specs::Generator::deepened_fields))]
+fn draft_area(
+    alloc: Global,
+    draft: &mut Draft,
+    number: u16,
+    update: u32,
+    area: u32,
+) -> Result<(), AllocError>
+    requires { IsInRange 1 999 update }
+    ensures { OnOk result (draft.new.fields ≡ alone (deepened_fields update area number)) }
+{
+    let depth = decimal(alloc, update % 50)?;
+    begin(alloc, draft, number)?;
+    put_identifier(&mut draft.text, update, area)?;
+    draft.end_field(alloc, *b"FRID")?;
+    put_attribute(&mut draft.text, DRVAL1, depth.as_slice())?;
+    draft.end_field(alloc, *b"ATTF")
+}
+
+/// Adds the record of the general information.
+#[tactic(auto, using(crate::proofs::Framed::framed_alone))]
+fn put_general(file: &mut CellFile, alloc: Global, header: &Header) -> Result<(), AllocError>
+    ensures bytes { OnOk result (file.new.bytes
+        ≡ file.old.bytes ++ record_of of_data (revision_fields file.old.number header.now)) }
+    ensures number { OnOk result (file.new.number ≡ next_number file.old.number) }
+{
+    draft_revision(alloc, &mut file.draft, file.number, header)?;
+    file.put_record()?;
+    Ok(())
+}
+
+/// Adds the record that modifies an area.
+#[tactic(auto, using(crate::proofs::Framed::framed_alone), unfolding(crate::specs::Generator::deepened))]
+fn put_area(file: &mut CellFile, alloc: Global, update: u32, area: u32) -> Result<(), AllocError>
+    requires { IsInRange 1 999 update }
+    ensures bytes { OnOk result (file.new.bytes ≡ file.old.bytes ++ deepened update area file.old.number) }
+    ensures number { OnOk result (file.new.number ≡ next_number file.old.number) }
+{
+    draft_area(alloc, &mut file.draft, file.number, update, area)?;
+    file.put_record()?;
+    Ok(())
+}
+
+/// Adds the record that modifies an area, where the update modifies it.
+#[tactic(auto, unfolding(crate::specs::Written::numbered, crate::specs::Written::number_behind))]
+fn put_in_turn(file: &mut CellFile, alloc: Global, update: u32, area: u32) -> Result<(), AllocError>
+    requires { IsInRange 1 999 update }
+    ensures bytes { OnOk result (file.new.bytes ≡ file.old.bytes
+        ++ numbered file.old.number (map (deepened update) (filter (is_deepened update) (area ∷ [])))) }
+    ensures number { OnOk result (file.new.number
+        ≡ number_behind file.old.number (map (deepened update) (filter (is_deepened update) (area ∷ [])))) }
+{
+    if area % 30 == update % 30 {
+        put_area(file, alloc, update, area)
+    } else {
+        Ok(())
+    }
+}
+
+/// Adds the records that modify areas, in the order of their numbers.
+#[tactic(auto, unfolding(crate::specs::Generator::deepened_areas, crate::specs::Generator::numbers_to, crate::specs::Written::numbered, crate::specs::Written::number_behind))]
+fn put_areas(file: &mut CellFile, alloc: Global, update: u32, count: u32) -> Result<(), AllocError>
+    requires update { IsInRange 1 999 update }
+    requires count { count ≤ 20000 }
+    ensures { OnOk result (file.new.bytes
+        ≡ file.old.bytes ++ numbered file.old.number (map (deepened update) (deepened_areas update count))) }
+{
+    for before in 0..count {
+        put_in_turn(file, alloc, update, before + 1)?;
+    }
+    Ok(())
+}
+
+/// Makes update `u` of the cell for trials with `n` depth areas: it sets the least depth of each area whose number is
+/// `u` modulo 30.
+pub fn make_update(alloc: Global, n: u32, u: u32) -> Result<Octets, AllocError>
+    requires areas { IsInRange 1 20000 n }
+    requires update { IsInRange 1 999 u }
+    ensures { IfOk result (λ file. file ≡ made_update n u) }
+{
+    let mut file = CellFile::new(alloc);
+    put_descriptive_record(&mut file.bytes)?;
+    put_general(&mut file, alloc, &made_header(n, u, 0))?;
+    put_areas(&mut file, alloc, u, n)?;
+    Ok(file.into_bytes())
+}

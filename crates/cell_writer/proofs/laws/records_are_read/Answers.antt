@@ -1,6 +1,0 @@
-use Rattle.cell_writer.proofs.SoundFields.{feature_read, general_read, parameters_read, vector_read}
-use Rattle.cell_writer.proofs.laws.records_are_read.Goals as goal
-
-pub returns : goal.returns
-returns c =
-    record { general = general_read; parameters = parameters_read; vectors = vector_read; features = feature_read }

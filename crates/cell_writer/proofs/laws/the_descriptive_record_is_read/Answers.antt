@@ -1,9 +1,0 @@
-use Rattle.std.proofs.Common.{[]}
-use Rattle.cell_writer.specs.Descriptive.{descriptive_record}
-use Rattle.cell_writer.specs.Layouts.{layouts, tags_read}
-use Rattle.cell_writer.proofs.DescriptiveReading.{computed, described}
-use Rattle.cell_writer.proofs.laws.the_descriptive_record_is_read.Goals as goal
-
-pub returns : goal.returns
-returns c =
-    described (c.reads_each.ensures.given tags_read descriptive_record (record { descriptors = layouts; records = [] }) computed)
