@@ -10,7 +10,7 @@ use Rattle.script_reader.specs.Reading.{event_in}
 use Rattle.script_reader.specs.declared.event.Event.{Event}
 use Rattle.script_reader.specs.declared.fault.LineFault.{LineFault}
 use Rattle.script_reader.specs.declared.reply.Reply.{Reply}
-use Rattle.script_reader.specs.declared.reply.Reply.TheVariants.{Info, Load, Cancel, Rollback, Drop, Cells, Draw, Route, Refused}
+use Rattle.script_reader.specs.declared.reply.Reply.TheVariants.{Info, Load, Cancel, Rollback, Drop, Cells, Draw, Route, Make, Reissue, Refused}
 use Rattle.session_core.specs.Fetch.{Fetches}
 use Rattle.session_core.specs.Model.{Model}
 use Rattle.session_core.specs.Turn.{turn_of}
@@ -37,6 +37,8 @@ told-failure (Drop key) h = absurd (let e : false ≡ true = h in cc)
 told-failure (Cells count lines) h = absurd (let e : false ≡ true = h in cc)
 told-failure (Draw key count lines) h = absurd (let e : false ≡ true = h in cc)
 told-failure (Route legs count lines) h = absurd (let e : false ≡ true = h in cc)
+told-failure (Make key edition update records) h = absurd (let e : false ≡ true = h in cc)
+told-failure (Reissue key edition update) h = absurd (let e : false ≡ true = h in cc)
 
 -- a step says so only where a fetch failed
 failed-by : TellsFailure → (fetches : Fetches) (model : Model) (number : ℕ) (asked : Result (Option Event) LineFault)

@@ -31,7 +31,12 @@ const GIVEN: Foid = Foid {
 };
 
 /// Refusals, and the replies to them.
-const REFUSALS: [(Refusal, &[u8]); 34] = [
+const REFUSALS: [(Refusal, &[u8]); 36] = [
+    (
+        Refusal::RecordLong(FEATURE, 100_004),
+        b"no 64 100 16 100004\n",
+    ),
+    (Refusal::CellLong(8_388_609), b"no 65 8388609\n"),
     (Refusal::RouteLine(3), b"no 66 3\n"),
     (Refusal::RouteFew(1), b"no 67 1\n"),
     (Refusal::RouteMany(1_001), b"no 68 1001\n"),

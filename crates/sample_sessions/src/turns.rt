@@ -239,10 +239,52 @@ const DANGERS: &[u8] = b"ok route 2 0\nok load AA5TEST1 1 0\n\
 ok route 2 2\ndanger 1 AA5TEST1 1 0\ndanger 2 AA5TEST1 1 0\n\
 no 66 2\nno 67 1\nno 71 X\n";
 
+/// Files that are made, and charts that are written again.
+const WRITTEN: [&[u8]; 13] = [
+    b"make 1 0",
+    b"make 1 1",
+    b"make 1 3",
+    b"make 2 1",
+    b"cells",
+    b"reissue MK000001",
+    b"cells",
+    b"make 1 0",
+    b"reissue AA5TEST1",
+    b"load T",
+    b"reissue AA5TEST1",
+    b"load U",
+    b"load CANCEL",
+];
+
+/// A cell that was cancelled isn't written.
+const CANCELLED: [&[u8]; 4] = [b"load T", b"load U", b"load CANCEL", b"reissue AA5TEST1"];
+
+const MADE_TWICE: [&[u8]; 2] = [b"make 31 0", b"make 31 1"];
+
+/// What is replied to files that are made or written.
+const WRITINGS: &[u8] =
+    b"ok make MK000001 1 0 5\nok make MK000001 1 1 2\nno 33 2 3\nno 30 MK000002\n\
+ok cells 1\ncell MK000001 1 1 2 3\nok reissue MK000001 1 1\nok cells 1\ncell MK000001 1 1 1 3\n\
+no 31 1 1 1 0\nno 73 AA5TEST1\nok load AA5TEST1 1 0\nok reissue AA5TEST1 1 0\nok load AA5TEST1 1 1\n\
+ok cancel AA5TEST1\n";
+
+const CANCELLATIONS: &[u8] =
+    b"ok load AA5TEST1 1 0\nok load AA5TEST1 1 1\nok cancel AA5TEST1\nno 73 AA5TEST1\n";
+
 /// Lines, the calls of the shelf and of the desk that fail, and what is replied.
-const TURNS: [(&[&[u8]], u64, u64, &[u8]); 7] = [
+const TURNS: [(&[&[u8]], u64, u64, &[u8]); 11] = [
     (&ALL, 0, 0, REPLIES),
     (&ROUTES, 0, 0, DANGERS),
+    (&WRITTEN, 0, 0, WRITINGS),
+    (&CANCELLED, 0, 0, CANCELLATIONS),
+    // Nothing is fetched for a file that is made.
+    (
+        &MADE_TWICE,
+        1,
+        0,
+        b"ok make MK000031 1 0 95\nok make MK000031 1 1 3\n",
+    ),
+    (&MADE_TWICE, 0, 12, b"desk fault"),
     (&ONE_ROUTE, 1, 0, b"no 72\n"),
     (&TWICE, 1, 0, b"no 72\nok info AA5TEST1 1 0 4\n"),
     (&TWICE, 2, 0, b"ok load AA5TEST1 1 0\nno 72\n"),

@@ -4,7 +4,7 @@ use Rattle.std.specs.Prelude.{Result, Ok, Err}
 use Rattle.std.specs.List.{join_with_byte}
 use Rattle.std.proofs.lemmas.Bool.{false_from_ne_true, true≢false, eqb-true, eq-eqb}
 use Rattle.script_reader.specs.declared.event.Event.{Event}
-use Rattle.script_reader.specs.declared.event.Event.TheVariants.{Info, Load, Rollback, Drop, Cells, Draw, Route}
+use Rattle.script_reader.specs.declared.event.Event.TheVariants.{Info, Load, Rollback, Drop, Cells, Draw, Route, Make, Reissue}
 use Rattle.script_reader.specs.declared.fault.LineFault.{LineFault}
 use Rattle.script_reader.specs.declared.fault.LineFault.TheVariants.{BadLine, NoMemory}
 use Rattle.script_reader.specs.Line.{AskFor, NamesFile, Spells, IsSilent, IsBad}
@@ -34,6 +34,8 @@ asked_speaks (Drop cell) words a = ap (λ (w : List (List ℕ)). is_silent (join
 asked_speaks Cells words a = ap (λ (w : List (List ℕ)). is_silent (join_with_byte 32 w)) a
 asked_speaks (Draw cell) words a = ap (λ (w : List (List ℕ)). is_silent (join_with_byte 32 w)) a.0
 asked_speaks (Route name) words a = ap (λ (w : List (List ℕ)). is_silent (join_with_byte 32 w)) a.0
+asked_speaks (Make areas update) words a = ap (λ (w : List (List ℕ)). is_silent (join_with_byte 32 w)) a.spoken
+asked_speaks (Reissue cell) words a = ap (λ (w : List (List ℕ)). is_silent (join_with_byte 32 w)) a.0
 
 pub spelled_speaks : (line : List ℕ) (event : Event) → Spells line event → is_silent line ≡ false
 spelled_speaks line event s = ap is_silent s.parted ∙ asked_speaks event s.words s.asking

@@ -13,10 +13,10 @@ use Rattle.text_scan.specs.Number.{value_of}
 use Rattle.script_reader.specs.Word.{IsWord, is_word}
 use Rattle.script_reader.specs.Number.{IsShortNumber, is_short_number}
 use Rattle.script_reader.specs.declared.event.Event.{Event}
-use Rattle.script_reader.specs.declared.event.Event.TheVariants.{Info, Load, Rollback, Drop, Cells, Draw, Route}
-use Rattle.script_reader.specs.Line.{AskFor, NamesFile, Spells}
-use Rattle.script_reader.specs.Reading.{words_of, info_in, load_in, rollback_in, drop_in, draw_in, route_in, event_alone, event_with_one, event_with_two, event_of}
-use Rattle.script_reader.proofs.WordTests.{KeysAreTested, Decides-word, Decides-short, no_short}
+use Rattle.script_reader.specs.declared.event.Event.TheVariants.{Info, Load, Rollback, Drop, Cells, Draw, Route, Make, Reissue}
+use Rattle.script_reader.specs.Line.{AreInRange, AskFor, CanBeMade, NamesFile, Spells}
+use Rattle.script_reader.specs.Reading.{words_of, info_in, load_in, rollback_in, drop_in, draw_in, route_in, can_be_made, make_with, make_in, reissue_in, event_alone, event_with_one, event_with_two, event_of}
+use Rattle.script_reader.proofs.WordTests.{KeysAreTested, Decides-word, Decides-short, Decides-made, no_short}
 use Rattle.script_reader.proofs.Parting.{visible_unparted, digits_unparted, tested_unparted, split_one, split_two, split_three}
 
 -- ---- from words to what they ask for
@@ -62,6 +62,31 @@ found_route verb word event v e =
     let t = taken (is_word word) (Route word) event e in
     subst (λ (x : Event). AskFor x (verb ∷ word ∷ [])) t.1 (ap (λ (l : List ℕ). l ∷ word ∷ []) v, (Decides-word word).0 t.0)
 
+found_reissue : KeysAreTested → (verb word : List ℕ) (event : Event) → verb ≡ codes "reissue" → reissue_in word ≡ Some event → AskFor event (verb ∷ word ∷ [])
+found_reissue tested verb word event v e =
+    let t = taken (is_key word) (Reissue word) event e in
+    subst (λ (x : Event). AskFor x (verb ∷ word ∷ [])) t.1 (ap (λ (l : List ℕ). l ∷ word ∷ []) v, (tested word).0 t.0)
+
+found_make : (verb areas update : List ℕ) (event : Event) → verb ≡ codes "make" → make_in areas update ≡ Some event → AskFor event (verb ∷ areas ∷ update ∷ [])
+found_make verb areas update event v e =
+    elim (chosen (is_short_number areas && is_short_number update) (make_with (value_of areas) (value_of update)) None (Some event) e) [
+      | inl h ↦
+          let t = taken (can_be_made (value_of areas) (value_of update)) (Make (value_of areas) (value_of update)) event h.1 in
+          let p = and_parts (is_short_number areas) (is_short_number update) h.0 in
+          subst (λ (x : Event). AskFor x (verb ∷ areas ∷ update ∷ [])) t.1
+          (record {
+            area_digits = areas;
+            update_digits = update;
+            spoken = ap (λ (l : List ℕ). l ∷ areas ∷ update ∷ []) v;
+            areas_short = (Decides-short areas).0 p.0;
+            update_short = (Decides-short update).0 p.1;
+            areas_value = refl;
+            update_value = refl;
+            ranges = (Decides-made (value_of areas) (value_of update)).0 t.0;
+          })
+      | inr h ↦ absurd (let none = h.1 in cc)
+    ]
+
 found_rollback : KeysAreTested → (verb cell digits : List ℕ) (event : Event) → verb ≡ codes "rollback" → rollback_in cell digits ≡ Some event
     → AskFor event (verb ∷ cell ∷ digits ∷ [])
 found_rollback tested verb cell digits event v e =
@@ -91,9 +116,12 @@ found_with_one tested verb word event e =
           | inl j ↦ found_drop tested verb word event (is_verb verb (codes "drop") j.0) j.1
           | inr j ↦ elim (chosen (bytes_eq verb (codes "draw")) (draw_in word) _ (Some event) j.1) [
             | inl k ↦ found_draw tested verb word event (is_verb verb (codes "draw") k.0) k.1
-            | inr k ↦ elim (chosen (bytes_eq verb (codes "route")) (route_in word) None (Some event) k.1) [
+            | inr k ↦ elim (chosen (bytes_eq verb (codes "route")) (route_in word) _ (Some event) k.1) [
               | inl l ↦ found_route verb word event (is_verb verb (codes "route") l.0) l.1
-              | inr l ↦ absurd (let none = l.1 in cc)
+              | inr l ↦ elim (chosen (bytes_eq verb (codes "reissue")) (reissue_in word) None (Some event) l.1) [
+                | inl m ↦ found_reissue tested verb word event (is_verb verb (codes "reissue") m.0) m.1
+                | inr m ↦ absurd (let none = m.1 in cc)
+              ]
             ]
           ]
         ]
@@ -103,9 +131,12 @@ found_with_one tested verb word event e =
 found_with_two : KeysAreTested → (verb cell digits : List ℕ) (event : Event) → event_with_two verb cell digits ≡ Some event
     → AskFor event (verb ∷ cell ∷ digits ∷ [])
 found_with_two tested verb cell digits event e =
-    elim (chosen (bytes_eq verb (codes "rollback")) (rollback_in cell digits) None (Some event) e) [
+    elim (chosen (bytes_eq verb (codes "rollback")) (rollback_in cell digits) _ (Some event) e) [
       | inl h ↦ found_rollback tested verb cell digits event (is_verb verb (codes "rollback") h.0) h.1
-      | inr h ↦ absurd (let none = h.1 in cc)
+      | inr h ↦ elim (chosen (bytes_eq verb (codes "make")) (make_in cell digits) None (Some event) h.1) [
+        | inl i ↦ found_make verb cell digits event (is_verb verb (codes "make") i.0) i.1
+        | inr i ↦ absurd (let none = i.1 in cc)
+      ]
     ]
 
 pub asked : KeysAreTested → (words : List (List ℕ)) (event : Event) → event_of words ≡ Some event → AskFor event words
@@ -125,6 +156,11 @@ found tested line event e = record {
 
 -- ---- from what is asked for to words
 
+make_again : (areas update : ℕ) (area_digits update_digits : List ℕ) → IsShortNumber area_digits → IsShortNumber update_digits
+    → areas ≡ value_of area_digits → update ≡ value_of update_digits → CanBeMade areas update → make_in area_digits update_digits ≡ Some (Make areas update)
+make_again areas update area_digits update_digits a u is of m =
+    rw ((Decides-short area_digits).1 a, (Decides-short update_digits).1 u, sym is, sym of, (Decides-made areas update).1 m) refl
+
 pub asked_again : KeysAreTested → (event : Event) (words : List (List ℕ)) → AskFor event words → event_of words ≡ Some event
 unfolding event_of
 asked_again tested (Info name) words a = ap event_of a.0 ∙ rw ((Decides-word name).1 a.1) refl
@@ -134,6 +170,9 @@ asked_again tested (Rollback cell update) words a =
 asked_again tested (Drop cell) words a = ap event_of a.0 ∙ rw ((tested cell).1 a.1) refl
 asked_again tested (Draw cell) words a = ap event_of a.0 ∙ rw ((tested cell).1 a.1) refl
 asked_again tested (Route name) words a = ap event_of a.0 ∙ rw ((Decides-word name).1 a.1) refl
+asked_again tested (Make areas update) words a =
+    ap event_of a.spoken ∙ make_again areas update a.area_digits a.update_digits a.areas_short a.update_short a.areas_value a.update_value a.ranges
+asked_again tested (Reissue cell) words a = ap event_of a.0 ∙ rw ((tested cell).1 a.1) refl
 asked_again tested Cells words a = ap event_of a
 
 pub split_again : (event : Event) (words : List (List ℕ)) → AskFor event words → words_of (join_with_byte 32 words) ≡ words
@@ -156,6 +195,13 @@ split_again (Draw cell) words a =
 split_again (Route name) words a =
     ap (λ (w : List (List ℕ)). words_of (join_with_byte 32 w)) a.0
     ∙ split_two (codes "route") name (tested_unparted (codes "route") refl) (visible_unparted name a.1.visible) ∙ sym a.0
+split_again (Make areas update) words a =
+    ap (λ (w : List (List ℕ)). words_of (join_with_byte 32 w)) a.spoken
+    ∙ split_three (codes "make") a.area_digits a.update_digits (tested_unparted (codes "make") refl) (digits_unparted a.area_digits a.areas_short.0.1) (digits_unparted a.update_digits a.update_short.0.1)
+    ∙ sym a.spoken
+split_again (Reissue cell) words a =
+    ap (λ (w : List (List ℕ)). words_of (join_with_byte 32 w)) a.0
+    ∙ split_two (codes "reissue") cell (tested_unparted (codes "reissue") refl) (visible_unparted cell a.1.visible) ∙ sym a.0
 split_again Cells words a =
     ap (λ (w : List (List ℕ)). words_of (join_with_byte 32 w)) a ∙ split_one (codes "cells") (tested_unparted (codes "cells") refl) ∙ sym a
 
@@ -214,6 +260,20 @@ rollback_missed cell digits other =
       | false ↦ refl
     ]
 
+pub make_read : (areas update : List ℕ) (number other : ℕ) → IsShortNumber areas → number ≡ value_of areas → IsShortNumber update → other ≡ value_of update
+    → make_with number other ≡ make_in areas update
+make_read areas update number other a is u of = rw (is, of, (Decides-short areas).1 a, (Decides-short update).1 u) refl
+
+pub make_without_areas : (areas update : List ℕ) → ¬ IsShortNumber areas → None ≡ make_in areas update
+make_without_areas areas update other = rw (no_short areas other) refl
+
+pub make_without_update : (areas update : List ℕ) → ¬ IsShortNumber update → None ≡ make_in areas update
+make_without_update areas update other =
+    elim (is_short_number areas) as (λ b. None ≡ cond (b && is_short_number update) (make_with (value_of areas) (value_of update)) None) [
+      | true ↦ rw (no_short update other) refl
+      | false ↦ refl
+    ]
+
 -- memory that runs out at the name of a file, seen from the verb
 pub info_failed : {T E : Type 0} (verb word : List ℕ) (r : Result T E) → bytes_eq verb (codes "info") ≡ true → OnErr r (info_in word ≡ Some (Info word))
     → OnErr r ((event : Event) × (event_with_one verb word ≡ Some event) × NamesFile event)
@@ -244,7 +304,26 @@ asked_short (Draw cell) words a =
     omega (arith, ap (λ (w : List (List ℕ)). length (join_with_byte 32 w)) a.0, length-append (codes "draw") (32 ∷ cell), a.1.short)
 asked_short (Route name) words a =
     omega (arith, ap (λ (w : List (List ℕ)). length (join_with_byte 32 w)) a.0, length-append (codes "route") (32 ∷ name), a.1.short)
+asked_short (Make areas update) words a =
+    omega (arith, ap (λ (w : List (List ℕ)). length (join_with_byte 32 w)) a.spoken, length-append (codes "make") (32 ∷ (a.area_digits ++ 32 ∷ a.update_digits)), length-append a.area_digits (32 ∷ a.update_digits), a.areas_short.1, a.update_short.1)
+asked_short (Reissue cell) words a =
+    omega (arith, ap (λ (w : List (List ℕ)). length (join_with_byte 32 w)) a.0, length-append (codes "reissue") (32 ∷ cell), a.1.short)
 asked_short Cells words a = omega (arith, ap (λ (w : List (List ℕ)). length (join_with_byte 32 w)) a)
 
 pub spelled_short : (line : List ℕ) (event : Event) → Spells line event → length line ≤ 1024
 spelled_short line event s = omega (arith, ap length s.parted, asked_short event s.words s.asking)
+
+-- the numbers of a line
+asked_in_range : (event : Event) (words : List (List ℕ)) → AskFor event words → AreInRange event
+asked_in_range (Info name) words a = tt
+asked_in_range (Load name) words a = tt
+asked_in_range (Rollback cell update) words a = tt
+asked_in_range (Drop cell) words a = tt
+asked_in_range Cells words a = tt
+asked_in_range (Draw cell) words a = tt
+asked_in_range (Route name) words a = tt
+asked_in_range (Make areas update) words a = a.ranges
+asked_in_range (Reissue cell) words a = tt
+
+pub spelled_in_range : (line : List ℕ) (event : Event) → Spells line event → AreInRange event
+spelled_in_range line event s = asked_in_range event s.words s.asking

@@ -14,6 +14,8 @@ use Rattle.chart_model.specs.Key.{IsKey, IsVisible, is_key, is_visible}
 use Rattle.text_scan.specs.Number.{value_of}
 use Rattle.script_reader.specs.Word.{IsWord, is_word}
 use Rattle.script_reader.specs.Number.{IsShortNumber, is_short_number}
+use Rattle.script_reader.specs.Line.{CanBeMade}
+use Rattle.script_reader.specs.Reading.{can_be_made}
 
 -- the test of definitions tells keys, as the law of keys says
 abbrev pub KeysAreTested : Type 0
@@ -63,6 +65,14 @@ Decides-short text =
     (λ h. ((omega (arith, h.0), h.1.1), h.1.0))
     (λ n. (omega (arith, n.0.0), (n.1, n.0.1)))
     (Decides-and (nat_le 1 (length text)) (nat_le (length text) 9 && all_ascii_digits text) (Decides-le 1 (length text)) few)
+
+pub Decides-made : (areas update : ℕ) → Decides (can_be_made areas update) (CanBeMade areas update)
+Decides-made areas update =
+    let above = Decides-and (nat_le areas 20000) (nat_le update 999) (Decides-le areas 20000) (Decides-le update 999) in
+    Decides-like (can_be_made areas update)
+    (λ h. record { areas_in = (h.0, h.1.0); update_in = h.1.1 })
+    (λ m. (m.areas_in.0, (m.areas_in.1, m.update_in)))
+    (Decides-and (nat_le 1 areas) (nat_le areas 20000 && nat_le update 999) (Decides-le 1 areas) above)
 
 pub no_short : (text : List ℕ) → ¬ IsShortNumber text → is_short_number text ≡ false
 no_short text other = false_from_ne_true (is_short_number text) (λ is. other ((Decides-short text).0 is))

@@ -1,5 +1,6 @@
 -- What the lines of a script are: words parted by single spaces, and what they ask for.
-use Rattle.std.specs.Prelude.{◌≡◌, ℕ, List, [], ◌∷◌, codes, ⊤}
+use Rattle.std.specs.Prelude.{◌≡◌, ◌≤◌, ℕ, List, [], ◌∷◌, codes, ⊤}
+use Rattle.std.specs.Int.{IsInRange}
 use Rattle.std.specs.List.{join_with_byte}
 use Rattle.chart_model.specs.Key.{IsKey}
 use Rattle.text_scan.specs.Number.{value_of}
@@ -7,6 +8,7 @@ use Rattle.script_reader.specs.Word.{IsWord}
 use Rattle.script_reader.specs.Number.{IsShortNumber}
 use Rattle.script_reader.specs.declared.event.Event.{Event}
 use Rattle.script_reader.specs.declared.event.Event.TheVariants.{Info, Load, Rollback, Drop, Cells, Draw, Route}
+use Rattle.script_reader.specs.declared.event.Event.TheVariants.{Make, Reissue}
 
 -- `rollback`, a cell and the digits of an update's number
 pub record AskForRollback (cell : List ℕ) (update : ℕ) (words : List (List ℕ)) : Type 0 where
@@ -15,6 +17,22 @@ pub record AskForRollback (cell : List ℕ) (update : ℕ) (words : List (List �
   pub key : IsKey cell
   pub short : IsShortNumber digits
   pub value : update ≡ value_of digits
+
+-- so many areas, 1 to 20,000, and the number of an update, up to 999, where 0 is the base file
+pub record CanBeMade (areas update : ℕ) : Type 0 where
+  pub areas_in : IsInRange 1 20000 areas
+  pub update_in : update ≤ 999
+
+-- `make`, the digits of a number of areas, and those of the number of an update
+pub record AskForMake (areas update : ℕ) (words : List (List ℕ)) : Type 0 where
+  pub area_digits : List ℕ
+  pub update_digits : List ℕ
+  pub spoken : words ≡ codes "make" ∷ area_digits ∷ update_digits ∷ []
+  pub areas_short : IsShortNumber area_digits
+  pub update_short : IsShortNumber update_digits
+  pub areas_value : areas ≡ value_of area_digits
+  pub update_value : update ≡ value_of update_digits
+  pub ranges : CanBeMade areas update
 
 -- the words that ask for an event: a verb, and the words that it takes
 abbrev pub AskFor : Event → List (List ℕ) → Type 0
@@ -25,6 +43,8 @@ AskFor (Drop cell) words = (words ≡ codes "drop" ∷ cell ∷ []) × IsKey cel
 AskFor Cells words = words ≡ codes "cells" ∷ []
 AskFor (Draw cell) words = (words ≡ codes "draw" ∷ cell ∷ []) × IsKey cell
 AskFor (Route name) words = (words ≡ codes "route" ∷ name ∷ []) × IsWord name
+AskFor (Make areas update) words = AskForMake areas update words
+AskFor (Reissue cell) words = (words ≡ codes "reissue" ∷ cell ∷ []) × IsKey cell
 
 -- the events that name a file
 abbrev pub NamesFile : Event → Type 0
@@ -35,6 +55,20 @@ NamesFile (Drop cell) = ⊥
 NamesFile Cells = ⊥
 NamesFile (Draw cell) = ⊥
 NamesFile (Route name) = ⊤
+NamesFile (Make areas update) = ⊥
+NamesFile (Reissue cell) = ⊥
+
+-- the numbers of an event are in the ranges that its line has
+abbrev pub AreInRange : Event → Type 0
+AreInRange (Info name) = ⊤
+AreInRange (Load name) = ⊤
+AreInRange (Rollback cell update) = ⊤
+AreInRange (Drop cell) = ⊤
+AreInRange Cells = ⊤
+AreInRange (Draw cell) = ⊤
+AreInRange (Route name) = ⊤
+AreInRange (Make areas update) = CanBeMade areas update
+AreInRange (Reissue cell) = ⊤
 
 -- the line is such words, parted by single spaces, with nothing before the first and nothing behind the last
 pub record Spells (line : List ℕ) (event : Event) : Type 0 where

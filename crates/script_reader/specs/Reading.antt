@@ -1,5 +1,5 @@
 -- What a line asks for, as a function.
-use Rattle.std.specs.Prelude.{◌≡◌, ℕ, Bool, true, ◌&&◌, ◌==◌, if◌then◌else◌, List, [], ◌∷◌, codes}
+use Rattle.std.specs.Prelude.{◌≡◌, ℕ, nat_le, Bool, true, ◌&&◌, ◌==◌, if◌then◌else◌, List, [], ◌∷◌, codes}
 use Rattle.std.specs.Prelude.{Option, Some, None, Result, Ok, Err}
 use Rattle.std.specs.List.{slice_split}
 use Rattle.std.specs.Str.{bytes_eq}
@@ -9,6 +9,7 @@ use Rattle.script_reader.specs.Word.{is_word}
 use Rattle.script_reader.specs.Number.{is_short_number}
 use Rattle.script_reader.specs.declared.event.Event.{Event}
 use Rattle.script_reader.specs.declared.event.Event.TheVariants.{Info, Load, Rollback, Drop, Cells, Draw, Route}
+use Rattle.script_reader.specs.declared.event.Event.TheVariants.{Make, Reissue}
 use Rattle.script_reader.specs.declared.fault.LineFault.{LineFault}
 use Rattle.script_reader.specs.Line.{NamesFile}
 use Rattle.script_reader.specs.declared.fault.LineFault.TheVariants.{BadLine, NoMemory}
@@ -37,6 +38,19 @@ draw_in cell = if is_key cell then Some (Draw cell) else None
 abbrev pub route_in : List ℕ → Option Event
 route_in name = if is_word name then Some (Route name) else None
 
+abbrev pub can_be_made : ℕ → ℕ → Bool
+can_be_made areas update = nat_le 1 areas && (nat_le areas 20000 && nat_le update 999)
+
+abbrev pub make_with : ℕ → ℕ → Option Event
+make_with areas update = if can_be_made areas update then Some (Make areas update) else None
+
+abbrev pub make_in : List ℕ → List ℕ → Option Event
+make_in areas update =
+    if is_short_number areas && is_short_number update then make_with (value_of areas) (value_of update) else None
+
+abbrev pub reissue_in : List ℕ → Option Event
+reissue_in cell = if is_key cell then Some (Reissue cell) else None
+
 -- a verb that takes no word, one word, or two
 abbrev pub event_alone : List ℕ → Option Event
 event_alone verb = if bytes_eq verb (codes "cells") then Some Cells else None
@@ -48,10 +62,14 @@ event_with_one verb word =
     else if bytes_eq verb (codes "drop") then drop_in word
     else if bytes_eq verb (codes "draw") then draw_in word
     else if bytes_eq verb (codes "route") then route_in word
+    else if bytes_eq verb (codes "reissue") then reissue_in word
     else None
 
 abbrev pub event_with_two : List ℕ → List ℕ → List ℕ → Option Event
-event_with_two verb first second = if bytes_eq verb (codes "rollback") then rollback_in first second else None
+event_with_two verb first second =
+    if bytes_eq verb (codes "rollback") then rollback_in first second
+    else if bytes_eq verb (codes "make") then make_in first second
+    else None
 
 -- what words ask for
 unfoldable pub event_of : List (List ℕ) → Option Event

@@ -4,7 +4,7 @@ use Rattle.std.specs.List.{join_with_byte}
 use Rattle.text_scan.specs.Written.{decimal_of}
 use Rattle.script_reader.specs.declared.reply.Reply.{Reply}
 use Rattle.script_reader.specs.declared.reply.Reply.TheVariants.{Info, Load, Cancel, Rollback, Drop, Cells, Draw}
-use Rattle.script_reader.specs.declared.reply.Reply.TheVariants.{Route, Refused}
+use Rattle.script_reader.specs.declared.reply.Reply.TheVariants.{Route, Make, Reissue, Refused}
 
 -- the decimal text of a number
 abbrev pub number : ℕ → List ℕ
@@ -31,4 +31,8 @@ printed (Cells count lines) = line_of (codes "ok" ∷ codes "cells" ∷ number c
 printed (Draw key count lines) = line_of (codes "ok" ∷ codes "draw" ∷ key ∷ number count ∷ []) ++ lines
 printed (Route legs count lines) =
     line_of (codes "ok" ∷ codes "route" ∷ number legs ∷ number count ∷ []) ++ lines
+printed (Make key edition update records) =
+    line_of (codes "ok" ∷ codes "make" ∷ key ∷ number edition ∷ number update ∷ number records ∷ [])
+printed (Reissue key edition update) =
+    line_of (codes "ok" ∷ codes "reissue" ∷ key ∷ number edition ∷ number update ∷ [])
 printed (Refused code values) = line_of (codes "no" ∷ number code ∷ words_if values)

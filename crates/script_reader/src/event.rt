@@ -5,12 +5,19 @@ ghost use Rattle.script_reader.specs.declared.event.Event.{Event as EventValue};
 ghost use Rattle.script_reader.specs.declared.event.Event.TheVariants.{Info, Load, Route};
 ghost use Rattle.script_reader.specs.Line.{NamesFile};
 ghost use Rattle.script_reader.specs.Reading.{info_in, load_in, rollback_in, drop_in, draw_in, route_in};
+ghost use Rattle.script_reader.specs.Reading.{make_in, make_with, reissue_in};
 ghost use Rattle.script_reader.specs.Reading.{words_of, event_alone, event_with_one, event_with_two, event_of};
 
 use crate::word::Word;
 use crate::words::{cut_word, read_short};
 use chart_model::{Key, keys_are_tested};
 use std::alloc::{AllocError, Global};
+
+/// The most areas of a cell that is made.
+const MOST_AREAS: u32 = 20_000;
+
+/// The last update of such a cell.
+const LAST_UPDATE: u32 = 999;
 
 /// What a line of the script asks for.
 #[derive(Debug, Drop)]
@@ -29,6 +36,11 @@ pub enum Event {
     Draw(Key),
     /// The dangers along the route of the file of this name are listed.
     Route(Word),
+    /// A file is made and taken over: of the cell for trials with so many areas, 1 to 20,000, the base file where the
+    /// second number is 0, or else its update of this number, 1 to 999.
+    Make(u32, u32),
+    /// The chart of the cell is written as a base file, which is taken over.
+    Reissue(Key),
 }
 
 /// What a verb alone asks for.
@@ -103,6 +115,35 @@ fn route_of(alloc: Global, word: &[u8]) -> Result<Option<Event>, AllocError>
     }
 }
 
+/// So many areas and the number of an update, where there is such a file.
+fn make_with(areas: u32, update: u32) -> Option<Event>
+    ensures { result ≡ make_with areas update }
+{
+    if 1 <= areas && areas <= MOST_AREAS && update <= LAST_UPDATE {
+        Some(Event::Make(areas, update))
+    } else {
+        None
+    }
+}
+
+/// `make`, a number of areas and the number of an update.
+fn make_of(areas: &[u8], update: &[u8]) -> Option<Event>
+    ensures { result ≡ make_in areas.now update.now }
+{
+    let areas = read_short(areas)?;
+    let update = read_short(update)?;
+    make_with(areas, update)
+}
+
+/// `reissue` and a cell.
+fn reissue_of(cell: &[u8]) -> Option<Event>
+    ensures { result ≡ reissue_in cell.now }
+{
+    keys_are_tested();
+    let cell = Key::from_bytes(cell)?;
+    Some(Event::Reissue(cell))
+}
+
 /// What a verb and one word ask for.
 fn event_with_one(alloc: Global, verb: &[u8], word: &[u8]) -> Result<Option<Event>, AllocError>
     ensures event { IfOk result (λ event. event ≡ event_with_one verb.now word.now) }
@@ -119,6 +160,8 @@ fn event_with_one(alloc: Global, verb: &[u8], word: &[u8]) -> Result<Option<Even
         Ok(draw_of(word))
     } else if verb == b"route".as_slice() {
         route_of(alloc, word)
+    } else if verb == b"reissue".as_slice() {
+        Ok(reissue_of(word))
     } else {
         Ok(None)
     }
@@ -130,6 +173,8 @@ fn event_with_two(verb: &[u8], first: &[u8], second: &[u8]) -> Option<Event>
 {
     if verb == b"rollback".as_slice() {
         rollback_of(first, second)
+    } else if verb == b"make".as_slice() {
+        make_of(first, second)
     } else {
         None
     }

@@ -4,7 +4,7 @@ ghost use Rattle.std.specs.Prelude.{◌≡◌, ◌↔◌, ◌<◌, ◌≤◌, �
 ghost use Rattle.script_reader.specs.declared.event.Event.{Event};
 ghost use Rattle.script_reader.specs.declared.fault.LineFault.{LineFault};
 ghost use Rattle.script_reader.specs.declared.fault.LineFault.TheVariants.{BadLine};
-ghost use Rattle.script_reader.specs.Line.{Spells, IsSilent, IsBad};
+ghost use Rattle.script_reader.specs.Line.{AreInRange, Spells, IsSilent, IsBad};
 ghost use Rattle.script_reader.specs.Reading.{event_in};
 ghost use Rattle.script_reader.specs.Reply.{printed};
 ghost use Rattle.script_reader.specs.declared.reply.Reply.{Reply};
@@ -13,7 +13,7 @@ use chart_model::keys_are_tested;
 
 /// The function that definitions cite gives the event that a line spells, and a line spells one event at
 /// most. It gives none exactly for a silent line, and a fault, which has the line's number, exactly for a
-/// bad one.
+/// bad one. The numbers of an event are in the ranges of its line.
 pub fn lines_are_read()
     ensures event { (number : ℕ) (line : List ℕ) (event : Event) →
         (event_in number line ≡ Ok (Some event)) ↔ Spells line event }
@@ -21,6 +21,7 @@ pub fn lines_are_read()
     ensures bad { (number : ℕ) (line : List ℕ) (fault : LineFault) →
         (event_in number line ≡ Err fault) ↔ ((fault ≡ BadLine number) × IsBad line) }
     ensures one { (line : List ℕ) (a b : Event) → Spells line a → Spells line b → a ≡ b }
+    ensures ranges { (line : List ℕ) (event : Event) → Spells line event → AreInRange event }
 {
     keys_are_tested();
 }

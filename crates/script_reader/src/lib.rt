@@ -2,7 +2,8 @@
 //!
 //! A line is a verb and the words that it takes, parted by single spaces. Nothing stands before the
 //! first word, nor behind the last; a line feed and a carriage return are removed before. NAME is 1 to
-//! 255 visible ASCII characters (0x21 to 0x7E), CELL 1 to 32 of them, U 1 to 9 digits.
+//! 255 visible ASCII characters (0x21 to 0x7E), CELL 1 to 32 of them, N and U 1 to 9 digits; those of `make` are 1 to
+//! 20,000 and 0 to 999.
 //!
 //! - `info NAME`: what the file says of itself, `ok info KEY EDITION UPDATE RECORDS`;
 //! - `load NAME`: the file is taken over, `ok load KEY EDITION UPDATE`, or `ok cancel KEY`;
@@ -10,7 +11,10 @@
 //! - `drop CELL`: the cell is taken away, `ok drop KEY`;
 //! - `cells`: what is held, `ok cells COUNT` and a line for each cell;
 //! - `draw CELL`: the drawing of the cell, `ok draw KEY COUNT` and a line for each draw instruction;
-//! - `route NAME`: the dangers along a route, `ok route LEGS COUNT` and a line for each danger.
+//! - `route NAME`: the dangers along a route, `ok route LEGS COUNT` and a line for each danger;
+//! - `make N U`: a file of the cell for trials with N areas is made and taken over, its base file where U is 0, or else
+//!   its update U, `ok make KEY EDITION UPDATE RECORDS`;
+//! - `reissue CELL`: the chart of the cell is written and taken over, `ok reissue KEY EDITION UPDATE`.
 //!
 //! Nothing is replied to an empty line, nor to one that begins with `#`. Any other line is a bad line. A
 //! refusal is `no CODE`, and behind a space what it names, where it names anything.

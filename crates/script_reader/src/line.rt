@@ -3,7 +3,7 @@
 ghost use Rattle.std.specs.Prelude.{◌≡◌, ◌↔◌, ◌<◌, ◌≢◌, length, Some, None, Ok, Err};
 ghost use Rattle.script_reader.specs.declared.event.Event.{Event as EventValue};
 ghost use Rattle.script_reader.specs.declared.fault.LineFault.TheVariants.{BadLine, NoMemory};
-ghost use Rattle.script_reader.specs.Line.{Spells, IsSilent, IsBad, NamesFile};
+ghost use Rattle.script_reader.specs.Line.{AreInRange, Spells, IsSilent, IsBad, NamesFile};
 ghost use Rattle.script_reader.specs.Reading.{is_silent, event_in, Answers};
 
 use crate::event::{Event, event_on};
@@ -39,6 +39,7 @@ fn read(alloc: Global, line: &[u8], number: u64) -> Result<Option<Event>, LineFa
 /// Memory is taken for the name of a file alone.
 pub fn read_line(alloc: Global, line: &[u8], number: u64) -> Result<Option<Event>, LineFault>
     ensures found { (event : EventValue) → result ≡ Ok (Some event) → Spells line.now event }
+    ensures ranges { (event : EventValue) → result ≡ Ok (Some event) → AreInRange event }
     // No line that asks for an event is refused.
     ensures only { (event : EventValue) →
         Spells line.now event → result ≢ Err NoMemory → result ≡ Ok (Some event) }

@@ -28,6 +28,11 @@ pub enum Reply {
     /// So many legs of a route were checked, and so many dangers lie along them, with the lines that follow, each ended
     /// by a line feed.
     Route(u64, u64, Octets),
+    /// A file of this cell was made and taken over: the edition and the update that are held now, and the number of the
+    /// file's data records.
+    Make(Key, u32, u32, u64),
+    /// The chart of this cell was written and taken over: the edition and the update that are held now.
+    Reissue(Key, u32, u32),
     /// The line is refused: the refusal's code, and what it names, parted by single spaces.
     Refused(u8, Octets),
 }
@@ -71,18 +76,20 @@ fn print_held(
     Ok(line)
 }
 
-/// The line of what a file says of itself.
-fn print_info(
+/// The line of a verb, a cell, the edition and the update of a file or of what is held, and the number of the file's
+/// data records.
+fn print_file(
     alloc: Global,
+    verb: &[u8],
     key: &Key,
     edition: u32,
     update: u32,
     records: u64,
 ) -> Result<Octets, AllocError>
     ensures { IfOk result (λ line. line ≡ line_of
-        (codes "ok" ∷ codes "info" ∷ key.now ∷ number edition ∷ number update ∷ number records ∷ [])) }
+        (codes "ok" ∷ verb.now ∷ key.now ∷ number edition ∷ number update ∷ number records ∷ [])) }
 {
-    let mut line = accepted(alloc, b"info")?;
+    let mut line = accepted(alloc, verb)?;
     push_word(&mut line, key.as_slice())?;
     push_number(alloc, &mut line, edition as u64)?;
     push_number(alloc, &mut line, update as u64)?;
@@ -152,7 +159,7 @@ pub fn print_reply(alloc: Global, reply: &Reply) -> Result<Octets, AllocError>
 {
     match reply {
         Reply::Info(key, edition, update, records) => {
-            print_info(alloc, key, *edition, *update, *records)
+            print_file(alloc, b"info", key, *edition, *update, *records)
         }
         Reply::Load(key, edition, update) => print_held(alloc, b"load", key, *edition, *update),
         Reply::Cancel(key) => print_cell(alloc, b"cancel", key),
@@ -163,6 +170,12 @@ pub fn print_reply(alloc: Global, reply: &Reply) -> Result<Octets, AllocError>
         Reply::Cells(count, lines) => print_cells(alloc, *count, lines),
         Reply::Draw(key, count, lines) => print_drawing(alloc, key, *count, lines),
         Reply::Route(legs, count, lines) => print_route(alloc, *legs, *count, lines),
+        Reply::Make(key, edition, update, records) => {
+            print_file(alloc, b"make", key, *edition, *update, *records)
+        }
+        Reply::Reissue(key, edition, update) => {
+            print_held(alloc, b"reissue", key, *edition, *update)
+        }
         Reply::Refused(code, values) => print_refusal(alloc, *code, values),
     }
 }

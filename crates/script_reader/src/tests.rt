@@ -27,6 +27,14 @@ fn shown(alloc: Global, event: &Event) -> Result<Vec<u8>, AllocError> {
             Ok(text)
         }
         Event::Route(name) => Ok(format!(in alloc; "route {}", name.as_str())?.into_bytes()),
+        Event::Make(areas, update) => {
+            Ok(format!(in alloc; "make {areas} and {update}")?.into_bytes())
+        }
+        Event::Reissue(cell) => {
+            let mut text = Vec::from_slice(alloc, b"reissue ")?;
+            text.extend_from_slice(cell.as_slice())?;
+            Ok(text)
+        }
     }
 }
 
@@ -50,7 +58,7 @@ fn with_letters(alloc: Global, front: &[u8], count: usize) -> Result<Vec<u8>, Al
 }
 
 /// A line, and what it is read as.
-static LINES: [(&[u8], &[u8]); 44] = [
+static LINES: [(&[u8], &[u8]); 62] = [
     (b"", b"nothing"),
     (b"#", b"nothing"),
     (b"# cells", b"nothing"),
@@ -71,6 +79,11 @@ static LINES: [(&[u8], &[u8]); 44] = [
     (b"cells", b"cells"),
     (b"draw AA5TEST1", b"draw AA5TEST1"),
     (b"route passages/1", b"route passages/1"),
+    (b"make 1 0", b"make 1 and 0"),
+    (b"make 20000 999", b"make 20000 and 999"),
+    (b"make 000000100 000000007", b"make 100 and 7"),
+    (b"reissue AA5TEST1", b"reissue AA5TEST1"),
+    (b"reissue 1", b"reissue 1"),
     // no words, or not these
     (b" ", b"bad 7"),
     (b"\r", b"bad 7"),
@@ -94,6 +107,19 @@ static LINES: [(&[u8], &[u8]); 44] = [
     (b"route", b"bad 7"),
     (b"route X Y", b"bad 7"),
     (b"routes X", b"bad 7"),
+    (b"make", b"bad 7"),
+    (b"make 1", b"bad 7"),
+    (b"make 0 0", b"bad 7"),
+    (b"make 20001 0", b"bad 7"),
+    (b"make 1 1000", b"bad 7"),
+    (b"make 0000000001 0", b"bad 7"),
+    (b"make 1 0000000000", b"bad 7"),
+    (b"make 1 -1", b"bad 7"),
+    (b"make 1 ", b"bad 7"),
+    (b"make 1 0 0", b"bad 7"),
+    (b"reissue", b"bad 7"),
+    (b"reissue X 1", b"bad 7"),
+    (b"reissue 123456789012345678901234567890123", b"bad 7"),
     (b"rollback X", b"bad 7"),
     (b"rollback X 1234567890", b"bad 7"),
     (b"rollback X +1", b"bad 7"),
@@ -145,7 +171,7 @@ fn octets(alloc: Global, text: &[u8]) -> Result<Octets, AllocError> {
 #[test]
 fn replies(rt: HostRuntime) -> Result<(), Fail> {
     let key = Key::from_bytes(b"AA5TEST1").ok_or("a key")?;
-    let cases: [(Reply, &[u8]); 5] = [
+    let cases: [(Reply, &[u8]); 7] = [
         (
             Reply::Info(key, 1, 2, 18_446_744_073_709_551_615),
             b"ok info AA5TEST1 1 2 18446744073709551615\n",
@@ -157,6 +183,8 @@ fn replies(rt: HostRuntime) -> Result<(), Fail> {
             b"ok rollback AA5TEST1 3 4294967295\n",
         ),
         (Reply::Drop(key), b"ok drop AA5TEST1\n"),
+        (Reply::Make(key, 1, 10, 435), b"ok make AA5TEST1 1 10 435\n"),
+        (Reply::Reissue(key, 1, 2), b"ok reissue AA5TEST1 1 2\n"),
     ];
     for (at, (reply, bytes)) in cases.iter().enumerate() {
         let text = print_reply(rt.alloc(), reply)?;

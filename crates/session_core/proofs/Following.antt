@@ -1,5 +1,5 @@
 -- What turns follow from.
-use Rattle.std.proofs.Common.{◌≡◌, ℕ, true, false, cond, List, Option, Some, None, Result, Ok, Err, refl, sym, ◌∙◌, ap, subst, arith}
+use Rattle.std.proofs.Common.{◌≡◌, ℕ, zero, suc, true, false, cond, List, length, Option, Some, None, Result, Ok, Err, refl, sym, ◌∙◌, ap, subst, arith}
 use Rattle.chart_model.specs.Answers.{◌>>=◌, or_fault, or_fault_as}
 use Rattle.chart_model.specs.Cell.{CellValue}
 use Rattle.chart_model.specs.State.{StateValue}
@@ -34,7 +34,13 @@ use Rattle.route_check.specs.declared.fault.RouteFault.{RouteFault}
 use Rattle.route_check.specs.declared.fault.RouteFault.TheVariants as of_route
 use Rattle.route_check.specs.declared.route.Route.{Route}
 use Rattle.chart_model.specs.declared.settings.Settings.{Settings}
-use Rattle.session_core.specs.Turn.{decided, drop_reply, informed, load_reply, loaded, replied, rollback_reply, turn_of}
+use Rattle.cell_bytes.specs.Generator.{made_cell}
+use Rattle.cell_bytes.specs.Written.{data_records, written}
+use Rattle.cell_bytes.specs.declared.fault.WriteFault.{WriteFault}
+use Rattle.cell_bytes.specs.declared.fault.WriteFault.TheVariants as of_write
+use Rattle.session_core.specs.declared.written.MadeFile.{MadeFile}
+use Rattle.session_core.specs.Written.{file_with, made_file, or_refused as or_unwritten, reissued, update_of}
+use Rattle.session_core.specs.Turn.{decided, drop_reply, informed, load_reply, loaded, made, make_reply, reissue_reply, replied, rollback_reply, turn_of}
 
 -- ---- commands
 
@@ -97,31 +103,44 @@ nothing-some o command none some = absurd (let f : ◌≡◌ {A = Option Command
 
 -- ---- turns
 
-loaded-none : (model : Model) (file : Result (List ℕ) Refusal) → (loaded model file).command ≡ None → (loaded model file).model ≡ model
-loaded-none model (Ok file) e =
-    decided-none model (commands.Load file) load_reply (accepted model.state model.room (commands.Load file)) e
-loaded-none model (Err refusal) e = refl
+module _ (model : Model) (reply : Outcome → Reply) where
+  loaded-none : (file : Result (List ℕ) Refusal) → (loaded model reply file).command ≡ None → (loaded model reply file).model ≡ model
+  loaded-none (Ok file) e = decided-none model (commands.Load file) reply (accepted model.state model.room (commands.Load file)) e
+  loaded-none (Err refusal) e = refl
 
-loaded-some : (model : Model) (file : Result (List ℕ) Refusal) (command : Command) → (loaded model file).command ≡ Some command
-    → (loaded model file).model ≡ model_with model command (state_with model.state command)
-loaded-some model (Ok file) command e =
-    decided-some model (commands.Load file) load_reply (accepted model.state model.room (commands.Load file)) command refl e
-loaded-some model (Err refusal) command e = nothing-some None command refl e
+  loaded-some : (file : Result (List ℕ) Refusal) (command : Command) → (loaded model reply file).command ≡ Some command
+      → (loaded model reply file).model ≡ model_with model command (state_with model.state command)
+  loaded-some (Ok file) command e =
+      decided-some model (commands.Load file) reply (accepted model.state model.room (commands.Load file)) command refl e
+  loaded-some (Err refusal) command e = nothing-some None command refl e
+
+made-none : (model : Model) (file : Result MadeFile Refusal) → (made model file).command ≡ None → (made model file).model ≡ model
+made-none model (Ok file) e = loaded-none model (make_reply file.records) (Ok file.bytes) e
+made-none model (Err refusal) e = refl
+
+made-some : (model : Model) (file : Result MadeFile Refusal) (command : Command) → (made model file).command ≡ Some command
+    → (made model file).model ≡ model_with model command (state_with model.state command)
+made-some model (Ok file) command e = loaded-some model (make_reply file.records) (Ok file.bytes) command e
+made-some model (Err refusal) command e = nothing-some None command refl e
 
 abbrev pub More : Type 0
 More = (state : StateValue) (command : Command) → AreLive state.cells → AreLive (state_with state command).cells
 
-loaded-live : More → (model : Model) (file : Result (List ℕ) Refusal) → AreLive model.state.cells
-    → AreLive (loaded model file).model.state.cells
-loaded-live more model (Ok file) live =
-    decided-live model (commands.Load file) load_reply more (accepted model.state model.room (commands.Load file)) refl live
-loaded-live more model (Err refusal) live = live
+loaded-live : More → (model : Model) (reply : Outcome → Reply) (file : Result (List ℕ) Refusal) → AreLive model.state.cells
+    → AreLive (loaded model reply file).model.state.cells
+loaded-live more model reply (Ok file) live =
+    decided-live model (commands.Load file) reply more (accepted model.state model.room (commands.Load file)) refl live
+loaded-live more model reply (Err refusal) live = live
+
+made-live : More → (model : Model) (file : Result MadeFile Refusal) → AreLive model.state.cells → AreLive (made model file).model.state.cells
+made-live more model (Ok file) live = loaded-live more model (make_reply file.records) (Ok file.bytes) live
+made-live more model (Err refusal) live = live
 
 pub turn-none : (fetches : Fetches) (model : Model) (event : Event) → (turn_of fetches model event).command ≡ None
     → (turn_of fetches model event).model ≡ model
 unfolding turn_of
 turn-none fetches model (asks.Info name) e = informed-same model (info_of name (fetches FILE_LIMIT name))
-turn-none fetches model (asks.Load name) e = loaded-none model (file_in FILE_LIMIT name (fetches FILE_LIMIT name)) e
+turn-none fetches model (asks.Load name) e = loaded-none model load_reply (file_in FILE_LIMIT name (fetches FILE_LIMIT name)) e
 turn-none fetches model (asks.Rollback key update) e =
     decided-none model (commands.Rollback key update) rollback_reply (accepted model.state model.room (commands.Rollback key update)) e
 turn-none fetches model (asks.Drop key) e =
@@ -130,6 +149,8 @@ turn-none fetches model asks.Cells e = refl
 turn-none fetches model (asks.Draw key) e = replied-same model (draw_of model.portrayal model.state.cells key)
 turn-none fetches model (asks.Route name) e =
     replied-same model (route_of model.portrayal.settings model.state name (fetches ROUTE_LIMIT name))
+turn-none fetches model (asks.Make areas update) e = made-none model (made_file areas update) e
+turn-none fetches model (asks.Reissue key) e = loaded-none model reissue_reply (reissued model.state.cells key) e
 
 pub turn-some : (fetches : Fetches) (model : Model) (event : Event) (command : Command)
     → (turn_of fetches model event).command ≡ Some command
@@ -137,7 +158,7 @@ pub turn-some : (fetches : Fetches) (model : Model) (event : Event) (command : C
 unfolding turn_of
 turn-some fetches model (asks.Info name) command e =
     nothing-some (informed model (info_of name (fetches FILE_LIMIT name))).command command (informed-none model (info_of name (fetches FILE_LIMIT name))) e
-turn-some fetches model (asks.Load name) command e = loaded-some model (file_in FILE_LIMIT name (fetches FILE_LIMIT name)) command e
+turn-some fetches model (asks.Load name) command e = loaded-some model load_reply (file_in FILE_LIMIT name (fetches FILE_LIMIT name)) command e
 turn-some fetches model (asks.Rollback key update) command e =
     decided-some model (commands.Rollback key update) rollback_reply (accepted model.state model.room (commands.Rollback key update)) command refl e
 turn-some fetches model (asks.Drop key) command e =
@@ -149,13 +170,15 @@ turn-some fetches model (asks.Draw key) command e =
 turn-some fetches model (asks.Route name) command e =
     let reply = route_of model.portrayal.settings model.state name (fetches ROUTE_LIMIT name) in
     nothing-some (replied model reply).command command (replied-none model reply) e
+turn-some fetches model (asks.Make areas update) command e = made-some model (made_file areas update) command e
+turn-some fetches model (asks.Reissue key) command e = loaded-some model reissue_reply (reissued model.state.cells key) command e
 
 pub turn-live : More → (fetches : Fetches) (model : Model) (event : Event) → AreLive model.state.cells
     → AreLive (turn_of fetches model event).model.state.cells
 unfolding turn_of
 turn-live more fetches model (asks.Info name) live =
     subst (λ (m : Model). AreLive m.state.cells) (sym (informed-same model (info_of name (fetches FILE_LIMIT name)))) live
-turn-live more fetches model (asks.Load name) live = loaded-live more model (file_in FILE_LIMIT name (fetches FILE_LIMIT name)) live
+turn-live more fetches model (asks.Load name) live = loaded-live more model load_reply (file_in FILE_LIMIT name (fetches FILE_LIMIT name)) live
 turn-live more fetches model (asks.Rollback key update) live =
     decided-live model (commands.Rollback key update) rollback_reply more (accepted model.state model.room (commands.Rollback key update)) refl live
 turn-live more fetches model (asks.Drop key) live =
@@ -167,6 +190,8 @@ turn-live more fetches model (asks.Draw key) live =
 turn-live more fetches model (asks.Route name) live =
     let same = replied-same model (route_of model.portrayal.settings model.state name (fetches ROUTE_LIMIT name)) in
     subst (λ (m : Model). AreLive m.state.cells) (sym same) live
+turn-live more fetches model (asks.Make areas update) live = made-live more model (made_file areas update) live
+turn-live more fetches model (asks.Reissue key) live = loaded-live more model reissue_reply (reissued model.state.cells key) live
 
 -- ---- the mark of a failed fetch
 
@@ -224,7 +249,7 @@ load-apart values done e =
     ] e
 
 loaded-failed : (model : Model) (name : List ℕ) (o : Option Fetched) (values : List ℕ)
-    → Is72 values (loaded model (file_in FILE_LIMIT name o)).reply → o ≡ None
+    → Is72 values (loaded model load_reply (file_in FILE_LIMIT name o)).reply → o ≡ None
 loaded-failed model name None values e = refl
 loaded-failed model name (Some (Bytes file)) values e =
     absurd (decided-apart model (commands.Load file) load_reply values (load-apart values) (accepted model.state model.room (commands.Load file)) e)
@@ -281,6 +306,46 @@ route-failed model settings state name (Some (Bytes file)) values e = absurd (al
 route-failed model settings state name (Some Absent) values e = absurd (let f : 71 ≡ 72 = code_is e in omega arith)
 route-failed model settings state name (Some Long) values e = absurd (let f : 60 ≡ 72 = code_is e in omega arith)
 
+apart-64 : ◌≡◌ {A = ℕ} 64 72 → ⊥
+apart-64 e = omega (arith, e)
+
+apart-65 : ◌≡◌ {A = ℕ} 65 72 → ⊥
+apart-65 e = omega (arith, e)
+
+written-apart : (model : Model) (reply : Outcome → Reply) (values : List ℕ) → ((done : Outcome) → Is72 values (reply done) → ⊥)
+    → (r : Result (List ℕ) WriteFault) → Is72 values (loaded model reply (or_unwritten r)).reply → ⊥
+written-apart model reply values apart (Ok file) e =
+    decided-apart model (commands.Load file) reply values apart (accepted model.state model.room (commands.Load file)) e
+written-apart model reply values apart (Err (of_write.RecordLong name bytes)) e = apart-64 (code_is e)
+written-apart model reply values apart (Err (of_write.CellLong bytes)) e = apart-65 (code_is e)
+written-apart model reply values apart (Err of_write.NoMemory) e = apart-65 (code_is e)
+
+base-apart : (model : Model) (values : List ℕ) (records : ℕ) (r : Result (List ℕ) WriteFault)
+    → Is72 values (made model (or_unwritten r >>= λ bytes. Ok (file_with records bytes))).reply → ⊥
+base-apart model values records (Ok file) e =
+    decided-apart model (commands.Load file) (make_reply records) values (λ done f. cc) (accepted model.state model.room (commands.Load file)) e
+base-apart model values records (Err (of_write.RecordLong name bytes)) e = apart-64 (code_is e)
+base-apart model values records (Err (of_write.CellLong bytes)) e = apart-65 (code_is e)
+base-apart model values records (Err of_write.NoMemory) e = apart-65 (code_is e)
+
+made-apart : (model : Model) (values : List ℕ) (areas update : ℕ) → Is72 values (made model (made_file areas update)).reply → ⊥
+unfolding made_file
+made-apart model values areas zero e = base-apart model values (length (data_records (made_cell areas))) (written (made_cell areas)) e
+made-apart model values areas (suc before) e =
+    let file = update_of areas (suc before) in
+    decided-apart model (commands.Load file.bytes) (make_reply file.records) values (λ done f. cc) (accepted model.state model.room (commands.Load file.bytes)) e
+
+reissued-apart : (model : Model) (key values : List ℕ) → Is72 values (loaded model reissue_reply (reissued model.state.cells key)).reply → ⊥
+unfolding reissued
+reissued-apart model key values e =
+    elim (chart_of model.state.cells key) as (λ o. Is72 values (loaded model reissue_reply (written_by o)).reply → ⊥) [
+      | None ↦ λ f. store-apart (refuses.NoCell key) (code_is f)
+      | Some chart ↦ λ f. written-apart model reissue_reply values (λ done g. cc) (written chart) f
+    ] e
+  where
+    written_by : Option CellValue → Result (List ℕ) Refusal
+    written_by o = or_fault (Store (refuses.NoCell key)) o >>= λ chart. or_unwritten (written chart)
+
 pub turn-failed : (fetches : Fetches) (model : Model) (event : Event) (values : List ℕ)
     → (turn_of fetches model event).reply ≡ replies.Refused 72 values → (limit : ℕ) × ((name : List ℕ) × (fetches limit name ≡ None))
 unfolding turn_of
@@ -294,3 +359,5 @@ turn-failed fetches model asks.Cells values e = absurd cc
 turn-failed fetches model (asks.Draw key) values e = absurd (drawn-apart model key values e)
 turn-failed fetches model (asks.Route name) values e =
     (ROUTE_LIMIT, (name, route-failed model model.portrayal.settings model.state name (fetches ROUTE_LIMIT name) values e))
+turn-failed fetches model (asks.Make areas update) values e = absurd (made-apart model values areas update e)
+turn-failed fetches model (asks.Reissue key) values e = absurd (reissued-apart model key values e)

@@ -3,3 +3,4 @@ pub mod Fetching
 pub mod Turning
 pub mod Following
 pub mod Checking
+pub mod Writing

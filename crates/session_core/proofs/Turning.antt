@@ -26,7 +26,10 @@ use Rattle.session_core.specs.Listing.{listing}
 use Rattle.session_core.specs.Model.{Model}
 use Rattle.session_core.specs.Route.{ROUTE_LIMIT, route_of}
 use Rattle.session_core.specs.Session.{GivesEvent, Turned}
-use Rattle.session_core.specs.Turn.{Turn, commanded, drop_reply, informed, load_reply, loaded, replied, rollback_reply, turn_of}
+use Rattle.session_core.specs.declared.written.MadeFile.{MadeFile}
+use Rattle.session_core.specs.Written.{made_file, reissued}
+use Rattle.session_core.specs.Turn.{Turn, commanded, drop_reply, informed, load_reply, loaded, made, make_reply, reissue_reply, replied, rollback_reply, turn_of}
+use Rattle.chart_store.specs.Loaded.{Outcome}
 use Rattle.session_core.proofs.Fetching.{passed-is}
 
 -- the desk was not called
@@ -51,11 +54,17 @@ informed-fails before (Refused refusal) wanted h = (ap (informed before) h, refl
 informed-fails before DeskFault wanted h = refl
 informed-fails before NoMemory wanted h = refl
 
-loaded-fails : (before : Model) (fault : EventFault) (wanted : Result (List ℕ) Refusal) → Gives {A = List ℕ} (Err fault) wanted
-    → GivesEvent (Err fault) before before (loaded before wanted)
-loaded-fails before (Refused refusal) wanted h = (ap (loaded before) h, refl)
-loaded-fails before DeskFault wanted h = refl
-loaded-fails before NoMemory wanted h = refl
+loaded-fails : (before : Model) (reply : Outcome → Reply) (fault : EventFault) (wanted : Result (List ℕ) Refusal) → Gives {A = List ℕ} (Err fault) wanted
+    → GivesEvent (Err fault) before before (loaded before reply wanted)
+loaded-fails before reply (Refused refusal) wanted h = (ap (loaded before reply) h, refl)
+loaded-fails before reply DeskFault wanted h = refl
+loaded-fails before reply NoMemory wanted h = refl
+
+made-fails : (before : Model) (fault : EventFault) (wanted : Result MadeFile Refusal) → Gives {A = MadeFile} (Err fault) wanted
+    → GivesEvent (Err fault) before before (made before wanted)
+made-fails before (Refused refusal) wanted h = (ap (made before) h, refl)
+made-fails before DeskFault wanted h = refl
+made-fails before NoMemory wanted h = refl
 
 replied-gives : (before : Model) (r : Result Reply EventFault) (wanted : Result Reply Refusal) → Gives {A = Reply} r wanted
     → GivesEvent r before before (replied before wanted)
@@ -111,9 +120,9 @@ module _ (A : Fetches → Type 0) (L : (Images → List ℕ → Type 0) → Type
       asked (GivesEvent r before before) (asks.Load name) is (record {
         fetches = found.0;
         answers = found.1;
-        gives = passed-event r fault before before (loaded before (file_in FILE_LIMIT name (found.0 FILE_LIMIT name))) passed
-            (loaded-fails before fault (file_in FILE_LIMIT name (found.0 FILE_LIMIT name)) found.2);
-        leaves = leaves (loaded before (file_in FILE_LIMIT name (found.0 FILE_LIMIT name))).model.state;
+        gives = passed-event r fault before before (loaded before load_reply (file_in FILE_LIMIT name (found.0 FILE_LIMIT name))) passed
+            (loaded-fails before load_reply fault (file_in FILE_LIMIT name (found.0 FILE_LIMIT name)) found.2);
+        leaves = leaves (loaded before load_reply (file_in FILE_LIMIT name (found.0 FILE_LIMIT name))).model.state;
       })
 
   -- what comes of the command of a file that was fetched
@@ -127,9 +136,71 @@ module _ (A : Fetches → Type 0) (L : (Images → List ℕ → Type 0) → Type
       asked (GivesEvent r before now) (asks.Load name) is (record {
         fetches = found.0;
         answers = found.1;
-        gives = subst (λ (o : Result (List ℕ) Refusal). GivesEvent r before now (loaded before o)) (sym found.2) given;
-        leaves = subst (λ (o : Result (List ℕ) Refusal). L (StandsForEither said before.state (loaded before o).model.state))
+        gives = subst (λ (o : Result (List ℕ) Refusal). GivesEvent r before now (loaded before load_reply o)) (sym found.2) given;
+        leaves = subst (λ (o : Result (List ℕ) Refusal). L (StandsForEither said before.state (loaded before load_reply o).model.state))
             (sym found.2) leaves;
+      })
+
+  pub make-fails : (fetches : Fetches) (areas update : ℕ) (r : Result Reply EventFault) (fault : EventFault) → event ≡ asks.Make areas update
+      → A fetches → IsErrAnd r (λ passed. passed ≡ fault) → Gives {A = MadeFile} (Err fault) (made_file areas update)
+      → ((after : StateValue) → L (StandsForEither said before.state after))
+      → Turned A L said event before (GivesEvent r before before)
+  unfolding turn_of
+  make-fails fetches areas update r fault is answers passed given leaves =
+      asked (GivesEvent r before before) (asks.Make areas update) is (record {
+        fetches = fetches;
+        answers = answers;
+        gives = passed-event r fault before before (made before (made_file areas update)) passed
+            (made-fails before fault (made_file areas update) given);
+        leaves = leaves (made before (made_file areas update)).model.state;
+      })
+
+  -- what comes of the command of a file that was made
+  pub make-turns : (fetches : Fetches) (areas update : ℕ) (file : MadeFile) (r : Result Reply EventFault) (now : Model)
+      → event ≡ asks.Make areas update → A fetches → made_file areas update ≡ Ok file
+      → GivesEvent r before now (commanded before (commands.Load file.bytes) (make_reply file.records))
+      → L (StandsForEither said before.state (commanded before (commands.Load file.bytes) (make_reply file.records)).model.state)
+      → Turned A L said event before (GivesEvent r before now)
+  unfolding turn_of
+  make-turns fetches areas update file r now is answers found given leaves =
+      asked (GivesEvent r before now) (asks.Make areas update) is (record {
+        fetches = fetches;
+        answers = answers;
+        gives = subst (λ (o : Result MadeFile Refusal). GivesEvent r before now (made before o)) (sym found) given;
+        leaves = subst (λ (o : Result MadeFile Refusal). L (StandsForEither said before.state (made before o).model.state))
+            (sym found) leaves;
+      })
+
+  pub reissue-fails : (fetches : Fetches) (cells : HoldingsByKey) (key : List ℕ) (r : Result Reply EventFault) (fault : EventFault)
+      → event ≡ asks.Reissue key → A fetches → cells ≡ before.state.cells → IsErrAnd r (λ passed. passed ≡ fault)
+      → Gives {A = List ℕ} (Err fault) (reissued cells key) → ((after : StateValue) → L (StandsForEither said before.state after))
+      → Turned A L said event before (GivesEvent r before before)
+  unfolding turn_of
+  reissue-fails fetches cells key r fault is answers same passed given leaves =
+      asked (GivesEvent r before before) (asks.Reissue key) is (record {
+        fetches = fetches;
+        answers = answers;
+        gives = passed-event r fault before before (loaded before reissue_reply (reissued before.state.cells key)) passed
+            (loaded-fails before reissue_reply fault (reissued before.state.cells key)
+            (subst (λ (held : HoldingsByKey). Gives {A = List ℕ} (Err fault) (reissued held key)) same given));
+        leaves = leaves (loaded before reissue_reply (reissued before.state.cells key)).model.state;
+      })
+
+  -- what comes of the command of a chart that was written
+  pub reissue-turns : (fetches : Fetches) (cells : HoldingsByKey) (key file : List ℕ) (r : Result Reply EventFault) (now : Model)
+      → event ≡ asks.Reissue key → A fetches → cells ≡ before.state.cells → reissued cells key ≡ Ok file
+      → GivesEvent r before now (commanded before (commands.Load file) reissue_reply)
+      → L (StandsForEither said before.state (commanded before (commands.Load file) reissue_reply).model.state)
+      → Turned A L said event before (GivesEvent r before now)
+  unfolding turn_of
+  reissue-turns fetches cells key file r now is answers same found given leaves =
+      let written : reissued before.state.cells key ≡ Ok file = ap (λ (held : HoldingsByKey). reissued held key) (sym same) ∙ found in
+      asked (GivesEvent r before now) (asks.Reissue key) is (record {
+        fetches = fetches;
+        answers = answers;
+        gives = subst (λ (o : Result (List ℕ) Refusal). GivesEvent r before now (loaded before reissue_reply o)) (sym written) given;
+        leaves = subst (λ (o : Result (List ℕ) Refusal). L (StandsForEither said before.state (loaded before reissue_reply o).model.state))
+            (sym written) leaves;
       })
 
   pub rollback-turns : (fetches : Fetches) (key : List ℕ) (update : ℕ) (r : Result Reply EventFault) (now : Model)

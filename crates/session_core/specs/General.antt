@@ -7,10 +7,11 @@ use Rattle.iso8211_records.specs.FileValue.{FileValue}
 use Rattle.iso8211_records.specs.RecordFile.{record_file_of}
 use Rattle.iso8211_records.specs.declared.fault.FileFault.{FileFault}
 use Rattle.iso8211_records.specs.declared.record.RawField.{RawField}
-use Rattle.s57_fields.specs.Files.{record_at, dsid_at}
-use Rattle.s57_fields.specs.Texts.{key_in}
-use Rattle.s57_fields.specs.declared.general.Dsid.{Dsid}
-use Rattle.s57_records.specs.Readings.{widened}
+use Rattle.s57_fields.specs.Files.{record_at}
+use Rattle.s57_fields.specs.Dsid.{dsid_at}
+use Rattle.s57_subfields.specs.Texts.{key_in}
+use Rattle.s57_fields.specs.declared.dsid.Dsid.{Dsid}
+use Rattle.s57_records.specs.LayoutReadings.{widened}
 use Rattle.s57_records.specs.declared.fault.DatasetFault.{DatasetFault}
 use Rattle.s57_records.specs.declared.fault.DatasetFault.TheVariants.{NoGeneral}
 use Rattle.update_sequence.specs.Reading.{fault_of_file, fault_of_records}

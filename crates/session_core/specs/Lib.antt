@@ -8,5 +8,6 @@ pub mod Answers
 pub mod Model
 pub mod Draw
 pub mod Route
+pub mod Written
 pub mod Turn
 pub mod Session

@@ -7,8 +7,8 @@ use Rattle.script_reader.specs.Reply.{number}
 use Rattle.script_reader.specs.declared.reply.Reply.{Reply}
 use Rattle.script_reader.specs.declared.reply.Reply.TheVariants.{Refused}
 use Rattle.session_core.specs.declared.refusal.Refusal.{Refusal}
-use Rattle.session_core.specs.declared.refusal.Refusal.TheVariants.{RouteLine, RouteFew, RouteMany}
-use Rattle.session_core.specs.declared.refusal.Refusal.TheVariants.{BadLine, NoFile, ShelfFault, Store}
+use Rattle.session_core.specs.declared.refusal.Refusal.TheVariants.{RecordLong, CellLong, RouteLine, RouteFew}
+use Rattle.session_core.specs.declared.refusal.Refusal.TheVariants.{RouteMany, BadLine, NoFile, ShelfFault, Store}
 
 -- numbers as they are printed
 abbrev pub numbers : List ℕ → List (List ℕ)
@@ -90,6 +90,8 @@ store_values (refuses.NoUpdate key update) = key ∷ number update ∷ []
 
 -- the number that says why a line is refused
 abbrev pub code_of : Refusal → ℕ
+code_of (RecordLong name bytes) = 64
+code_of (CellLong bytes) = 65
 code_of (RouteLine line) = 66
 code_of (RouteFew points) = 67
 code_of (RouteMany points) = 68
@@ -100,6 +102,8 @@ code_of (Store refusal) = store_code refusal
 
 -- what it names
 abbrev pub values_of : Refusal → List (List ℕ)
+values_of (RecordLong name bytes) = numbers (name.rcnm ∷ name.rcid ∷ bytes ∷ [])
+values_of (CellLong bytes) = numbers (bytes ∷ [])
 values_of (RouteLine line) = numbers (line ∷ [])
 values_of (RouteFew points) = numbers (points ∷ [])
 values_of (RouteMany points) = numbers (points ∷ [])

@@ -13,6 +13,7 @@ use Rattle.script_reader.specs.declared.reply.Reply.TheVariants as replies
 use Rattle.session_core.specs.declared.general.General.{General}
 use Rattle.session_core.specs.declared.refusal.Refusal.{Refusal}
 use Rattle.session_core.specs.declared.refusal.Refusal.TheVariants.{Store}
+use Rattle.session_core.specs.declared.written.MadeFile.{MadeFile}
 use Rattle.session_core.specs.Draw.{draw_of}
 use Rattle.session_core.specs.Fetch.{Fetches, file_in}
 use Rattle.session_core.specs.Info.{info_of}
@@ -20,6 +21,7 @@ use Rattle.session_core.specs.Listing.{listing}
 use Rattle.session_core.specs.Model.{Model, model_with}
 use Rattle.session_core.specs.Refusal.{reply_of}
 use Rattle.session_core.specs.Route.{ROUTE_LIMIT, route_of}
+use Rattle.session_core.specs.Written.{made_file, reissued}
 
 -- what is replied, the command that is accepted, where one is, and the model after it
 pub record Turn : Type 0 where
@@ -67,15 +69,27 @@ rollback_reply done = replies.Rollback done.key done.held.edition done.held.upda
 abbrev pub drop_reply : Outcome → Reply
 drop_reply done = replies.Drop done.key
 
--- a file that was fetched is loaded
-abbrev pub loaded : Model → Result (List ℕ) Refusal → Turn
-loaded model (Ok file) = commanded model (commands.Load file) load_reply
-loaded model (Err refusal) = refused model refusal
+-- a file of so many data records was made and taken over
+abbrev pub make_reply : ℕ → Outcome → Reply
+make_reply records done = replies.Make done.key done.held.edition done.held.update records
+
+abbrev pub reissue_reply : Outcome → Reply
+reissue_reply done = replies.Reissue done.key done.held.edition done.held.update
+
+-- a file that was fetched or written is loaded
+abbrev pub loaded : Model → (Outcome → Reply) → Result (List ℕ) Refusal → Turn
+loaded model reply (Ok file) = commanded model (commands.Load file) reply
+loaded model reply (Err refusal) = refused model refusal
+
+-- so is one that was made: the reply has the number of its data records
+abbrev pub made : Model → Result MadeFile Refusal → Turn
+made model (Ok file) = commanded model (commands.Load file.bytes) (make_reply file.records)
+made model (Err refusal) = refused model refusal
 
 -- the turn of each event, by what the shelf answers
 unfoldable pub turn_of : Fetches → Model → Event → Turn
 turn_of fetches model (asks.Info name) = informed model (info_of name (fetches FILE_LIMIT name))
-turn_of fetches model (asks.Load name) = loaded model (file_in FILE_LIMIT name (fetches FILE_LIMIT name))
+turn_of fetches model (asks.Load name) = loaded model load_reply (file_in FILE_LIMIT name (fetches FILE_LIMIT name))
 turn_of fetches model (asks.Rollback key update) = commanded model (commands.Rollback key update) rollback_reply
 turn_of fetches model (asks.Drop key) = commanded model (commands.Drop key) drop_reply
 turn_of fetches model asks.Cells =
@@ -83,3 +97,5 @@ turn_of fetches model asks.Cells =
 turn_of fetches model (asks.Draw key) = replied model (draw_of model.portrayal model.state.cells key)
 turn_of fetches model (asks.Route name) =
     replied model (route_of model.portrayal.settings model.state name (fetches ROUTE_LIMIT name))
+turn_of fetches model (asks.Make areas update) = made model (made_file areas update)
+turn_of fetches model (asks.Reissue key) = loaded model reissue_reply (reissued model.state.cells key)

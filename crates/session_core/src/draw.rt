@@ -21,7 +21,7 @@ use std::sync::ledger::Ledger;
 use topology_cache::users_of;
 
 /// The chart of a cell, where the cell is held and not cancelled.
-fn chart_of<'a>(cells: &'a HoldingMap, key: Key) -> Option<&'a Cell>
+pub fn chart_of<'a>(cells: &'a HoldingMap, key: Key) -> Option<&'a Cell>
     ensures { option_copied result ≡ chart_of cells.now key }
 {
     cells.get(key)?.chart.as_ref()

@@ -5,6 +5,7 @@ ghost use Rattle.session_core.specs.declared.fault.EventFault.TheVariants.{NoMem
 ghost use Rattle.session_core.specs.declared.fault.TurnFault.TheVariants.{NoMemory};
 
 use crate::refusal::Refusal;
+use cell_writer::WriteFault;
 use chart_ports::ShelfError;
 use chart_store::{SubmitFault, TakeFault};
 use route_check::RouteFault;
@@ -97,6 +98,23 @@ impl From<RouteFault> for EventFault {
             RouteFault::Few(points) => EventFault::Refused(Refusal::RouteFew(points)),
             RouteFault::Many(points) => EventFault::Refused(Refusal::RouteMany(points)),
             RouteFault::NoMemory => EventFault::NoMemory,
+        }
+    }
+}
+
+impl From<WriteFault> for EventFault {
+    ghost use Rattle.std.specs.Prelude.{◌≡◌};
+    ghost use Rattle.session_core.specs.Written.{fault_of_write};
+
+    ghost from_gives = { λ fault e. e ≡ fault_of_write fault };
+
+    fn from(fault: WriteFault) -> EventFault {
+        match fault {
+            WriteFault::RecordLong(name, bytes) => {
+                EventFault::Refused(Refusal::RecordLong(name, bytes))
+            }
+            WriteFault::CellLong(bytes) => EventFault::Refused(Refusal::CellLong(bytes)),
+            WriteFault::NoMemory => EventFault::NoMemory,
         }
     }
 }

@@ -2,7 +2,7 @@
 
 ghost use Rattle.std.specs.Prelude.{◌≡◌, IfOk};
 ghost use Rattle.chart_model.specs.Key.{IsKey};
-ghost use Rattle.s57_fields.specs.Texts.{key_in};
+ghost use Rattle.s57_subfields.specs.Texts.{key_in};
 ghost use Rattle.s57_records.specs.Answers.{Gives};
 ghost use Rattle.update_sequence.specs.Answers.{GivesRead};
 ghost use Rattle.session_core.specs.General.{has_dsid, names_itself, dsid_of, general_of, general_in};
@@ -10,8 +10,9 @@ ghost use Rattle.session_core.specs.General.{has_dsid, names_itself, dsid_of, ge
 use chart_model::Key;
 use chart_ports::Steps;
 use iso8211_records::{RawField, RecordFile, read_file};
-use s57_fields::{Dsid, key_in, read_dsid, tags};
+use s57_fields::{Dsid, read_dsid};
 use s57_records::DatasetFault;
+use s57_subfields::{key_in, tags};
 use std::alloc::Global;
 use std::sync::ledger::Ledger;
 use update_sequence::ReadFault;

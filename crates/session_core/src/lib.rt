@@ -16,6 +16,7 @@ mod refusal;
 mod route;
 mod session;
 mod values;
+mod written;
 
 pub use fault::TurnFault;
 pub use laws::turns_follow_their_commands;

@@ -13,6 +13,10 @@ use std::alloc::{AllocError, Global};
 /// Why a line is refused: with its code, what it names.
 #[derive(Debug, Drop)]
 pub enum Refusal {
+    /// 64: the record of this name would have so many bytes in a written file, more than 99,999.
+    RecordLong(Name, usize),
+    /// 65: a written file would have so many bytes, more than 8,388,608.
+    CellLong(usize),
     /// 66: the line of this number of a route's file is no box, or no point.
     RouteLine(u64),
     /// 67: a route has so many points, which are fewer than 2.
@@ -187,6 +191,8 @@ impl Refusal {
         ensures { result ≡ code_of self.now }
     {
         match self {
+            Refusal::RecordLong(..) => 64,
+            Refusal::CellLong(_) => 65,
             Refusal::RouteLine(_) => 66,
             Refusal::RouteFew(_) => 67,
             Refusal::RouteMany(_) => 68,
@@ -202,6 +208,11 @@ impl Refusal {
         ensures { IfOk result (λ values. values ≡ join_with_byte 32 (values_of self.now)) }
     {
         match self {
+            Refusal::RecordLong(name, bytes) => join(
+                alloc,
+                &[Value::Name(*name), Value::Number(*bytes as u64)],
+            ),
+            Refusal::CellLong(bytes) => join(alloc, &[Value::Number(*bytes as u64)]),
             Refusal::RouteLine(number)
             | Refusal::RouteFew(number)
             | Refusal::RouteMany(number)

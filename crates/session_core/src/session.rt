@@ -11,6 +11,7 @@ use crate::fault::{EventFault, TurnFault};
 use crate::fetch::fetch;
 use crate::info::inform;
 use crate::route::check_route;
+use crate::written::{made_file, reissue};
 use chart_model::{Command, Settings};
 use chart_ports::{Desk, Shelf, Steps};
 use chart_store::{Accepted, FILE_LIMIT, Store, kept_stores_are_read};
@@ -47,6 +48,7 @@ impl Session {
     ghost use Rattle.chart_store.specs.Loaded.{Outcome};
     ghost use Rattle.chart_store.specs.Store.{IsKept, StandsForEither, count_of, is_sound};
     ghost use Rattle.script_reader.specs.declared.reply.Reply.{Reply as ReplyValue};
+    ghost use Rattle.script_reader.specs.Line.{AreInRange};
     ghost use Rattle.session_core.specs.declared.fault.EventFault.TheVariants.{DeskFault as EventFailed};
     ghost use Rattle.session_core.specs.declared.fault.TurnFault.TheVariants.{DeskFault};
     ghost use Rattle.session_core.specs.Fetch.{AreFetched};
@@ -117,6 +119,7 @@ impl Session {
         requires sound { IsTrue (is_sound (store_of self.old)) }
         requires count { count_of (store_of self.old) < 2 ^ 63 }
         requires kept { IsTrue D.tells → IsKept (D.contents desk.old) (D.may_leave desk.old) (store_of self.old) }
+        requires ranges { AreInRange event }
         ensures turned { Turned (AreFetched L.tells (L.files shelf.old) (L.faults shelf.old) (L.faults shelf.new))
             (λ P. IsTrue D.tells → LeavesOnly D.clock D.might desk.old desk.new P) (D.said desk.old)
             event (model_of self.old) (GivesEvent result (model_of self.old) (model_of self.new)) }
@@ -170,6 +173,16 @@ impl Session {
                 let state = self.store.state();
                 check_route(alloc, name, state, &self.settings, shelf)
             }
+            Event::Make(areas, update) => {
+                let file = made_file(alloc, areas, update)?;
+                let done = self.submit(alloc, Command::Load(file.bytes), desk, steps)?;
+                Ok(Reply::Make(done.key, done.held.edition, done.held.update, file.records))
+            }
+            Event::Reissue(key) => {
+                let file = reissue(alloc, key, &self.store.state().cells)?;
+                let done = self.submit(alloc, Command::Load(file), desk, steps)?;
+                Ok(Reply::Reissue(done.key, done.held.edition, done.held.update))
+            }
         }
     }
 
@@ -190,6 +203,9 @@ impl Session {
         requires sound { IsTrue (is_sound (store_of self.old)) }
         requires count { count_of (store_of self.old) < 2 ^ 63 }
         requires kept { IsTrue D.tells → IsKept (D.contents desk.old) (D.may_leave desk.old) (store_of self.old) }
+
+        // As of every event that a line asks for.
+        requires ranges { AreInRange event }
 
         // The reply and what is held after it are those of the event, by what the shelf answered. A crash at any
         // moment leaves what stands for what was held, or for what the event leaves.

@@ -1,4 +1,5 @@
 use Rattle.script_reader.proofs.Answered.{read_event, read_again, read_silent, read_bad, read_bad_again, one_event}
+use Rattle.script_reader.proofs.Events.{spelled_in_range}
 use Rattle.script_reader.proofs.laws.lines_are_read.Goals as goal
 
 pub returns-clause-event : goal.returns-clause-event
@@ -15,3 +16,6 @@ returns-clause-bad c =
 
 pub returns-clause-one : goal.returns-clause-one
 returns-clause-one c = λ line a b. one_event c.keys_are_tested.ensures line a b
+
+pub returns-clause-ranges : goal.returns-clause-ranges
+returns-clause-ranges c = spelled_in_range

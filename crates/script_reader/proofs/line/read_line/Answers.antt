@@ -1,8 +1,16 @@
 -- What is answered is what was wanted, as far as memory lasts.
-use Rattle.std.proofs.Common.{◌∙◌, sym, refl, arith}
+use Rattle.std.proofs.Common.{◌∙◌, Some, sym, refl, arith}
 use Rattle.script_reader.specs.Reading.{event_in}
-use Rattle.script_reader.proofs.Answered.{answer_given, answer_free, answer_bad, answer_memory}
+use Rattle.script_reader.proofs.Answered.{answer_given, answer_free, answer_bad, answer_memory, answer_ok}
 use Rattle.script_reader.proofs.line.read_line.Goals as goal
+
+pub returns-clause-ranges : goal.returns-clause-ranges
+returns-clause-ranges c =
+    λ event e.
+    let number = c.args.number in
+    let line = c.args.line.now in
+    c.lines_are_read.ensures.ranges line event
+    ((c.lines_are_read.ensures.event number line event).0 (answer_ok c.read.result (event_in number line) (Some event) c.read.ensures e))
 
 pub returns-clause-only : goal.returns-clause-only
 returns-clause-only c =

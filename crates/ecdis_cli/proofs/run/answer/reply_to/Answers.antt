@@ -53,3 +53,7 @@ returns-in-Err-NoMemory-clause-replied g c =
     (λ t images so_far left. g.met.D.Desk.only_now c.args.desk.now images so_far t left)
     (λ t images left. c.kept_stores_are_read.ensures.stands c.args.desk.now _ images (c.requires.ready.kept t) left)
     tt
+
+-- the numbers of a line are in their ranges
+pub turn-requires-clause-ranges : goal.turn-requires-clause-ranges
+turn-requires-clause-ranges g c = c.in-Ok-Some.ensures.ranges c.in-Ok-Some.event (ap Ok c.in-Ok-Some.field-0-is)
