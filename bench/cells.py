@@ -56,7 +56,7 @@ def name(rcnm, rcid):
 SOUNDINGS = 5_000
 
 
-def area_cell(count, wrecks=0, soundings=0):
+def area_cell(count, wrecks, soundings):
     """A base cell of so many depth areas in a row: for each a connected node, a closed edge from that node to
     itself with three inner points, and a feature, so three data records an area beside the first two. With so many
     wrecks, each of no known depth at the bottom of an area, and so many soundings in features of 5,000 each."""
@@ -96,26 +96,6 @@ def area_cell(count, wrecks=0, soundings=0):
         add((b"FRID", struct.pack("<BIBBHHB", 100, count + wrecks + i + 1, 1, 2, 129, 1, 1) + FIELD),
             (b"FOID", struct.pack("<HIH", 550, count + wrecks + i + 1, 1) + FIELD),
             (b"FSPT", name(110, wrecks + i + 1) + bytes((255, 255, 255)) + FIELD))
-    return descriptive_record() + b"".join(records)
-
-
-def area_update(count, number):
-    """Update `number`, from 1, of the cell of so many areas: it sets an attribute of every thirtieth one, and asks
-    for the versions that the updates before it have left."""
-    records = []
-
-    def add(*fields):
-        counter = struct.pack("<H", (len(records) + 1) % 65536)
-        records.append(record(b"D", ((b"0001", counter + FIELD),) + fields))
-
-    key = b"MK%06d" % count
-    add((b"DSID", struct.pack("<BIBB", 10, 1, 2, 5) + key + b".%03d" % number + UNIT + b"1" + UNIT + b"%d" % number + UNIT
-         + b"20240101" * 2 + b"03.1" + b"\x01" + UNIT + b"2.0" + UNIT + struct.pack("<BH", 2, 550) + UNIT + FIELD))
-    version = 2 + (number - 1) // 30
-    for i in range(1, count + 1):
-        if i % 30 == number % 30:
-            add((b"FRID", struct.pack("<BIBBHHB", 100, i, 3, 1, 42, version, 3) + FIELD),
-                (b"ATTF", struct.pack("<H", 87) + b"%d" % (number % 50) + UNIT + FIELD))
     return descriptive_record() + b"".join(records)
 
 
