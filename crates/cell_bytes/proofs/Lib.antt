@@ -11,3 +11,4 @@ pub mod FieldSpellings
 pub mod FileReading
 pub mod Headers
 pub mod Ranges
+pub mod Arrays

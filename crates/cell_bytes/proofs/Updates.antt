@@ -7,7 +7,7 @@ use Rattle.cell_bytes.specs.Written.{Numbered, next_number, number_behind, numbe
 use Rattle.cell_bytes.specs.Descriptive.{descriptive_record}
 use Rattle.cell_bytes.specs.Record.{of_data, record_of}
 use Rattle.cell_bytes.specs.DataSet.{revision_fields}
-use Rattle.cell_bytes.specs.Generator.{deepened, deepened_areas, is_deepened, made_header, made_update, numbers_to}
+use Rattle.cell_bytes.specs.Generator.{modified, modified_areas, is_modified, made_header, made_update, numbers_to}
 use Rattle.cell_bytes.proofs.Files.{numbered-append}
 
 number_behind-append : (number : ℕ) (xs ys : List Numbered)
@@ -16,26 +16,26 @@ unfolding number_behind
 number_behind-append number [] ys = refl
 number_behind-append number (x ∷ xs) ys = number_behind-append (next_number number) xs ys
 
-areas_more : (update before : ℕ) → map (deepened update) (deepened_areas update (before + 1))
-    ≡ map (deepened update) (deepened_areas update before)
-    ++ map (deepened update) (filter (is_deepened update) ((before + 1) ∷ []))
-unfolding deepened_areas numbers_to
+areas_more : (update before : ℕ) → map (modified update) (modified_areas update (before + 1))
+    ≡ map (modified update) (modified_areas update before)
+    ++ map (modified update) (filter (is_modified update) ((before + 1) ∷ []))
+unfolding modified_areas numbers_to
 areas_more update before =
-    ap (λ (k : ℕ). map (deepened update) (filter (is_deepened update) (numbers_to k))) (add-one before)
-    ∙ ap (map (deepened update)) (filter-append (is_deepened update) (numbers_to before) (suc before ∷ []))
-    ∙ map-append (deepened update) (filter (is_deepened update) (numbers_to before)) (filter (is_deepened update) (suc before ∷ []))
-    ∙ ap (λ (k : ℕ). map (deepened update) (filter (is_deepened update) (numbers_to before))
-    ++ map (deepened update) (filter (is_deepened update) (k ∷ []))) (sym (add-one before))
+    ap (λ (k : ℕ). map (modified update) (filter (is_modified update) (numbers_to k))) (add-one before)
+    ∙ ap (map (modified update)) (filter-append (is_modified update) (numbers_to before) (suc before ∷ []))
+    ∙ map-append (modified update) (filter (is_modified update) (numbers_to before)) (filter (is_modified update) (suc before ∷ []))
+    ∙ ap (λ (k : ℕ). map (modified update) (filter (is_modified update) (numbers_to before))
+    ++ map (modified update) (filter (is_modified update) (k ∷ []))) (sym (add-one before))
 
 -- the bytes and the number behind one area more
 pub bytes_more : (update before number k : ℕ) (begun so_far after : List ℕ)
-    → so_far ≡ begun ++ numbered number (map (deepened update) (deepened_areas update before))
-    → k ≡ number_behind number (map (deepened update) (deepened_areas update before))
-    → after ≡ so_far ++ numbered k (map (deepened update) (filter (is_deepened update) ((before + 1) ∷ [])))
-    → after ≡ begun ++ numbered number (map (deepened update) (deepened_areas update (before + 1)))
+    → so_far ≡ begun ++ numbered number (map (modified update) (modified_areas update before))
+    → k ≡ number_behind number (map (modified update) (modified_areas update before))
+    → after ≡ so_far ++ numbered k (map (modified update) (filter (is_modified update) ((before + 1) ∷ [])))
+    → after ≡ begun ++ numbered number (map (modified update) (modified_areas update (before + 1)))
 bytes_more update before number k begun so_far after bytes behind added =
-    let first : List Numbered = map (deepened update) (deepened_areas update before) in
-    let one : List Numbered = map (deepened update) (filter (is_deepened update) ((before + 1) ∷ [])) in
+    let first : List Numbered = map (modified update) (modified_areas update before) in
+    let one : List Numbered = map (modified update) (filter (is_modified update) ((before + 1) ∷ [])) in
     added
     ∙ ap (λ (l : List ℕ). l ++ numbered k one) bytes
     ∙ append_assoc begun (numbered number first) (numbered k one)
@@ -44,12 +44,12 @@ bytes_more update before number k begun so_far after bytes behind added =
     ∙ ap (λ (l : List Numbered). begun ++ numbered number l) (sym (areas_more update before))
 
 pub number_more : (update before number k after : ℕ)
-    → k ≡ number_behind number (map (deepened update) (deepened_areas update before))
-    → after ≡ number_behind k (map (deepened update) (filter (is_deepened update) ((before + 1) ∷ [])))
-    → after ≡ number_behind number (map (deepened update) (deepened_areas update (before + 1)))
+    → k ≡ number_behind number (map (modified update) (modified_areas update before))
+    → after ≡ number_behind k (map (modified update) (filter (is_modified update) ((before + 1) ∷ [])))
+    → after ≡ number_behind number (map (modified update) (modified_areas update (before + 1)))
 number_more update before number k after behind added =
-    let first : List Numbered = map (deepened update) (deepened_areas update before) in
-    let one : List Numbered = map (deepened update) (filter (is_deepened update) ((before + 1) ∷ [])) in
+    let first : List Numbered = map (modified update) (modified_areas update before) in
+    let one : List Numbered = map (modified update) (filter (is_modified update) ((before + 1) ∷ [])) in
     added
     ∙ ap (λ (n : ℕ). number_behind n one) behind
     ∙ sym (number_behind-append number first one)
@@ -58,12 +58,12 @@ number_more update before number k after behind added =
 -- the file of an update, as it is put together
 pub update_of : (count update : ℕ) (b0 b1 b2 : List ℕ) (n0 n1 : ℕ) → b0 ≡ descriptive_record → n0 ≡ 1
     → b1 ≡ b0 ++ record_of of_data (revision_fields n0 (made_header count update 0)) → n1 ≡ next_number n0
-    → b2 ≡ b1 ++ numbered n1 (map (deepened update) (deepened_areas update count))
+    → b2 ≡ b1 ++ numbered n1 (map (modified update) (modified_areas update count))
     → b2 ≡ made_update count update
 unfolding made_update numbered
 update_of count update b0 b1 b2 n0 n1 begun first general second areas =
     let header = made_header count update 0 in
-    let more : List Numbered = map (deepened update) (deepened_areas update count) in
+    let more : List Numbered = map (modified update) (modified_areas update count) in
     areas
     ∙ ap (λ (n : ℕ). b1 ++ numbered n more) (second ∙ ap next_number first)
     ∙ ap (λ (l : List ℕ). l ++ numbered 2 more)

@@ -138,26 +138,26 @@ abbrev pub made_version : ℕ → ℕ
 made_version update = 2 + (update - 1) / 30
 
 -- the fields of the record that modifies an area: DRVAL1 alone is set
-unfoldable pub deepened_fields : ℕ → ℕ → ℕ → List Field
-deepened_fields update area number =
+unfoldable pub modified_fields : ℕ → ℕ → ℕ → List Field
+modified_fields update area number =
     identified number
     ++ field (codes "FRID") (name_text (area_name area) ++ described AREA 1 42 (made_version update) ++ b11 MODIFY)
     ++ field (codes "ATTF") (attribute 87 (decimal_of (pos (update % 50))))
 
-unfoldable pub deepened : ℕ → ℕ → Numbered
-deepened update area number = record_of of_data (deepened_fields update area number)
+unfoldable pub modified : ℕ → ℕ → Numbered
+modified update area number = record_of of_data (modified_fields update area number)
 
--- whether the update modifies the area: the number of each is the other's modulo 30
-abbrev pub is_deepened : ℕ → ℕ → Bool
-is_deepened update area = area % 30 == update % 30
+-- whether the update modifies the area: their numbers are equal modulo 30
+abbrev pub is_modified : ℕ → ℕ → Bool
+is_modified update area = area % 30 == update % 30
 
 -- the areas, of the first, that the update modifies
-unfoldable pub deepened_areas : ℕ → ℕ → List ℕ
-deepened_areas update count = filter (is_deepened update) (numbers_to count)
+unfoldable pub modified_areas : ℕ → ℕ → List ℕ
+modified_areas update count = filter (is_modified update) (numbers_to count)
 
 -- the file of the update
 unfoldable pub made_update : ℕ → ℕ → List ℕ
 made_update count update =
     descriptive_record ++ numbered 1 (
     (λ number. record_of of_data (revision_fields number (made_header count update 0)))
-    ∷ map (deepened update) (deepened_areas update count))
+    ∷ map (modified update) (modified_areas update count))

@@ -51,6 +51,33 @@ fn five_digits(number: usize) -> [u8; 5]
     [digit(10_000), digit(1_000), digit(100), digit(10), digit(1)]
 }
 
+/// The entry of a field in a directory.
+#[tactic(auto, unfolding(crate::specs::Record::digits))]
+fn entry(tag: [u8; 4], length: usize, position: usize) -> [u8; 14]
+    ensures { result ≡ tag ++ digits 5 length ++ digits 5 position }
+{
+    let [t0, t1, t2, t3] = tag;
+    let [l0, l1, l2, l3, l4] = five_digits(length);
+    let [p0, p1, p2, p3, p4] = five_digits(position);
+    [t0, t1, t2, t3, l0, l1, l2, l3, l4, p0, p1, p2, p3, p4]
+}
+
+/// The leader of a record with this base address and so many bytes.
+#[tactic(auto, unfolding(crate::specs::Record::digits))]
+fn leader(kind: Kind, base: usize, length: usize) -> [u8; 24]
+    ensures { result ≡ leader_of kind base length }
+{
+    let [l0, l1, l2, l3, l4] = five_digits(length);
+    let [i0, i1, i2, i3, i4, i5, i6] = kind.identification;
+    let [b0, b1, b2, b3, b4] = five_digits(base);
+    let [c0, c1, c2] = kind.character_set;
+    let [m0, m1, m2, m3] = ENTRY_MAP;
+    [
+        l0, l1, l2, l3, l4, i0, i1, i2, i3, i4, i5, i6, b0, b1, b2, b3, b4, c0, c1, c2, m0, m1, m2,
+        m3,
+    ]
+}
+
 /// Takes the bytes out. Their room stays.
 pub(crate) fn clear(alloc: Global, octets: &mut Octets)
     ensures { octets.new ≡ [] }
@@ -59,18 +86,6 @@ pub(crate) fn clear(alloc: Global, octets: &mut Octets)
     let mut bytes = mem::replace(octets, empty).into_vec();
     bytes.clear();
     *octets = Octets::from_vec(bytes);
-}
-
-/// Adds the leader of a record with this base address and so many bytes.
-#[tactic(auto, unfolding(crate::specs::Record::leader_of))]
-fn put_leader(out: &mut Octets, kind: Kind, base: usize, length: usize) -> Result<(), AllocError>
-    ensures { OnOk result (out.new ≡ out.old ++ leader_of kind base length) }
-{
-    out.extend_from_slice(&five_digits(length))?;
-    out.extend_from_slice(&kind.identification)?;
-    out.extend_from_slice(&five_digits(base))?;
-    out.extend_from_slice(&kind.character_set)?;
-    out.extend_from_slice(&ENTRY_MAP)
 }
 
 impl Fields {
@@ -101,9 +116,8 @@ impl Fields {
         self.area.extend_from_slice(text)?;
         self.area.extend_from_slice(&[FIELD_TERMINATOR])?;
         let length = self.area.as_slice().len() - position;
-        self.directory.extend_from_slice(&tag)?;
-        self.directory.extend_from_slice(&five_digits(length))?;
-        self.directory.extend_from_slice(&five_digits(position))
+        self.directory
+            .extend_from_slice(&entry(tag, length, position))
     }
 
     /// The base address of the field area. One that doesn't fit is want of memory: a directory has few entries.
@@ -128,7 +142,7 @@ impl Fields {
     pub(crate) fn put(&self, out: &mut Octets, kind: Kind) -> Result<(), AllocError>
         ensures { OnOk result (out.new ≡ out.old ++ framed kind self.now.directory self.now.area) }
     {
-        put_leader(out, kind, self.base()?, self.record_length()?)?;
+        out.extend_from_slice(&leader(kind, self.base()?, self.record_length()?))?;
         out.extend_from_slice(self.directory.as_slice())?;
         out.extend_from_slice(&[FIELD_TERMINATOR])?;
         out.extend_from_slice(self.area.as_slice())

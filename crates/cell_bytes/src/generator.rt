@@ -234,8 +234,12 @@ fn made_areas(alloc: Global, count: u32) -> Result<FeatureMap, AllocError>
     Ok(features)
 }
 
-/// Makes a cell for trials with `n` depth areas, side by side, each with an edge and a connected node of its own. The
-/// depths of an area go by its number modulo 50.
+/// Makes a cell for trials with `n` depth areas, side by side, each with an edge and a connected node of its own: area
+/// `i` is a square of 900 units (10⁻⁷ degrees) from the point `(1000 i, 0)` on, between `i` modulo 50 and 10 metres more.
+///
+/// # Errors
+///
+/// Want of memory.
 #[tactic(auto, unfolding(crate::specs::Generator::made_cell))]
 pub fn make_cell(alloc: Global, n: u32) -> Result<Cell, AllocError>
     requires { IsInRange 1 20000 n }

@@ -1,4 +1,5 @@
-//! Cells as bytes: a cell is written as a base file (S-57 Appendix B.1) that reads back as the same cell.
+//! Cells as bytes: a cell is written as a base file (S-57 Appendix B.1), whose bytes are a file of records with the
+//! cell's values (ISO/IEC 8211); and cells and updates for trials.
 #![tactic(auto)]
 
 mod data_set;

@@ -9,18 +9,18 @@ ghost use Rattle.cell_bytes.specs.Feature.{feature_pointer, object_name, related
 ghost use Rattle.cell_bytes.specs.FieldValues.{IsCoordInRange, IsEntryInRange, IsFoidInRange, IsNameInRange};
 ghost use Rattle.cell_bytes.specs.FieldValues.{IsPointerInRange, IsRelatedInRange};
 
-use crate::subfields::{put_b11, put_b12, put_b14, put_b24, put_text};
+use crate::subfields::{put_b11, put_b12, put_b24, put_text};
 use chart_model::{AttrMap, Coord, Foid, Name, Octets, Pointer, Related};
 use std::alloc::AllocError;
 
 /// Adds the name of a record.
-#[tactic(auto, unfolding(crate::specs::Vector::name_text))]
+#[tactic(auto, unfolding(crate::specs::Vector::name_text, crate::specs::Subfields::b11, crate::specs::Subfields::b14))]
 pub(crate) fn put_name(out: &mut Octets, name: Name) -> Result<(), AllocError>
     ensures bytes { OnOk result (out.new ≡ out.old ++ name_text name) }
     ensures in_range { IsNameInRange name }
 {
-    put_b11(out, name.rcnm)?;
-    put_b14(out, name.rcid)
+    let [a, b, c, d] = name.rcid.to_le_bytes();
+    out.extend_from_slice(&[name.rcnm, a, b, c, d])
 }
 
 /// Adds an attribute.
@@ -46,16 +46,13 @@ pub(crate) fn put_attributes(out: &mut Octets, attrs: &AttrMap) -> Result<(), Al
 }
 
 /// Adds a pointer of a vector record.
-#[tactic(auto, unfolding(crate::specs::Vector::vector_pointer))]
+#[tactic(auto, unfolding(crate::specs::Vector::vector_pointer, crate::specs::Subfields::b11))]
 fn put_vector_pointer(out: &mut Octets, pointer: Pointer) -> Result<(), AllocError>
     ensures bytes { OnOk result (out.new ≡ out.old ++ vector_pointer pointer) }
     ensures in_range { IsPointerInRange pointer }
 {
     put_name(out, pointer.target)?;
-    put_b11(out, pointer.ornt)?;
-    put_b11(out, pointer.usag)?;
-    put_b11(out, pointer.topi)?;
-    put_b11(out, pointer.mask)
+    out.extend_from_slice(&[pointer.ornt, pointer.usag, pointer.topi, pointer.mask])
 }
 
 /// Adds the pointers of a vector record.
@@ -70,13 +67,14 @@ pub(crate) fn put_vector_pointers(out: &mut Octets, pointers: &[Pointer]) -> Res
 }
 
 /// Adds latitude and longitude.
-#[tactic(auto, unfolding(crate::specs::Vector::place))]
+#[tactic(auto, unfolding(crate::specs::Vector::place, crate::specs::Subfields::b24))]
 fn put_place(out: &mut Octets, coord: Coord) -> Result<(), AllocError>
     ensures { OnOk result (out.new ≡ out.old ++ place coord) }
 {
     let (latitude, longitude) = (coord.y, coord.x);
-    put_b24(out, latitude)?;
-    put_b24(out, longitude)
+    let [a, b, c, d] = latitude.to_le_bytes();
+    let [e, f, g, h] = longitude.to_le_bytes();
+    out.extend_from_slice(&[a, b, c, d, e, f, g, h])
 }
 
 /// Adds a coordinate that has no depth.
@@ -127,14 +125,15 @@ pub(crate) fn put_soundings(out: &mut Octets, coords: &[Coord]) -> Result<(), Al
 }
 
 /// Adds the identifier of a feature object.
-#[tactic(auto, unfolding(crate::specs::Feature::object_name))]
+#[tactic(auto, unfolding(crate::specs::Feature::object_name, crate::specs::Subfields::b12, crate::specs::Subfields::b14))]
 pub(crate) fn put_foid(out: &mut Octets, foid: Foid) -> Result<(), AllocError>
     ensures bytes { OnOk result (out.new ≡ out.old ++ object_name foid) }
     ensures in_range { IsFoidInRange foid }
 {
-    put_b12(out, foid.agen)?;
-    put_b14(out, foid.fidn)?;
-    put_b12(out, foid.fids)
+    let [a, b] = foid.agen.to_le_bytes();
+    let [c, d, e, f] = foid.fidn.to_le_bytes();
+    let [g, h] = foid.fids.to_le_bytes();
+    out.extend_from_slice(&[a, b, c, d, e, f, g, h])
 }
 
 /// Adds a related object, without a comment.
@@ -160,15 +159,13 @@ pub(crate) fn put_related(out: &mut Octets, related: &[Related]) -> Result<(), A
 }
 
 /// Adds a pointer of a feature.
-#[tactic(auto, unfolding(crate::specs::Feature::feature_pointer))]
+#[tactic(auto, unfolding(crate::specs::Feature::feature_pointer, crate::specs::Subfields::b11))]
 fn put_feature_pointer(out: &mut Octets, pointer: Pointer) -> Result<(), AllocError>
     ensures bytes { OnOk result (out.new ≡ out.old ++ feature_pointer pointer) }
     ensures in_range { IsPointerInRange pointer }
 {
     put_name(out, pointer.target)?;
-    put_b11(out, pointer.ornt)?;
-    put_b11(out, pointer.usag)?;
-    put_b11(out, pointer.mask)
+    out.extend_from_slice(&[pointer.ornt, pointer.usag, pointer.mask])
 }
 
 /// Adds the pointers of a feature.

@@ -5,8 +5,8 @@ ghost use Rattle.std.specs.Int.{IsInRange};
 ghost use Rattle.chart_model.specs.Codes.{MODIFY as MODIFIES};
 ghost use Rattle.cell_bytes.specs.Record.{alone, of_data, record_of};
 ghost use Rattle.cell_bytes.specs.DataSet.{revision_fields};
-ghost use Rattle.cell_bytes.specs.Generator.{deepened, deepened_areas, deepened_fields, made_update, made_version};
-ghost use Rattle.cell_bytes.specs.Generator.{area_name, is_deepened};
+ghost use Rattle.cell_bytes.specs.Generator.{modified, modified_areas, modified_fields, made_update, made_version};
+ghost use Rattle.cell_bytes.specs.Generator.{area_name, is_modified};
 ghost use Rattle.cell_bytes.specs.Vector.{name_text};
 ghost use Rattle.cell_bytes.specs.Feature.{described};
 ghost use Rattle.cell_bytes.specs.Subfields.{b11};
@@ -43,7 +43,7 @@ fn put_identifier(out: &mut Octets, update: u32, area: u32) -> Result<(), AllocE
 }
 
 /// Makes the record that modifies an area.
-#[tactic(auto, unfolding(crate::specs::Generator::deepened_fields))]
+#[tactic(auto, unfolding(crate::specs::Generator::modified_fields))]
 fn draft_area(
     alloc: Global,
     draft: &mut Draft,
@@ -52,7 +52,7 @@ fn draft_area(
     area: u32,
 ) -> Result<(), AllocError>
     requires { IsInRange 1 999 update }
-    ensures { OnOk result (draft.new.fields ≡ alone (deepened_fields update area number)) }
+    ensures { OnOk result (draft.new.fields ≡ alone (modified_fields update area number)) }
 {
     let depth = decimal(alloc, update % 50)?;
     begin(alloc, draft, number)?;
@@ -75,10 +75,10 @@ fn put_general(file: &mut CellFile, alloc: Global, header: &Header) -> Result<()
 }
 
 /// Adds the record that modifies an area.
-#[tactic(auto, using(crate::proofs::Framed::framed_alone), unfolding(crate::specs::Generator::deepened))]
+#[tactic(auto, using(crate::proofs::Framed::framed_alone), unfolding(crate::specs::Generator::modified))]
 fn put_area(file: &mut CellFile, alloc: Global, update: u32, area: u32) -> Result<(), AllocError>
     requires { IsInRange 1 999 update }
-    ensures bytes { OnOk result (file.new.bytes ≡ file.old.bytes ++ deepened update area file.old.number) }
+    ensures bytes { OnOk result (file.new.bytes ≡ file.old.bytes ++ modified update area file.old.number) }
     ensures number { OnOk result (file.new.number ≡ next_number file.old.number) }
 {
     draft_area(alloc, &mut file.draft, file.number, update, area)?;
@@ -88,12 +88,17 @@ fn put_area(file: &mut CellFile, alloc: Global, update: u32, area: u32) -> Resul
 
 /// Adds the record that modifies an area, where the update modifies it.
 #[tactic(auto, unfolding(crate::specs::Written::numbered, crate::specs::Written::number_behind))]
-fn put_in_turn(file: &mut CellFile, alloc: Global, update: u32, area: u32) -> Result<(), AllocError>
+fn put_where_modified(
+    file: &mut CellFile,
+    alloc: Global,
+    update: u32,
+    area: u32,
+) -> Result<(), AllocError>
     requires { IsInRange 1 999 update }
     ensures bytes { OnOk result (file.new.bytes ≡ file.old.bytes
-        ++ numbered file.old.number (map (deepened update) (filter (is_deepened update) (area ∷ [])))) }
+        ++ numbered file.old.number (map (modified update) (filter (is_modified update) (area ∷ [])))) }
     ensures number { OnOk result (file.new.number
-        ≡ number_behind file.old.number (map (deepened update) (filter (is_deepened update) (area ∷ [])))) }
+        ≡ number_behind file.old.number (map (modified update) (filter (is_modified update) (area ∷ [])))) }
 {
     if area % 30 == update % 30 {
         put_area(file, alloc, update, area)
@@ -103,21 +108,26 @@ fn put_in_turn(file: &mut CellFile, alloc: Global, update: u32, area: u32) -> Re
 }
 
 /// Adds the records that modify areas, in the order of their numbers.
-#[tactic(auto, unfolding(crate::specs::Generator::deepened_areas, crate::specs::Generator::numbers_to, crate::specs::Written::numbered, crate::specs::Written::number_behind))]
+#[tactic(auto, unfolding(crate::specs::Generator::modified_areas, crate::specs::Generator::numbers_to, crate::specs::Written::numbered, crate::specs::Written::number_behind))]
 fn put_areas(file: &mut CellFile, alloc: Global, update: u32, count: u32) -> Result<(), AllocError>
     requires update { IsInRange 1 999 update }
     requires count { count ≤ 20000 }
     ensures { OnOk result (file.new.bytes
-        ≡ file.old.bytes ++ numbered file.old.number (map (deepened update) (deepened_areas update count))) }
+        ≡ file.old.bytes ++ numbered file.old.number (map (modified update) (modified_areas update count))) }
 {
     for before in 0..count {
-        put_in_turn(file, alloc, update, before + 1)?;
+        put_where_modified(file, alloc, update, before + 1)?;
     }
     Ok(())
 }
 
-/// Makes update `u` of the cell for trials with `n` depth areas: it sets the least depth of each area whose number is
-/// `u` modulo 30.
+/// Makes update `u` of the cell for trials with `n` depth areas ([`make_cell`](crate::make_cell)): it sets the least
+/// depth (DRVAL1) of each area `i` where `i` and `u` are equal modulo 30 to `u` modulo 50 metres, in the order of their
+/// numbers. The version that an area then has goes up by one with every thirtieth update.
+///
+/// # Errors
+///
+/// Want of memory.
 pub fn make_update(alloc: Global, n: u32, u: u32) -> Result<Octets, AllocError>
     requires areas { IsInRange 1 20000 n }
     requires update { IsInRange 1 999 u }

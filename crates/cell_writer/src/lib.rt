@@ -1,4 +1,5 @@
-//! Cells as base files (S-57 Appendix B.1) that read back as the same cell, and cells for trials.
+//! Cells as base files (S-57 Appendix B.1), which read back as the same chart where the cell is closed; and cells and
+//! updates for trials.
 #![tactic(auto)]
 
 mod write;

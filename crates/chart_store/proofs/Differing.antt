@@ -15,6 +15,7 @@ use Rattle.update_sequence.specs.declared.fault.BuildFault.{BuildFault}
 use Rattle.chart_store.specs.Refusal.{refusal_of_build}
 use Rattle.chart_store.specs.Fault.{or_refused}
 use Rattle.chart_store.specs.Taken.{chart_built}
+use Rattle.chart_store.proofs.Keeping.{some_is}
 
 abbrev pub targets_of : List Change → List Name
 targets_of changes = map (λ (change : Change). change.target) changes
@@ -67,9 +68,6 @@ all-differ before now dataset inside slice names once stay other made seen whole
             (names-differing before now dataset inside slice names stay made seen whole is name differ),
       );
     }
-
-some_is : {A : Type 0} {x y : A} → ◌≡◌ {A = Option A} (Some x) (Some y) → x ≡ y
-some_is e = cc
 
 ok_is : {A E : Type 0} {x y : A} → ◌≡◌ {A = Result A E} (Ok x) (Ok y) → x ≡ y
 ok_is e = cc

@@ -10,6 +10,7 @@ use Rattle.update_sequence.specs.declared.effect.Effect.{Effect}
 use Rattle.update_sequence.specs.declared.effect.Effect.TheVariants.{Replace, Extend, Cancel}
 use Rattle.update_sequence.specs.declared.fault.SequenceFault.{SequenceFault}
 use Rattle.update_sequence.specs.declared.fault.SequenceFault.TheVariants.{Edition, Gap, Cancelled, StaleBase}
+use Rattle.s57_records.proofs.AnswerLemmas.{chosen}
 
 -- a base file isn't one that cancels
 pub stands_by_base : (dataset : DatasetValue) → IsDataset dataset → dataset.base ≡ true → dataset.cancels ≡ false
@@ -41,10 +42,6 @@ Says held dataset Cancel = SaysCancel held dataset
 
 ok_is : {x y : Effect} → ◌≡◌ {A = Result Effect SequenceFault} (Ok x) (Ok y) → x ≡ y
 ok_is e = cc
-
-chosen : {A : Type 0} (b : Bool) (x y z : A) → cond b x y ≡ z → ((b ≡ true) × (x ≡ z)) ⊎ ((b ≡ false) × (y ≡ z))
-chosen true x y z e = inl (refl, e)
-chosen false x y z e = inr (refl, e)
 
 base_says : (held : Option Held) (dataset : DatasetValue) (effect : Effect) → dataset.base ≡ true →
     judged_base held dataset.header ≡ Ok effect → Says held dataset effect

@@ -28,9 +28,7 @@ use Rattle.chart_store.specs.Taken.{held_of, chart_of, held_after, chart_after, 
 use Rattle.chart_store.proofs.Judging.{effect_says, stands_by_base}
 use Rattle.chart_store.proofs.Accepting.{next-live}
 use Rattle.chart_store.proofs.Loading.{Laws, WasLive}
-
-some_is : {A : Type 0} {x y : A} → ◌≡◌ {A = Option A} (Some x) (Some y) → x ≡ y
-some_is e = cc
+use Rattle.chart_store.proofs.Keeping.{some_is}
 
 -- ---- what is live
 

@@ -17,10 +17,7 @@ use Rattle.chart_model.specs.declared.settings.Settings.{Settings}
 use Rattle.text_scan.specs.Number.{IsNumber, value_of, number_of}
 use Rattle.lookup_table.specs.declared.line.TableLine.{TableLine}
 use Rattle.draw_list.specs.Block.{IsShown, geom_of, is_below, is_hidden, block_with, line_for, block_as, block_in}
-
--- what the law of numbers says
-abbrev pub NumbersAreSpelled : Type 0
-NumbersAreSpelled = (text : List ℕ) (n : ℕ) → (number_of text ≡ Some n) ↔ (IsNumber text × (value_of text ≡ n))
+use Rattle.text_scan.proofs.Numbers.{NumbersAreSpelled}
 
 -- ---- geometries
 

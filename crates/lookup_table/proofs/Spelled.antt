@@ -24,6 +24,7 @@ use Rattle.lookup_table.specs.Reading.{behind, each, test_of, condition_with, co
 use Rattle.lookup_table.proofs.Each.{each-nil, each-cons}
 use Rattle.lookup_table.proofs.Closed.{closed-by}
 use Rattle.lookup_table.proofs.Words.{condition_cut, line_cut}
+use Rattle.text_lines.proofs.Parting.{PartsAreFound}
 
 some_is : {A : Type 0} (x y : A) → ◌≡◌ {A = Option A} (Some x) (Some y) → x ≡ y
 some_is x y e = cc
@@ -232,9 +233,6 @@ conditions_lack_space [] h = All-cons (λ b. b ≢ 32) 45 [] (λ e. omega arith)
 conditions_lack_space (c ∷ cs) h = joined_bytes (λ b. b ≢ 32) 43 (λ e. omega arith) (list.map condition_text (c ∷ cs)) (all_texts (λ b. b ≢ 32) lacks_space (c ∷ cs) h)
 
 -- ---- what the law of parts says
-
-abbrev pub PartsAreFound : Type 0
-PartsAreFound = (parting : ℕ) (part : List ℕ) (parts : List (List ℕ)) → All (Lacks parting) (part ∷ parts) → parts_at parting (join_with_byte parting (part ∷ parts)) ≡ part ∷ parts
 
 abbrev pub FirstIsFound : Type 0
 FirstIsFound = (parting : ℕ) (part rest : List ℕ) → Lacks parting part → parts_at parting (part ++ parting ∷ rest) ≡ part ∷ parts_at parting rest

@@ -14,7 +14,7 @@ use Rattle.lookup_table.specs.declared.condition.Condition.{Condition}
 use Rattle.lookup_table.specs.declared.instruction.Instruction.{Instruction}
 use Rattle.lookup_table.specs.declared.line.TableLine.{TableLine}
 use Rattle.lookup_table.specs.declared.written.WrittenLine.{WrittenLine}
-use Rattle.lookup_table.specs.Named.{named, named_condition, instruction_in, has_unknown_name, has_unknown_procedure}
+use Rattle.lookup_table.specs.Named.{line_as, named, named_condition, instruction_in, has_unknown_name, has_unknown_procedure}
 use Rattle.lookup_table.specs.Reading.{each, written_of}
 
 -- the line of a table that a line of the file is, where it says something and is one
@@ -62,13 +62,8 @@ abbrev pub line_or_fault : ℕ → WrittenLine → Option ℕ → Option (List C
 line_or_fault number line None conditions instructions = Err (UnknownName number)
 line_or_fault number line (Some class) None instructions = Err (UnknownName number)
 line_or_fault number line (Some class) (Some conditions) None = Err (UnknownProcedure number)
-line_or_fault number line (Some class) (Some conditions) (Some instructions) = Ok (record {
-  class = class;
-  geom = line.geom;
-  priority = line.priority;
-  conditions = conditions;
-  instructions = instructions;
-})
+line_or_fault number line (Some class) (Some conditions) (Some instructions) =
+    Ok (line_as line class conditions instructions)
 
 abbrev pub named_or_fault : CatalogueValue → ℕ → WrittenLine → Result TableLine TableFault
 named_or_fault catalogue number line =

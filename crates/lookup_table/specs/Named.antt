@@ -48,17 +48,21 @@ condition_with_code condition (Some code) = Some (record { attribute = code; tes
 abbrev pub named_condition : CatalogueValue → WrittenCondition → Option Condition
 named_condition catalogue condition = condition_with_code condition (code_in catalogue.attributes condition.attribute)
 
-abbrev pub line_with : WrittenLine → Option ℕ → Option (List Condition) → Option (List Instruction) → Option TableLine
-line_with line None conditions instructions = None
-line_with line (Some class) None instructions = None
-line_with line (Some class) (Some conditions) None = None
-line_with line (Some class) (Some conditions) (Some instructions) = Some (record {
+-- the line with this class, these conditions and these instructions
+abbrev pub line_as : WrittenLine → ℕ → List Condition → List Instruction → TableLine
+line_as line class conditions instructions = record {
   class = class;
   geom = line.geom;
   priority = line.priority;
   conditions = conditions;
   instructions = instructions;
-})
+}
+
+abbrev pub line_with : WrittenLine → Option ℕ → Option (List Condition) → Option (List Instruction) → Option TableLine
+line_with line None conditions instructions = None
+line_with line (Some class) None instructions = None
+line_with line (Some class) (Some conditions) None = None
+line_with line (Some class) (Some conditions) (Some instructions) = Some (line_as line class conditions instructions)
 
 -- the line with codes in place of acronyms, where all its names and procedures are there
 abbrev pub named : CatalogueValue → WrittenLine → Option TableLine

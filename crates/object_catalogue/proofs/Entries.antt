@@ -21,19 +21,8 @@ use Rattle.object_catalogue.specs.Acronym.{IsAcronym, is_acronym, acronym_of}
 use Rattle.object_catalogue.specs.Entry.{letter_of, Spells, IsBad, kind_of, in_range, code_of, entry_with, entry_in, entry_of}
 use Rattle.object_catalogue.specs.Reading.{is_bad}
 use Rattle.object_catalogue.proofs.Acronyms.{Decides-acronym, acronym_some, acronym_lacks}
-
--- what the laws of the crates below say of numbers and of parts
-abbrev pub NumbersAreSpelled : Type 0
-NumbersAreSpelled = (text : List ℕ) (n : ℕ) → (number_of text ≡ Some n) ↔ (IsNumber text × (value_of text ≡ n))
-
-abbrev pub PartsAreJoined : Type 0
-PartsAreJoined = (parting : ℕ) (text : List ℕ) → join_with_byte parting (parts_at parting text) ≡ text
-
-abbrev pub PartsAreFound : Type 0
-PartsAreFound = (parting : ℕ) (part : List ℕ) (parts : List (List ℕ)) → All (Lacks parting) (part ∷ parts) → parts_at parting (join_with_byte parting (part ∷ parts)) ≡ part ∷ parts
-
-some_is : {A : Type 0} (x y : A) → ◌≡◌ {A = Option A} (Some x) (Some y) → x ≡ y
-some_is x y e = cc
+use Rattle.text_scan.proofs.Numbers.{NumbersAreSpelled, some_is}
+use Rattle.text_lines.proofs.Parting.{PartsAreFound, PartsAreJoined}
 
 -- ---- kinds
 

@@ -19,6 +19,7 @@ use Rattle.depth_values.specs.Under.{is_depth_area, area_at, areas_of}
 use Rattle.depth_values.specs.Codes.{DEPARE, DRGARE}
 use Rattle.route_check.proofs.Members.{Has, has_out}
 use Rattle.route_check.proofs.Held.{entry_held}
+use Rattle.text_scan.proofs.Numbers.{some_is}
 
 -- a value that is there comes from one of those that were asked
 record Picked {X Y : Type 0} (f : X → Option Y) (xs : List X) (y : Y) : Type 0 where
@@ -37,9 +38,6 @@ picked {X} {Y} f (x ∷ xs) y h = by (λ g. picked f xs y g) (f x) refl h
     by others None is g = later (others g)
     by others (Some z) is (inl e) = record { from = x; among = inl refl; gives = is ∙ ap Some e }
     by others (Some z) is (inr g) = later (others g)
-
-some_is : {X : Type 0} (x y : X) → ◌≡◌ {A = Option X} (Some x) (Some y) → x ≡ y
-some_is x y e = cc
 
 -- what a depth area tells of its feature
 record IsOf (cell : CellValue) (entry : Name × Feature) (area : AreaValue) : Type 0 where

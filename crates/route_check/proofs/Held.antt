@@ -9,9 +9,7 @@ use Rattle.std.specs.FinMap.{FinMap, IsAntisymmetric, find, is_sorted}
 use Rattle.std.specs.FinMap.Entries.{below_all}
 use Rattle.chart_model.proofs.SortedEntries.{first, second, less}
 use Rattle.route_check.proofs.Members.{Has, IsBefore, Rises, before_each}
-
-some_is : {X : Type 0} (x y : X) → ◌≡◌ {A = Option X} (Some x) (Some y) → x ≡ y
-some_is x y e = cc
+use Rattle.text_scan.proofs.Numbers.{some_is}
 
 tied : (o : Ordering) → is_eq o ≡ true → o ≡ Equal
 tied Less e = absurd (let no : ◌≡◌ {A = Bool} false true = e in cc)

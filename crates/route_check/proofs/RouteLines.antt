@@ -16,22 +16,12 @@ use Rattle.text_lines.specs.Lines.{parts_at, Lacks}
 use Rattle.plane_geometry.specs.declared.point.Pt.{Pt}
 use Rattle.route_check.specs.declared.line.HalfWidths.{HalfWidths}
 use Rattle.route_check.specs.RouteLine.{SpellsHalfWidth, SpellsBox, SpellsCoordinate, SpellsPoint, half_width_of, coordinate_of, widths_with, box_with, box_in, box_of, point_with, point_in, point_of}
+use Rattle.text_scan.proofs.Numbers.{NumbersAreSpelled, some_is}
+use Rattle.text_lines.proofs.Parting.{PartsAreFound, PartsAreJoined}
 
 -- what the laws of the crates below say of numbers and of parts
-abbrev pub NumbersAreSpelled : Type 0
-NumbersAreSpelled = (text : List ℕ) (n : ℕ) → (number_of text ≡ Some n) ↔ (IsNumber text × (value_of text ≡ n))
-
 abbrev pub SignedAreSpelled : Type 0
 SignedAreSpelled = (text : List ℕ) (z : ℤ) → (signed_of text ≡ Some z) ↔ SpellsSigned text z
-
-abbrev pub PartsAreJoined : Type 0
-PartsAreJoined = (parting : ℕ) (text : List ℕ) → join_with_byte parting (parts_at parting text) ≡ text
-
-abbrev pub PartsAreFound : Type 0
-PartsAreFound = (parting : ℕ) (part : List ℕ) (parts : List (List ℕ)) → All (Lacks parting) (part ∷ parts) → parts_at parting (join_with_byte parting (part ∷ parts)) ≡ part ∷ parts
-
-some_is : {A : Type 0} (x y : A) → ◌≡◌ {A = Option A} (Some x) (Some y) → x ≡ y
-some_is x y e = cc
 
 -- ---- numbers of a range
 

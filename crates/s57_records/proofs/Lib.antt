@@ -6,4 +6,3 @@ mod Examples
 pub mod Sound
 pub mod Made
 pub mod Gathering
-mod SameTags

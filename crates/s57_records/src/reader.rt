@@ -1,7 +1,6 @@
 //! The subfields of one data record.
 
 ghost use Rattle.std.specs.Prelude.{◌≡◌, codes, MatchResult};
-ghost use Rattle.std.specs.Str.{bytes_eq};
 ghost use Rattle.s57_subfields.specs.Columns.{once_in};
 ghost use Rattle.s57_subfields.specs.Number.{number_up_to, ONE_BYTE};
 ghost use Rattle.s57_subfields.specs.RowValues.{fields_in};
@@ -45,19 +44,11 @@ pub(crate) fn reads_as(
     }
 }
 
-/// Whether two tags are the same. They are compared as numbers, since the comparison of arrays looks at them byte by
-/// byte.
-fn is_same(tag: &[u8; 4], other: &[u8; 4]) -> bool
-    ensures { result ≡ bytes_eq tag.now other.now }
-{
-    u32::from_le_bytes(*tag) == u32::from_le_bytes(*other)
-}
-
 /// Whether a record has a field of this tag.
 fn has_tag(fields: &[RawField], tag: [u8; 4]) -> bool
     ensures { result ≡ has_field fields.now tag }
 {
-    fields.iter().any(|field| is_same(&field.tag, &tag))
+    fields.iter().any(|field| field.tag == tag)
 }
 
 /// A list of a record: what its row reads in the fields of a tag, and the empty list where the record

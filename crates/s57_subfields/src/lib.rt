@@ -23,7 +23,7 @@ mod text;
 pub use fault::FieldFault;
 pub use group::{Group, Groups, read_behind};
 pub use kind::Kind;
-pub use laws::groups_are_whole;
+pub use laws::{groups_are_whole, labels_are_spelled, tags_are_spelled};
 pub use name::{ObjectName, RecordName};
 pub use number::{FourBytes, OneByte, TwoBytes};
 pub use row_fields::RowFields;

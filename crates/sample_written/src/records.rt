@@ -98,6 +98,47 @@ const RECORDS: [(Row, &[u8]); 10] = [
     ),
 ];
 
+/// A feature of a class.
+macro_rules! of_class {
+    ($rcid:expr, $class:expr) => {
+        Row {
+            class: $class,
+            ..feature!(255, $rcid, [])
+        }
+    };
+}
+
+/// Features of the first and the last class of each kind, and of those beside them.
+const CLASSES: [Row; 14] = [
+    of_class!(1, 1),
+    of_class!(2, 42),
+    of_class!(3, 299),
+    of_class!(4, 300),
+    of_class!(5, 350),
+    of_class!(6, 399),
+    of_class!(7, 400),
+    of_class!(8, 401),
+    of_class!(9, 450),
+    of_class!(10, 499),
+    of_class!(11, 500),
+    of_class!(12, 599),
+    of_class!(13, 600),
+    of_class!(14, 65_535),
+];
+
+/// Where the numbers of features stand: eight numbers and a terminator end the record of general information.
+const COUNTS: usize = 1761 + 161 - 33;
+
+#[test]
+fn features_are_counted_by_their_classes(rt: HostRuntime) -> Result<(), Fail> {
+    let file = spell_cell(rt.alloc(), &chart(rt.alloc(), &CLASSES)?)?;
+    let (_, numbers) = file.as_slice().split_at_checked(COUNTS).ok_or("numbers")?;
+    let (counts, _) = numbers.split_at_checked(16).ok_or("four numbers")?;
+    // meta objects, cartographic objects, geographic ones and collections
+    assert!(rt; counts == b"\x03\0\0\0\x02\0\0\0\x05\0\0\0\x04\0\0\0");
+    Ok(())
+}
+
 #[test]
 fn records_alone(rt: HostRuntime) -> Result<(), Fail> {
     for (row, bytes) in RECORDS {

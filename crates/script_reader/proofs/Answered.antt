@@ -10,7 +10,9 @@ use Rattle.script_reader.specs.declared.fault.LineFault.TheVariants.{BadLine, No
 use Rattle.script_reader.specs.Line.{AskFor, NamesFile, Spells, IsSilent, IsBad}
 use Rattle.script_reader.specs.Reading.{words_of, event_of, is_silent, event_or_bad, event_in, Answers}
 use Rattle.script_reader.proofs.WordTests.{KeysAreTested}
-use Rattle.script_reader.proofs.Events.{some_is, found, given, spelled_short}
+use Rattle.script_reader.proofs.Events.{found, given, spelled_short}
+use Rattle.text_scan.proofs.Numbers.{some_is}
+use Rattle.text_scan.proofs.Scans.{chosen}
 
 abbrev pub Answer : Type 0
 Answer = Result (Option Event) LineFault
@@ -41,11 +43,6 @@ pub spelled_speaks : (line : List ℕ) (event : Event) → Spells line event →
 spelled_speaks line event s = ap is_silent s.parted ∙ asked_speaks event s.words s.asking
 
 -- ---- the function and the relation
-
--- the answer to a line that is silent, and to one that isn't
-chosen : (b : Bool) (x y z : Answer) → cond b x y ≡ z → ((b ≡ true) × (x ≡ z)) ⊎ ((b ≡ false) × (y ≡ z))
-chosen true x y z e = inl (refl, e)
-chosen false x y z e = inr (refl, e)
 
 or_bad_event : (number : ℕ) (o : Option Event) (event : Event) → event_or_bad number o ≡ Ok (Some event) → o ≡ Some event
 or_bad_event number (Some other) event e = cc

@@ -18,16 +18,10 @@ use Rattle.script_reader.specs.Line.{AreInRange, AskFor, CanBeMade, NamesFile, S
 use Rattle.script_reader.specs.Reading.{words_of, info_in, load_in, rollback_in, drop_in, draw_in, route_in, can_be_made, make_with, make_in, reissue_in, event_alone, event_with_one, event_with_two, event_of}
 use Rattle.script_reader.proofs.WordTests.{KeysAreTested, Decides-word, Decides-short, Decides-made, no_short}
 use Rattle.script_reader.proofs.Parting.{visible_unparted, digits_unparted, tested_unparted, split_one, split_two, split_three}
+use Rattle.text_scan.proofs.Numbers.{some_is}
+use Rattle.text_scan.proofs.Scans.{chosen}
 
 -- ---- from words to what they ask for
-
--- the branch that a choice took
-chosen : {A : Type 0} (b : Bool) (x y z : A) → cond b x y ≡ z → ((b ≡ true) × (x ≡ z)) ⊎ ((b ≡ false) × (y ≡ z))
-chosen true x y z e = inl (refl, e)
-chosen false x y z e = inr (refl, e)
-
-pub some_is : {A : Type 0} (x y : A) → ◌≡◌ {A = Option A} (Some x) (Some y) → x ≡ y
-some_is x y e = cc
 
 -- a choice between an event and none, that gave an event
 taken : (b : Bool) (x y : Event) → cond b (Some x) None ≡ Some y → (b ≡ true) × (x ≡ y)

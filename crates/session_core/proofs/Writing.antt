@@ -10,7 +10,7 @@ use Rattle.chart_model.specs.declared.name.Name.{Name}
 use Rattle.chart_model.specs.declared.cell.Vector.{Vector}
 use Rattle.chart_model.specs.Names.{name_cmp}
 use Rattle.chart_model.proofs.Names.{name_cmp-total}
-use Rattle.cell_bytes.specs.Generator.{areas_to, area_name, deepened_areas, edge_name, edges_to, is_deepened, made_area, made_cell, made_edge, made_node, node_name, nodes_to, numbers_to}
+use Rattle.cell_bytes.specs.Generator.{areas_to, area_name, modified_areas, edge_name, edges_to, is_modified, made_area, made_cell, made_edge, made_node, node_name, nodes_to, numbers_to}
 use Rattle.cell_bytes.specs.Written.{data_records, feature_record, feature_records, vector_record, vector_records}
 use Rattle.session_core.specs.declared.fault.EventFault.{EventFault}
 use Rattle.session_core.specs.declared.written.MadeFile.{MadeFile}
@@ -67,18 +67,18 @@ few-features-made count cell is most = omega (arith, ap (λ (c : CellValue). fin
 
 -- ---- the areas that an update modifies
 
-abbrev pub deepened_to : ℕ → ℕ → ℕ
-deepened_to update count = length (deepened_areas update count)
+abbrev pub modified_to : ℕ → ℕ → ℕ
+modified_to update count = length (modified_areas update count)
 
-pub none_deepened : (update : ℕ) → deepened_to update 0 ≡ 0
-unfolding deepened_areas numbers_to
-none_deepened update = refl
+pub none_modified : (update : ℕ) → modified_to update 0 ≡ 0
+unfolding modified_areas numbers_to
+none_modified update = refl
 
-deepened_next : (update count : ℕ) → deepened_to update (suc count) ≡ deepened_to update count + length (filter (is_deepened update) (suc count ∷ []))
-unfolding deepened_areas numbers_to
-deepened_next update count =
-    ap length (filter-append (is_deepened update) (numbers_to count) (suc count ∷ []))
-    ∙ length-append (filter (is_deepened update) (numbers_to count)) (filter (is_deepened update) (suc count ∷ []))
+modified_next : (update count : ℕ) → modified_to update (suc count) ≡ modified_to update count + length (filter (is_modified update) (suc count ∷ []))
+unfolding modified_areas numbers_to
+modified_next update count =
+    ap length (filter-append (is_modified update) (numbers_to count) (suc count ∷ []))
+    ∙ length-append (filter (is_modified update) (numbers_to count)) (filter (is_modified update) (suc count ∷ []))
 
 one_kept : (p : ℕ → Bool) (x : ℕ) → p x ≡ true → length (filter p (x ∷ [])) ≡ 1
 one_kept p x h = rw h refl
@@ -87,16 +87,16 @@ none_kept : (p : ℕ → Bool) (x : ℕ) → p x ≡ false → length (filter p 
 none_kept p x h = rw h refl
 
 -- the next area is modified, or not
-pub deepened_in : (update before : ℕ) → (before + 1) % 30 ≡ update % 30 → deepened_to update (before + 1) ≡ deepened_to update before + 1
-deepened_in update before h =
-    ap (deepened_to update) (add-one before) ∙ deepened_next update before
-    ∙ ap (λ (n : ℕ). deepened_to update before + n) (one_kept (is_deepened update) (suc before) (ap (is_deepened update) (sym (add-one before)) ∙ eq-eqb ((before + 1) % 30) (update % 30) h))
+pub modified_in : (update before : ℕ) → (before + 1) % 30 ≡ update % 30 → modified_to update (before + 1) ≡ modified_to update before + 1
+modified_in update before h =
+    ap (modified_to update) (add-one before) ∙ modified_next update before
+    ∙ ap (λ (n : ℕ). modified_to update before + n) (one_kept (is_modified update) (suc before) (ap (is_modified update) (sym (add-one before)) ∙ eq-eqb ((before + 1) % 30) (update % 30) h))
 
-pub deepened_out : (update before : ℕ) → ((before + 1) % 30 ≡ update % 30 → ⊥) → deepened_to update (before + 1) ≡ deepened_to update before
-deepened_out update before h =
-    let other = false_from_ne_true (is_deepened update (before + 1)) (λ is. h (eqb-true ((before + 1) % 30) (update % 30) is)) in
-    let none = none_kept (is_deepened update) (suc before) (ap (is_deepened update) (sym (add-one before)) ∙ other) in
-    omega (arith, ap (deepened_to update) (add-one before), deepened_next update before, none)
+pub modified_out : (update before : ℕ) → ((before + 1) % 30 ≡ update % 30 → ⊥) → modified_to update (before + 1) ≡ modified_to update before
+modified_out update before h =
+    let other = false_from_ne_true (is_modified update (before + 1)) (λ is. h (eqb-true ((before + 1) % 30) (update % 30) is)) in
+    let none = none_kept (is_modified update) (suc before) (ap (is_modified update) (sym (add-one before)) ∙ other) in
+    omega (arith, ap (modified_to update) (add-one before), modified_next update before, none)
 
 -- ---- what is made
 

@@ -2,7 +2,7 @@
 use Rattle.std.specs.Prelude.{ℕ, zero, suc, ◌+◌, List, length, Option, Some, None, unwrap_or, Result, Ok}
 use Rattle.chart_model.specs.Answers.{◌>>=◌, or_fault, or_fault_as}
 use Rattle.chart_model.specs.Cell.{CellValue}
-use Rattle.cell_bytes.specs.Generator.{deepened_areas, made_cell, made_update}
+use Rattle.cell_bytes.specs.Generator.{modified_areas, made_cell, made_update}
 use Rattle.cell_bytes.specs.Written.{data_records, written}
 use Rattle.cell_bytes.specs.declared.fault.WriteFault.{WriteFault}
 use Rattle.cell_bytes.specs.declared.fault.WriteFault.TheVariants as of_write
@@ -46,7 +46,7 @@ base_of cell = or_refused (written cell) >>= λ bytes. Ok (file_with (length (da
 
 -- an update: a record of general information, and one for each area that it modifies
 abbrev pub update_of : ℕ → ℕ → MadeFile
-update_of areas update = file_with (1 + length (deepened_areas update areas)) (made_update areas update)
+update_of areas update = file_with (1 + length (modified_areas update areas)) (made_update areas update)
 
 -- the base file of the cell for trials with so many areas where the number of the update is 0, or else that update
 unfoldable pub made_file : ℕ → ℕ → Result MadeFile Refusal

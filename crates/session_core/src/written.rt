@@ -3,7 +3,7 @@
 ghost use Rattle.std.specs.Prelude.{◌≡◌, ◌≢◌, ◌≤◌, length, Err, IfOk};
 ghost use Rattle.std.specs.FinMap as map;
 ghost use Rattle.std.specs.Int.{IsInRange};
-ghost use Rattle.cell_bytes.specs.Generator.{deepened_areas, made_cell};
+ghost use Rattle.cell_bytes.specs.Generator.{modified_areas, made_cell};
 ghost use Rattle.cell_bytes.specs.Written.{data_records};
 ghost use Rattle.session_core.specs.declared.fault.EventFault.TheVariants.{DeskFault};
 ghost use Rattle.session_core.specs.Answers.{Gives};
@@ -37,10 +37,10 @@ fn records_of(cell: &Cell) -> u64
     2 + cell.vectors.len() as u64 + cell.features.len() as u64
 }
 
-/// How many areas of so many an update modifies: those whose number is the update's modulo 30.
-fn deepened_count(update: u32, areas: u32) -> u32
+/// How many areas of so many an update modifies: those whose number and the update's are equal modulo 30.
+fn modified_count(update: u32, areas: u32) -> u32
     requires { areas ≤ 20000 }
-    ensures count { result ≡ length (deepened_areas update areas) }
+    ensures count { result ≡ length (modified_areas update areas) }
     ensures most { result ≤ 20000 }
 {
     let mut count = 0;
@@ -75,7 +75,7 @@ fn update_of(alloc: Global, areas: u32, update: u32) -> Result<MadeFile, AllocEr
     let bytes = make_update(alloc, areas, update)?;
     Ok(MadeFile {
         bytes,
-        records: 1 + deepened_count(update, areas) as u64,
+        records: 1 + modified_count(update, areas) as u64,
     })
 }
 

@@ -100,3 +100,11 @@ last_line bytes e h = ap lines_of_parts (cut_none 10 bytes e) ∙ alone bytes h
     alone (x ∷ xs) h =
         let some : eqb (length (x ∷ xs)) 0 ≡ false = grind (arith, nat_tests) in
         ap (λ (b : Bool). cond b [] ((x ∷ xs) ∷ [])) some
+
+-- ---- what the law of parts says, for the crates above
+
+abbrev pub PartsAreJoined : Type 0
+PartsAreJoined = (parting : ℕ) (text : List ℕ) → join_with_byte parting (parts_at parting text) ≡ text
+
+abbrev pub PartsAreFound : Type 0
+PartsAreFound = (parting : ℕ) (part : List ℕ) (parts : List (List ℕ)) → All (Lacks parting) (part ∷ parts) → parts_at parting (join_with_byte parting (part ∷ parts)) ≡ part ∷ parts

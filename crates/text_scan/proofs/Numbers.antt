@@ -89,3 +89,8 @@ signed_of_again (x ∷ xs) z (inl h) =
 pub found_signed : (text : List ℕ) (answer : Option ℤ) → answer ≡ signed_of text → IfSome answer (SpellsSigned text)
 found_signed text None e = tt
 found_signed text (Some z) e = signed_of_found text z (sym e)
+
+-- ---- what the law of numbers says, for the crates above
+
+abbrev pub NumbersAreSpelled : Type 0
+NumbersAreSpelled = (text : List ℕ) (n : ℕ) → (number_of text ≡ Some n) ↔ (IsNumber text × (value_of text ≡ n))

@@ -7,8 +7,8 @@ loop-before-preserved c =
     record {
       bytes =
           bytes_more c.args.update l.before c.args.file.now.number l.file.number c.args.file.now.bytes l.file.bytes
-          c.put_in_turn.new.file.bytes l.invariant.bytes l.invariant.number c.in_ok-put_in_turn.ensures.bytes;
+          c.put_where_modified.new.file.bytes l.invariant.bytes l.invariant.number c.in_ok-put_where_modified.ensures.bytes;
       number =
-          number_more c.args.update l.before c.args.file.now.number l.file.number c.put_in_turn.new.file.number
-          l.invariant.number c.in_ok-put_in_turn.ensures.number;
+          number_more c.args.update l.before c.args.file.now.number l.file.number c.put_where_modified.new.file.number
+          l.invariant.number c.in_ok-put_where_modified.ensures.number;
     }

@@ -1,7 +1,8 @@
 use Rattle.std.proofs.Common.{◌≡◌, ◌∙◌, ◌+◌, ◌*◌, ℕ, sym, ap, arith, rules, drop, get_or, true}
 use Rattle.std.proofs.lemmas.Bool.Decides.{nat_tests}
 use Rattle.std.specs.Char.{is_ascii_digit, digit_value}
-use Rattle.s57_subfields.proofs.Digits.{scanned, digits_up_to-none, digits_up_to-is, scanned-other, scanned-over, scanned-more, scanned-all, digit_is}
+use Rattle.iso8211_formats.proofs.Searches.{digit_value-digit}
+use Rattle.s57_subfields.proofs.Digits.{scanned, digits_up_to-none, digits_up_to-is, scanned-other, scanned-over, scanned-more, scanned-all}
 use Rattle.s57_subfields.proofs.number.digits_up_to.Goals as goal
 
 pub returns-then-is_empty-clause-found : goal.returns-then-is_empty-clause-found
@@ -18,7 +19,7 @@ returns-then-number-from-clause-found c =
     let l = c.loop-byte in
     let text = c.args.text.now in
     let digit : is_ascii_digit (get_or text l.byte-index 0) ≡ true = search rules in
-    let value = digit_is (get_or text l.byte-index 0) digit in
+    let value = digit_value-digit (get_or text l.byte-index 0) digit in
     sym (digits_up_to-is c.args.most text (omega arith) ∙ sym l.invariant.goes_on ∙ scanned-over c.args.most l.number text l.byte-index (omega arith) digit (omega (arith, value.0)))
 
 pub loop-byte-preserved : goal.loop-byte-preserved
@@ -27,7 +28,7 @@ loop-byte-preserved c =
     let text = c.args.text.now in
     let most = c.args.most in
     let digit : is_ascii_digit (get_or text l.byte-index 0) ≡ true = search rules in
-    let value = digit_is (get_or text l.byte-index 0) digit in
+    let value = digit_value-digit (get_or text l.byte-index 0) digit in
     let same : c.from.result ≡ digit_value (get_or text l.byte-index 0) = omega (arith, value.0) in
     record {
       within = omega arith;
