@@ -23,7 +23,7 @@ fn desk_of(alloc: Global, bank: &[u8], failing: &[u64]) -> Result<Untold, AllocE
     };
     let mut desk = MemoryDesk::open(alloc, failing, start)?;
     desk.reserve(alloc, 16, 99)?;
-    Ok(Untold { desk })
+    Ok(Untold { memory: desk })
 }
 
 /// A content as a text: the checkpoint, and each body behind a bar.

@@ -25,7 +25,7 @@ fn appended(alloc: Global) -> Result<FileBytes, Fail> {
     append(alloc, &mut desk, &mut bank, b"abc")?;
     append(alloc, &mut desk, &mut bank, b"de")?;
     // Old bytes are those on the disk.
-    let image = desk.desk.image_after(alloc, u64::MAX, Fill::Old)?;
+    let image = desk.memory.image_after(alloc, u64::MAX, Fill::Old)?;
     Ok(image.bank1)
 }
 
@@ -49,7 +49,7 @@ const ONE: &[u8] = b"\0\0\0\0\0\0\0\x02cp\x01\0\0\0\x03abc\0";
 fn left(alloc: Global, desk: &Untold, calls: u64) -> Result<[u8; 3], Fail> {
     let mut told = [b'?'; 3];
     for (each, fill) in told.iter_mut().zip([Fill::Old, Fill::New, Fill::Ones]) {
-        let image = desk.desk.image_after(alloc, calls, fill)?;
+        let image = desk.memory.image_after(alloc, calls, fill)?;
         *each = match read_as(alloc, image.bank1.as_slice())?.as_slice() {
             b"cp|abc" => b'0',
             b"cp|abc|de" => b'1',
@@ -114,7 +114,7 @@ const LAST: u64 = 268_435_448;
 /// desk fails where it is written.
 fn refused(alloc: Global, gate: u64) -> Result<Option<AppendFault>, Fail> {
     let mut desk = Far {
-        desk: desk_of(alloc, b"", &[])?,
+        near: desk_of(alloc, b"", &[])?,
         gate,
     };
     let (mut bank, _) = open_bank(alloc, &mut desk, 1)?;

@@ -10,7 +10,7 @@ use chart_ports::{Desk, Failed};
 /// A bank that is a checkpoint of zeros up to a gate is read, and all else goes to another desk.
 #[derive(Drop)]
 pub struct Far {
-    pub desk: Untold,
+    pub near: Untold,
     pub gate: u64,
 }
 
@@ -38,33 +38,33 @@ impl Desk for Far {
 
     ghost might = { λ _ _ _ said. said ≡ [] };
 
-    ghost faults = { λ far. (calls_of far.desk.desk).faults };
+    ghost faults = { λ far. (calls_of far.near.memory).faults };
 
     fn length(&mut self, file: u8) -> Result<u64, Failed> {
-        let _ = self.desk.length(file)?;
+        let _ = self.near.length(file)?;
         Ok(self.gate.saturating_add(1))
     }
 
     fn read_at(&mut self, file: u8, at: u64, buf: &mut [u8]) -> Result<usize, Failed> {
-        let _ = self.desk.read_at(file, at, buf)?;
+        let _ = self.near.read_at(file, at, buf)?;
         read_far(self.gate, buf);
         Ok(buf.len())
     }
 
     fn write_at(&mut self, file: u8, at: u64, bytes: &[u8]) -> Result<(), Failed> {
-        self.desk.write_at(file, at, bytes)
+        self.near.write_at(file, at, bytes)
     }
 
     fn cut(&mut self, file: u8, length: u64) -> Result<(), Failed> {
-        self.desk.cut(file, length)
+        self.near.cut(file, length)
     }
 
     fn sync(&mut self, file: u8) -> Result<(), Failed> {
-        self.desk.sync(file)
+        self.near.sync(file)
     }
 
     fn say(&mut self, bytes: &[u8]) -> Result<(), Failed> {
-        self.desk.say(bytes)
+        self.near.say(bytes)
     }
 
     ghost present = { λ _ _ _. tt };

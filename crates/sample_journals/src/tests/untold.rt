@@ -8,7 +8,7 @@ use chart_ports::{Desk, Failed, MemoryDesk};
 
 #[derive(Drop)]
 pub struct Untold {
-    pub desk: MemoryDesk,
+    pub memory: MemoryDesk,
 }
 
 impl Desk for Untold {
@@ -26,30 +26,30 @@ impl Desk for Untold {
 
     ghost might = { λ _ _ _ said. said ≡ [] };
 
-    ghost faults = { λ untold. (calls_of untold.desk).faults };
+    ghost faults = { λ untold. (calls_of untold.memory).faults };
 
     fn length(&mut self, file: u8) -> Result<u64, Failed> {
-        self.desk.length(file)
+        self.memory.length(file)
     }
 
     fn read_at(&mut self, file: u8, at: u64, buf: &mut [u8]) -> Result<usize, Failed> {
-        self.desk.read_at(file, at, buf)
+        self.memory.read_at(file, at, buf)
     }
 
     fn write_at(&mut self, file: u8, at: u64, bytes: &[u8]) -> Result<(), Failed> {
-        self.desk.write_at(file, at, bytes)
+        self.memory.write_at(file, at, bytes)
     }
 
     fn cut(&mut self, file: u8, length: u64) -> Result<(), Failed> {
-        self.desk.cut(file, length)
+        self.memory.cut(file, length)
     }
 
     fn sync(&mut self, file: u8) -> Result<(), Failed> {
-        self.desk.sync(file)
+        self.memory.sync(file)
     }
 
     fn say(&mut self, bytes: &[u8]) -> Result<(), Failed> {
-        self.desk.say(bytes)
+        self.memory.say(bytes)
     }
 
     ghost present = { λ _ _ _. tt };
