@@ -135,7 +135,7 @@ fn features_are_counted_by_their_classes(rt: HostRuntime) -> Result<(), Fail> {
     let (_, numbers) = file.as_slice().split_at_checked(COUNTS).ok_or("numbers")?;
     let (counts, _) = numbers.split_at_checked(16).ok_or("four numbers")?;
     // meta objects, cartographic objects, geographic ones and collections
-    assert!(rt; counts == b"\x03\0\0\0\x02\0\0\0\x05\0\0\0\x04\0\0\0");
+    assert!(rt; counts == b"\x03\0\0\0\x02\0\0\0\x05\0\0\0\x04\0\0\0".as_slice());
     Ok(())
 }
 
