@@ -14,7 +14,8 @@ use Rattle.lookup_table.specs.declared.condition.Condition.{Condition}
 use Rattle.lookup_table.specs.declared.instruction.Instruction.{Instruction}
 use Rattle.lookup_table.specs.declared.line.TableLine.{TableLine}
 use Rattle.lookup_table.specs.declared.written.WrittenLine.{WrittenLine}
-use Rattle.lookup_table.specs.Named.{line_as, named, named_condition, instruction_in, has_unknown_name, has_unknown_procedure}
+use Rattle.lookup_table.specs.Named.{line_as, named, named_condition, instruction_in, has_unknown_name}
+use Rattle.lookup_table.specs.Named.{has_unknown_procedure}
 use Rattle.lookup_table.specs.Reading.{each, written_of}
 
 -- the line of a table that a line of the file is, where it says something and is one
