@@ -6,4 +6,5 @@ pub mod Fieldwise
 pub mod GroupValues
 pub mod Numbers
 pub mod Tails
+pub mod Unread
 pub mod Whole

@@ -1,6 +1,6 @@
 -- The groups of a field, each by the values from its first one on: what stands so many values behind that.
-use Rattle.std.specs.List.{flat_map}
-use Rattle.std.specs.Prelude.{ℕ, zero, suc, List, [], ◌∷◌, slice_get, Option, Some, option_and_then}
+use Rattle.std.specs.List.{flat_map, list_any}
+use Rattle.std.specs.Prelude.{◌≡◌, ℕ, zero, suc, true, List, [], ◌∷◌, slice_get, Option, Some, is_none, option_and_then}
 use Rattle.iso8211_records.specs.declared.value.Value.{Value}
 
 -- the values from the one behind so many others on, and then from each one behind so many more
@@ -12,6 +12,10 @@ tails between (suc n) (x ∷ xs) = tails between n xs
 -- the groups of all fields
 abbrev pub tails_of : ℕ → ℕ → List (List Value) → List (List Value)
 tails_of at between fields = flat_map (λ values. tails between at values) fields
+
+-- one of the answers is nothing
+abbrev pub HasNone : {A : Type 0} → List (Option A) → Type 0
+HasNone answers = list_any is_none answers ≡ true
 
 -- what the value so far behind the first is read as
 abbrev pub behind : {A : Type 0} → (Value → Option A) → ℕ → List Value → Option A

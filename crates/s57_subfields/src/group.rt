@@ -1,8 +1,8 @@
 //! The groups of a record's fields, read one behind the other.
 
-ghost use Rattle.std.specs.Prelude.{◌≡◌, ◌+◌, ◌++◌, All, IfOk, IfSome, Some, map, slice_get, option_and_then};
+ghost use Rattle.std.specs.Prelude.{◌≡◌, ◌+◌, ◌++◌, All, IfOk, IfSome, IfNone, Some, map, slice_get, option_and_then};
 ghost use Rattle.iso8211_records.specs.declared.value.Value.{Value as RawValue};
-ghost use Rattle.s57_subfields.specs.Tails.{behind, tails, tails_of};
+ghost use Rattle.s57_subfields.specs.Tails.{HasNone, behind, tails, tails_of};
 
 use crate::kind::Kind;
 use crate::row_fields::RowFields;
@@ -68,6 +68,8 @@ impl Groups {
         ensures found { IfOk result (λ found. IfSome found (λ all. map (λ item. Some item) all.items
             ≡ map (λ item. Some item) read.items
             ++ map (G.reads group.now) (tails self.now.between self.now.at values.now))) }
+        ensures none { IfOk result (λ found. IfNone found
+            (HasNone (map (G.reads group.now) (tails self.now.between self.now.at values.now)))) }
         ensures holds { IfOk result (λ found. IfSome found (λ all. All (G.holds group.now) all.items)) }
     {
         let mut at = self.at as usize;
@@ -91,6 +93,8 @@ impl Groups {
     ) -> Result<Option<Vec<G::Output>>, AllocError>
         ensures found { IfOk result (λ found. IfSome found (λ all. map (λ item. Some item) all.items
             ≡ map (G.reads group.now) (tails_of self.now.at self.now.between values.now.fields))) }
+        ensures none { IfOk result (λ found. IfNone found
+            (HasNone (map (G.reads group.now) (tails_of self.now.at self.now.between values.now.fields)))) }
         ensures holds { IfOk result (λ found. IfSome found (λ all. All (G.holds group.now) all.items)) }
     {
         let tag = values.tag();

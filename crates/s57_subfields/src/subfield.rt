@@ -1,6 +1,6 @@
 //! Where a subfield stands in the descriptor of a file's field.
 
-ghost use Rattle.std.specs.Prelude.{◌≡◌, ◌+◌, ◌<◌, ◌≤◌, Some, length, position, All, IfSome, IfOk};
+ghost use Rattle.std.specs.Prelude.{◌≡◌, ◌≢◌, ℕ, ◌+◌, ◌<◌, ◌≤◌, Some, length, position, All, IfSome, IfNone, IfOk};
 ghost use Rattle.std.specs.Option.{option_copied};
 ghost use Rattle.std.specs.Str.{bytes_eq};
 ghost use Rattle.s57_subfields.specs.Answers.{Gives, GivesBy};
@@ -115,7 +115,8 @@ impl Subfield {
 
     /// The groups that begin with the subfield, where it is in the repeated group.
     pub fn groups(&self) -> Option<Groups>
-        ensures { IfSome result (λ groups. self.now.place ≡ Repeated groups.at groups.between) }
+        ensures found { IfSome result (λ groups. self.now.place ≡ Repeated groups.at groups.between) }
+        ensures none { IfNone result ((at between : ℕ) → self.now.place ≢ Repeated at between) }
     {
         match self.place {
             Place::Repeated { at, between } => Some(Groups { at, between }),
@@ -125,7 +126,8 @@ impl Subfield {
 
     /// How many values the subfield stands behind the first one of such groups, where it is in them.
     pub fn distance(&self, groups: &Groups) -> Option<u8>
-        ensures { IfSome result (λ n. self.now.place ≡ Repeated (groups.now.at + n) groups.now.between) }
+        ensures found { IfSome result (λ n. self.now.place ≡ Repeated (groups.now.at + n) groups.now.between) }
+        ensures none { IfNone result ((n : ℕ) → self.now.place ≢ Repeated (groups.now.at + n) groups.now.between) }
     {
         match self.place {
             Place::Repeated { at, between } if at >= groups.at && between == groups.between => {

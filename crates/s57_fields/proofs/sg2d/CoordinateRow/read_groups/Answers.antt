@@ -6,6 +6,6 @@ pub returns-in-Ok-Some-clause-found : goal.returns-in-Ok-Some-clause-found
 returns-in-Ok-Some-clause-found c =
     coordinates-pass c.args.self.now c.args.values.now
     c.in-Some.groups.at c.in-Some.groups.between c.in-Some-distance.xcoo
-    c.in-Ok-Some.coords.items c.in-Some.ensures c.in-Some-distance.ensures
+    c.in-Ok-Some.coords.items c.in-Some.ensures.found c.in-Some-distance.ensures.found
     (rw c.in-Ok-Some.field-0-is at c.in-Ok-Some.ensures.found)
     ∙ ap (λ xs. Ok xs) (sym c.from_vec.ensures)

@@ -7,7 +7,7 @@ returns-in-Ok-Some c =
     vector_pointers-pass c.args.self.now c.args.values.now
     c.in-Some.groups.at c.in-Some.groups.between c.in-Some-distance.ornt c.in-Some-distance-2.usag
     c.in-Some-distance-3.topi c.in-Some-distance-4.mask
-    c.in-Ok-Some.pointers.items c.in-Some.ensures c.in-Some-distance.ensures c.in-Some-distance-2.ensures
-    c.in-Some-distance-3.ensures c.in-Some-distance-4.ensures
+    c.in-Ok-Some.pointers.items c.in-Some.ensures.found c.in-Some-distance.ensures.found c.in-Some-distance-2.ensures.found
+    c.in-Some-distance-3.ensures.found c.in-Some-distance-4.ensures.found
     (rw c.in-Ok-Some.field-0-is at c.in-Ok-Some.ensures.found)
     ∙ ap (λ xs. Ok xs) (sym c.from_vec.ensures)

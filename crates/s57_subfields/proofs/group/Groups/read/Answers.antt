@@ -1,7 +1,8 @@
-use Rattle.std.proofs.Common.{◌≡◌, ◌∙◌, ◌++◌, Some, append-nil, arith, ap, filter, map, rules, sym, true, false}
+use Rattle.std.proofs.Common.{◌≡◌, ◌∙◌, ◌++◌, Some, append-nil, arith, ap, filter, map, rules, subst, sym, true, false}
 use Rattle.std.specs.Str.{bytes_eq}
-use Rattle.s57_subfields.specs.Tails.{tails, tails_of}
+use Rattle.s57_subfields.specs.Tails.{HasNone, tails, tails_of}
 use Rattle.s57_subfields.proofs.Tails.{field-read, groups_under-other, groups_under-end}
+use Rattle.s57_subfields.proofs.Unread.{field-unread}
 use Rattle.s57_subfields.proofs.group.Groups.read.Goals as goal
 
 pub loop-field-preserved-then-ne : goal.loop-field-preserved-then-ne
@@ -51,3 +52,19 @@ returns-clause-found g c =
     l.field-index (omega arith)))
     ∙ l.invariant.goes_on
     ∙ ap (λ values. map reads (tails_of groups.at groups.between values)) (sym fields)
+
+pub returns-in-Ok-None-clause-none : goal.returns-in-Ok-None-clause-none
+returns-in-Ok-None-clause-none g c =
+    let groups = c.args.self.now in
+    let l = c.loop-field in
+    let field = c.field-item.result in
+    let reads = g.G.Group.reads c.args.group.now in
+    let same : bytes_eq field.tag c.tag-tag.result ≡ true = search rules in
+    let fields = ap (λ row. row.fields) c.record-field-items.ensures
+    ∙ ap (λ tag. map (λ field. field.values)
+    (filter (λ field. bytes_eq field.tag tag) c.record-field-items.result.now)) (sym c.tag-tag.ensures) in
+    let unread = subst (λ values. HasNone (map reads (tails groups.between groups.at values))) c.as_slice.ensures
+    (rw c.in-Ok-None.field-0-is at c.in-Ok-None.ensures.none) in
+    subst (λ values. HasNone (map reads (tails_of groups.at groups.between values))) (sym fields)
+    (field-unread reads l.read.items c.tag-tag.result groups.at groups.between c.record-field-items.result.now
+    l.field-index field (omega arith) c.field-item.is same unread l.invariant.goes_on)

@@ -4,6 +4,7 @@ use Rattle.std.proofs.lemmas.List.Elements.{All-push}
 use Rattle.s57_subfields.specs.Tails.{tails}
 use Rattle.s57_subfields.proofs.GroupValues.{any}
 use Rattle.s57_subfields.proofs.Tails.{tails-drop, group-read, rest-is}
+use Rattle.s57_subfields.proofs.Unread.{group-unread}
 use Rattle.s57_subfields.proofs.group.Groups.read_field.Goals as goal
 
 pub loop-at-init : goal.loop-at-init
@@ -33,3 +34,13 @@ loop-at-preserved g c =
           (ap reads (sym (rest-is c.args.values.now l.at)) ∙ sym c.in-Ok-Some.ensures.found ∙ c.in-Ok-Some.field-0-is)
           ∙ l.invariant.goes_on;
     }
+
+pub returns-in-Ok-None-clause-none : goal.returns-in-Ok-None-clause-none
+returns-in-Ok-None-clause-none g c =
+    let groups = c.args.self.now in
+    let l = c.loop-at in
+    let reads = g.G.Group.reads c.args.group.now in
+    group-unread reads c.args.read.items l.read.items groups.between groups.at l.at c.args.values.now any
+    c.loop-at-test.true
+    (ap reads (sym (rest-is c.args.values.now l.at)) ∙ sym c.in-Ok-None.ensures.found ∙ c.in-Ok-None.field-0-is)
+    l.invariant.goes_on
