@@ -7,7 +7,7 @@ use Rattle.std.specs.Str.{all_ascii_digits}
 use Rattle.std.specs.Str.Parse.{digits_value}
 use Rattle.std.proofs.lemmas.Bool.{le-leb, lt-ltb}
 use Rattle.std.proofs.lemmas.Fmt.{decimal_is_IsNumeral, decimal_nonempty, digits_decimal, length-decimal-le}
-use Rattle.std.proofs.lemmas.Str.Parse.{IsNumeralModel, numerals_by_value, tells_all_ascii_digits}
+use Rattle.common_lemmas.proofs.Digits.{numerals}
 use Rattle.text_scan.specs.Written.{decimal_of}
 use Rattle.chart_model.specs.Key.{IsKey, is_key}
 use Rattle.chart_model.proofs.KeyTests.{Decides-key}
@@ -36,15 +36,12 @@ name-is_read key is =
 
 -- ---- numbers
 
-digit_texts : IsNumeralModel (λ text. all_ascii_digits text ≡ true) (digits_value 10)
-digit_texts = numerals_by_value (λ text. all_ascii_digits text ≡ true) tells_all_ascii_digits
-
 digits-are_read : (n : ℕ) → n ≤ 999999999 → digits_up_to 999999999 (decimal n) ≡ Some n
 unfolding digits_up_to
 digits-are_read n le =
     let small : n < 2 ^ 64 = omega arith in
     let some : ltb 0 (length (decimal n)) ≡ true = lt-ltb _ _ (decimal_nonempty n small) in
-    let digits : all_ascii_digits (decimal n) ≡ true = digits_decimal digit_texts n small in
+    let digits : all_ascii_digits (decimal n) ≡ true = digits_decimal numerals n small in
     let value : digits_value 10 (decimal n) ≡ n = (decimal_is_IsNumeral n small).1 in
     let fits : leb n 999999999 ≡ true = le-leb _ _ le in
     rw (some, digits, value, fits) refl

@@ -3,6 +3,7 @@ use Rattle.std.proofs.Common.{◌≡◌, ◌+◌, Bool, true, false, not, cond, 
 use Rattle.std.proofs.Common.{sym, ◌∙◌, subst, inl, inr}
 use Rattle.std.proofs.lemmas.Bool.{true≢false, cases_Bool}
 use Rattle.std.specs.Prelude.{◌⊎◌}
+use Rattle.common_lemmas.proofs.Choices.{chosen}
 use Rattle.chart_model.specs.Dataset.{DatasetValue, IsDataset}
 use Rattle.chart_model.specs.declared.state.Held.{Held}
 use Rattle.update_sequence.specs.Judged.{is_older, judged_base, judged_update, judged}
@@ -10,7 +11,6 @@ use Rattle.update_sequence.specs.declared.effect.Effect.{Effect}
 use Rattle.update_sequence.specs.declared.effect.Effect.TheVariants.{Replace, Extend, Cancel}
 use Rattle.update_sequence.specs.declared.fault.SequenceFault.{SequenceFault}
 use Rattle.update_sequence.specs.declared.fault.SequenceFault.TheVariants.{Edition, Gap, Cancelled, StaleBase}
-use Rattle.s57_records.proofs.AnswerLemmas.{chosen}
 
 -- a base file isn't one that cancels
 pub stands_by_base : (dataset : DatasetValue) → IsDataset dataset → dataset.base ≡ true → dataset.cancels ≡ false

@@ -1,29 +1,16 @@
 -- A number is read as it is spelled.
-use Rattle.std.proofs.Common.{◌≡◌, ℕ, ◌<◌, ◌≤◌, ◌⊎◌, Bool, true, false, cond, not, ltb, leb, eqb, ◌&&◌, List, length}
-use Rattle.std.proofs.Common.{Option, Some, None, refl, sym, ap, inl, inr, arith}
+use Rattle.std.proofs.Common.{◌≡◌, ℕ, ◌<◌, ◌≤◌, true, not, ltb, leb, eqb, ◌&&◌, List, length}
+use Rattle.std.proofs.Common.{Some, None, sym, ap, inl, inr, arith}
 use Rattle.std.specs.Prelude.{slice_index}
 use Rattle.std.specs.Bool.{Decides}
 use Rattle.std.specs.Str.{all_ascii_digits}
-use Rattle.std.specs.Str.Parse.{AllDigits, digits_value}
+use Rattle.std.specs.Str.Parse.{digits_value}
 use Rattle.std.proofs.lemmas.Bool.{ltb-true, lt-ltb, leb-true, le-leb, and_parts, and_from}
-use Rattle.std.proofs.lemmas.Str.Parse.{IsNumeralModel, numerals_by_value, tells_all_ascii_digits}
+use Rattle.common_lemmas.proofs.Choices.{chosen, none_unless, some_is}
+use Rattle.common_lemmas.proofs.Digits.{Decides-digits}
 use Rattle.command_words.specs.Numbers.{IsNumber, SpellsNumber, is_number, number_from_to}
 
--- the branch that a choice took
-chosen : {A : Type 0} (b : Bool) (x y z : A) → cond b x y ≡ z → ((b ≡ true) × (x ≡ z)) ⊎ ((b ≡ false) × (y ≡ z))
-chosen true x y z e = inl (refl, e)
-chosen false x y z e = inr (refl, e)
-
-pub some_is : {A : Type 0} (x y : A) → ◌≡◌ {A = Option A} (Some x) (Some y) → x ≡ y
-some_is x y e = cc
-
 -- ---- the test of definitions
-
-numerals : IsNumeralModel (λ ds. all_ascii_digits ds ≡ true) (digits_value 10)
-numerals = numerals_by_value (λ ds. all_ascii_digits ds ≡ true) tells_all_ascii_digits
-
-Decides-digits : (text : List ℕ) → Decides (all_ascii_digits text) (AllDigits 10 text)
-Decides-digits text = (numerals.to text, numerals.from text)
 
 Decides-shortest : (text : List ℕ) → 0 < length text
     → Decides (not (eqb (slice_index text 0) 48 && ltb 1 (length text))) (slice_index text 0 ≡ 48 → length text ≡ 1)
@@ -72,9 +59,5 @@ from_to_again low high text n is lower upper =
 
 pub from_to_missing : (low high : ℕ) (text : List ℕ) → ((n : ℕ) → SpellsNumber text n → low ≤ n → n ≤ high → ⊥)
     → number_from_to low high text ≡ None
-from_to_missing low high text other = missing (number_from_to low high text)
-    (λ n e. let f = from_to_found low high text n e in other n f.0 f.1 f.2)
-  where
-    missing : (o : Option ℕ) → ((n : ℕ) → o ≡ Some n → ⊥) → o ≡ None
-    missing None h = refl
-    missing (Some n) h = absurd (h n refl)
+from_to_missing low high text other =
+    none_unless (number_from_to low high text) (λ n e. let f = from_to_found low high text n e in other n f.0 f.1 f.2)

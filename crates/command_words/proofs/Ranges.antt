@@ -2,6 +2,7 @@
 use Rattle.std.proofs.Common.{◌≡◌, ℕ, ◌≤◌, ℤ, pos, ◌≤ℤ◌, Bool, List, [], ◌∷◌, Option, Some, None, refl, ap, subst}
 use Rattle.std.proofs.Common.{arith}
 use Rattle.std.specs.Prelude.{Result, Ok, Err, IfOk, option_map, codes}
+use Rattle.common_lemmas.proofs.Choices.{some_is}
 use Rattle.command_words.specs.declared.fault.WordsFault.{WordsFault}
 use Rattle.command_words.specs.declared.reading.Words.{Words}
 use Rattle.clap.specs.Words.{Kinds, Row, fault_of, first_of, matches_of}
@@ -14,7 +15,7 @@ use Rattle.command_words.specs.Settings.{scale_of, said_or}
 use Rattle.command_words.specs.Reading.{WordsValue, depth_in, given, said_in, value_of, scale_in, settings_in}
 use Rattle.command_words.specs.Reading.{shades_in, where_none, words_of}
 use Rattle.command_words.specs.Given.{with_settings}
-use Rattle.command_words.proofs.Digits.{from_to_found, some_is}
+use Rattle.command_words.proofs.Digits.{from_to_found}
 
 within : (low high n : ℕ) → low ≤ n → n ≤ high → (pos low ≤ℤ pos n) × (pos n ≤ℤ pos high)
 within low high n lower upper = (grind arith, grind arith)

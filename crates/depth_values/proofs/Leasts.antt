@@ -3,7 +3,7 @@ use Rattle.std.proofs.Common.{◌≡◌, ◌⊎◌, inl, inr, suc, zero, ℤ, �
 use Rattle.std.specs.List.{fold, All, Contains}
 use Rattle.std.specs.Int.{int_min}
 use Rattle.std.proofs.lemmas.Int.{ints, fold-int_min_reached, fold-int_min_bounds}
-use Rattle.text_scan.proofs.Numbers.{some_is}
+use Rattle.common_lemmas.proofs.Choices.{some_is}
 use Rattle.depth_values.specs.Under.{lesser, least}
 use Rattle.depth_values.specs.Hazard.{IsLeast}
 

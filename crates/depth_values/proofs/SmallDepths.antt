@@ -4,10 +4,10 @@ use Rattle.std.proofs.lemmas.Int.{ints}
 use Rattle.std.specs.Str.Parse.{AllDigits}
 use native.Mathlib.Nat.{one-le-pow}
 use Rattle.std.proofs.Common.{lit<}
+use Rattle.common_lemmas.proofs.Digits.{test_from_AllDigits, value_short}
 use Rattle.text_scan.specs.Number.{value_of}
 use Rattle.text_scan.specs.Depth.{SpellsDepth, IsFloor, with_sign}
 use Rattle.text_scan.proofs.Floors.{floor_unique, floor_down, floor_up, floor_small}
-use Rattle.text_scan.proofs.Scans.{value_short, test_from_AllDigits}
 
 small_floor : (negative : Bool) (amount places : ℕ) (depth : ℤ) → amount < 10 ^ (6 + places) → IsFloor (with_sign negative (100 * amount)) (10 ^ places) depth → depth ≤ℤ pos 100000000
 small_floor true amount places depth small floor =

@@ -4,8 +4,9 @@ use Rattle.std.specs.Prelude.{option_map, MatchOption, ◌≢◌}
 use denote.Ref.{Bor}
 use Rattle.std.specs.List.{AllByRecursion}
 use Rattle.std.proofs.lemmas.Bool.{eqb-true, eq-eqb, and_parts}
+use Rattle.common_lemmas.proofs.Choices.{chosen, map_some, none_unless, some_is}
 use Rattle.iso8211_formats.specs.Reading.{cut_at, before_end}
-use Rattle.iso8211_formats.proofs.GivenValues.{map_some, chosen, guarded_some, some_is, none_unless}
+use Rattle.iso8211_formats.proofs.GivenValues.{guarded_some}
 
 -- this byte is nowhere in the text
 abbrev pub Lacks : ℕ → List ℕ → Type 0

@@ -6,12 +6,13 @@ use Rattle.std.specs.Option.{ok_or}
 use Rattle.std.proofs.lemmas.Bool.{eqb-true, eq-eqb, leb-true, le-leb, and_parts}
 use Rattle.std.proofs.lemmas.List.{length-map, drop_at}
 use Rattle.std.proofs.lemmas.List.Splits.{join_with_byte-slice_split, length-slice_split}
+use Rattle.common_lemmas.proofs.Choices.{chosen, some_is}
 use Rattle.iso8211_formats.specs.declared.fault.DescriptorFault.TheVariants.{Bad}
 use Rattle.iso8211_formats.specs.declared.format.Format.{Format}
 use Rattle.iso8211_formats.specs.Layout.{Layout, IsLayout, IsSound}
 use Rattle.iso8211_formats.specs.Grammar.{Spells, Item, IsItem, item_text, expanded, format_controls, array_descriptor}
 use Rattle.iso8211_formats.specs.Reading.{guarded, cut_at, before_end, items_text, formats_of, labels_of, layout_with, parts_of, descriptor_of}
-use Rattle.iso8211_formats.proofs.GivenValues.{bind_some, guarded_some, chosen, some_is}
+use Rattle.iso8211_formats.proofs.GivenValues.{bind_some, guarded_some}
 use Rattle.iso8211_formats.proofs.Cuts.{Lacks, cut_at_found, cut_at_again, before_end_found, before_end_again}
 use Rattle.iso8211_formats.proofs.Items.{items_of_found, items_of_again, slice_split-items, sound_expanded}
 use Rattle.iso8211_formats.proofs.LabelTexts.{IsArray, labels_of_found, labels_of_again, AreLabels-from_array, Lacks-array, AreFour-from_labels}

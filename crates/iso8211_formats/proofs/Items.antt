@@ -6,14 +6,16 @@ use Rattle.std.specs.Char.{is_ascii_digit}
 use Rattle.std.specs.Str.Parse.{IsNumeral, digits_value}
 use Rattle.std.specs.List.{AllByRecursion, join_with_byte, slice_split}
 use Rattle.std.proofs.lemmas.Bool.{eqb-true, and_parts, or_cases}
+use Rattle.common_lemmas.proofs.Choices.{chosen, some_is}
+use Rattle.common_lemmas.proofs.Digits.{test_from_AllDigits}
 use Rattle.iso8211_formats.specs.declared.format.Format.{Format}
 use Rattle.iso8211_formats.specs.declared.format.Format.TheVariants.{TextOpen, Text, Unsigned, Signed, Bits}
 use Rattle.iso8211_formats.specs.Layout.{IsSound, IsWidth, IsBinarySize}
 use Rattle.iso8211_formats.specs.Grammar.{IsTextLetter, HasWidth, SpellsFormat, Item, IsItem, item_text, expanded}
 use Rattle.iso8211_formats.specs.Reading.{◌>>=◌, guarded, is_empty, cut_at, counting_number_of, count_of, digits_and_rest, is_text_letter, open_format, binary_format, format_with, sized_format, format_of, item_of, items_of}
-use Rattle.iso8211_formats.proofs.GivenValues.{bind_some, chosen, guarded_some, some_is}
+use Rattle.iso8211_formats.proofs.GivenValues.{bind_some, guarded_some}
 use Rattle.iso8211_formats.proofs.Cuts.{Lacks, Lacks-append, cut_at_found, cut_at_again}
-use Rattle.iso8211_formats.proofs.Numbers.{counting_number_of_found, counting_number_of_again, digits_and_rest_found, digits_and_rest_again, count_of_found, count_of_again, SpellsCount-digits, Lacks-digits, test_from_AllDigits}
+use Rattle.iso8211_formats.proofs.Numbers.{counting_number_of_found, counting_number_of_again, digits_and_rest_found, digits_and_rest_again, count_of_found, count_of_again, SpellsCount-digits, Lacks-digits}
 
 -- a format's text, and a format that it may spell
 abbrev IsSpelled : List ℕ → Format → Type 0

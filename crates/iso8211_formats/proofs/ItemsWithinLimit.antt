@@ -3,9 +3,10 @@ use Rattle.std.proofs.Common.{◌≡◌, ℕ, ◌+◌, ◌<◌, ◌≤◌, Bool,
 use Rattle.std.proofs.lemmas.Bool.{leb-false, lt-leb, le-leb, cases_Bool}
 use Rattle.std.specs.Prelude.{option_map}
 use Rattle.std.specs.List.{slice_split}
+use Rattle.common_lemmas.proofs.Choices.{chosen}
 use Rattle.iso8211_formats.specs.declared.format.Format.{Format}
 use Rattle.iso8211_formats.specs.Reading.{◌>>=◌, guarded, cut_at, item_of, items_of, at_most, behind}
-use Rattle.iso8211_formats.proofs.GivenValues.{guarded_some, chosen}
+use Rattle.iso8211_formats.proofs.GivenValues.{guarded_some}
 use Rattle.iso8211_formats.proofs.Cuts.{Lacks, cut_at_found}
 use Rattle.iso8211_formats.proofs.Items.{onto_front, whole_part}
 

@@ -2,8 +2,8 @@
 use Rattle.std.proofs.Common.{◌≡◌, ℕ, suc, ◌+◌, ◌≤◌, Bool, true, false, eqb, List, [], ◌∷◌, ◌++◌, length, take, get_or, Option, Some, None, is_some, refl, sym, ap, ◌∙◌, inl, inr, arith, append_assoc, add-one}
 use Rattle.std.specs.Prelude.{option_map}
 use Rattle.std.proofs.lemmas.Bool.{cases_Bool, eqb-true, eq-eqb, ne_eqb}
+use Rattle.common_lemmas.proofs.Choices.{chosen, map_some}
 use Rattle.iso8211_formats.specs.Reading.{guarded, plain_labels, grouped_labels, closed_label}
-use Rattle.iso8211_formats.proofs.GivenValues.{chosen, map_some}
 
 pub plain_labels-more : (text : List ℕ) (parts : List ℕ × List ℕ) → closed_label text ≡ Some parts → plain_labels text ≡ option_map (λ labels. parts.0 ∷ labels) (plain_labels parts.1)
 unfolding closed_label plain_labels

@@ -3,9 +3,10 @@ use Rattle.std.proofs.Common.{◌≡◌, ℕ, zero, suc, ◌+◌, ◌-◌, ◌*�
 use Rattle.std.specs.Prelude.{option_map, IfSome}
 use Rattle.std.specs.List.{AllByRecursion, join_with_byte}
 use Rattle.std.proofs.lemmas.Bool.{eqb-true, eq-eqb, cases_Bool, ne_eqb}
+use Rattle.common_lemmas.proofs.Choices.{chosen, map_some, none_unless, some_is}
 use Rattle.iso8211_formats.specs.Grammar.{IsLabel, begins_at, marked_labels, array_descriptor}
 use Rattle.iso8211_formats.specs.Reading.{plain_labels, grouped_labels, labels_of}
-use Rattle.iso8211_formats.proofs.GivenValues.{map_some, chosen, some_is, or_some, none_unless}
+use Rattle.iso8211_formats.proofs.GivenValues.{or_some}
 use Rattle.iso8211_formats.proofs.Cuts.{Lacks, Lacks-append}
 
 -- four bytes

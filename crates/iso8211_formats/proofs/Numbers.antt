@@ -4,23 +4,12 @@ use Rattle.std.specs.Char.{is_ascii_digit}
 use Rattle.std.specs.Str.{all_ascii_digits}
 use Rattle.std.specs.Str.Parse.{AllDigits, IsNumeral, digits_value}
 use Rattle.std.proofs.lemmas.Bool.{eqb-true, ltb-true, lt-ltb, and_parts, and_from, cases_Bool, true≢false, false_from_ne_true}
-use Rattle.std.proofs.lemmas.Str.Parse.{IsNumeralModel, numerals_by_value, tells_all_ascii_digits}
+use Rattle.common_lemmas.proofs.Digits.{AllDigits-from_test, test_from_AllDigits}
+use Rattle.common_lemmas.proofs.Choices.{some_is}
 use Rattle.iso8211_formats.specs.Reading.{counting_number_of, digits_and_rest, count_of}
 use Rattle.iso8211_formats.specs.Grammar.{SpellsCount}
-use Rattle.iso8211_formats.proofs.GivenValues.{guarded_some, some_is}
+use Rattle.iso8211_formats.proofs.GivenValues.{guarded_some}
 use Rattle.iso8211_formats.proofs.Cuts.{Lacks}
-
-abbrev pub digits_test : List ℕ → Type 0
-digits_test ds = all_ascii_digits ds ≡ true
-
-numerals : IsNumeralModel digits_test (digits_value 10)
-numerals = numerals_by_value digits_test tells_all_ascii_digits
-
-pub AllDigits-from_test : (ds : List ℕ) → all_ascii_digits ds ≡ true → AllDigits 10 ds
-AllDigits-from_test ds h = numerals.to ds h
-
-pub test_from_AllDigits : (ds : List ℕ) → AllDigits 10 ds → all_ascii_digits ds ≡ true
-test_from_AllDigits ds h = numerals.from ds h
 
 abbrev fits : List ℕ → Bool
 fits digits = all_ascii_digits digits && (ltb 0 (digits_value 10 digits) && ltb (digits_value 10 digits) 100000)

@@ -1,17 +1,18 @@
 -- A text cut where a search in it stopped, and a number after some of its digits.
-use Rattle.std.proofs.Common.{◌≡◌, ℕ, zero, suc, ◌+◌, ◌-◌, ◌*◌, ◌<◌, ◌≤◌, Bool, true, false, not, eqb, ltb, List, [], ◌∷◌, length, get_or, take, drop, position, Some, None, refl, sym, ◌∙◌, inl, inr, arith, add-one}
+use Rattle.std.proofs.Common.{◌≡◌, ℕ, zero, suc, ◌+◌, ◌-◌, ◌*◌, ◌<◌, ◌≤◌, Bool, true, false, not, eqb, ltb, List, [], ◌∷◌, length, get_or, take, drop, position, Some, None, refl, sym, inl, inr, arith, add-one}
 use Rattle.std.specs.List.{position_or_len}
-use Rattle.std.specs.Char.{is_ascii_digit, digit_value}
+use Rattle.std.specs.Char.{is_ascii_digit}
 use Rattle.std.specs.Str.{all_ascii_digits}
 use Rattle.std.specs.Str.Parse.{digits_value}
-use Rattle.std.proofs.lemmas.Bool.{ltb-false, leb-true, le-ltb, lt-ltb, and_parts, and_from, not-true, not-false, false_from_ne_true, true≢false}
+use Rattle.std.proofs.lemmas.Bool.{ltb-false, not-true, not-false}
 use Rattle.std.proofs.lemmas.List.Quantifiers.{position-Some}
 use Rattle.std.proofs.lemmas.List.Sums.{fails_before_first}
 use Rattle.std.proofs.lemmas.Str.Parse.{digits_value-take-le}
 use Rattle.std.proofs.lemmas.Int.Digits.{digits_value_more}
+use Rattle.common_lemmas.proofs.Choices.{chosen, none_unless}
+use Rattle.common_lemmas.proofs.Digits.{all_ascii_digits-other, AllDigits-from_test, digit_value-digit}
 use Rattle.iso8211_formats.specs.Reading.{cut_at, digits_and_rest, counting_number_of}
-use Rattle.iso8211_formats.proofs.GivenValues.{chosen, none_unless}
-use Rattle.iso8211_formats.proofs.Numbers.{counting_number_of_found, counting_number_of_again, AllDigits-from_test}
+use Rattle.iso8211_formats.proofs.Numbers.{counting_number_of_found, counting_number_of_again}
 
 cut_at-index : (byte : ℕ) (text : List ℕ) (at : ℕ) → at < length text → eqb (get_or text at 0) byte ≡ true → ((k : ℕ) → k < at → eqb (get_or text k 0) byte ≡ false) → cut_at byte text ≡ Some (take at text, drop (suc at) text)
 unfolding cut_at
@@ -64,16 +65,10 @@ digits_and_rest-missed text e =
 
 -- ---- digits of a number
 
-all_ascii_digits-index : (text : List ℕ) (i : ℕ) → i < length text → all_ascii_digits text ≡ true → is_ascii_digit (get_or text i 0) ≡ true
-all_ascii_digits-index [] i lt all = absurd (omega arith)
-all_ascii_digits-index (x ∷ xs) zero lt all = (and_parts _ _ all).0
-all_ascii_digits-index (x ∷ xs) (suc i) lt all = all_ascii_digits-index xs i (omega arith) (and_parts _ _ all).1
-
 pub counting_number_of-other : (text : List ℕ) (i : ℕ) → i < length text → is_ascii_digit (get_or text i 0) ≡ false → counting_number_of text ≡ None
 unfolding counting_number_of
 counting_number_of-other text i lt other =
-    let not_all : all_ascii_digits text ≡ false = false_from_ne_true _ (λ all. true≢false (sym (all_ascii_digits-index text i lt all) ∙ other)) in
-    rw not_all refl
+    rw (all_ascii_digits-other text i lt other) refl
 
 pub counting_number_of-over : (text : List ℕ) (i : ℕ) → 99999 < digits_value 10 (take i text) → counting_number_of text ≡ None
 counting_number_of-over text i over =
@@ -85,25 +80,6 @@ counting_number_of-zero text zero_value =
 
 pub counting_number_of-is : (text : List ℕ) (n : ℕ) → all_ascii_digits text ≡ true → n ≡ digits_value 10 text → 1 ≤ n → n ≤ 99999 → counting_number_of text ≡ Some n
 counting_number_of-is text n all value low high = counting_number_of_again text n (AllDigits-from_test text all) (sym value) low high
-
-all_ascii_digits-suc : (text : List ℕ) (i : ℕ) → i < length text → all_ascii_digits (take i text) ≡ true → is_ascii_digit (get_or text i 0) ≡ true → all_ascii_digits (take (suc i) text) ≡ true
-all_ascii_digits-suc [] i lt all digit = absurd (omega arith)
-all_ascii_digits-suc (x ∷ xs) zero lt all digit = and_from _ _ digit refl
-all_ascii_digits-suc (x ∷ xs) (suc i) lt all digit =
-    let parts = and_parts (is_ascii_digit x) (all_ascii_digits (take i xs)) all in
-    and_from _ _ parts.0 (all_ascii_digits-suc xs i (omega arith) parts.1 digit)
-
-pub all_ascii_digits-more : (text : List ℕ) (i : ℕ) → i < length text → all_ascii_digits (take i text) ≡ true → is_ascii_digit (get_or text i 0) ≡ true → all_ascii_digits (take (i + 1) text) ≡ true
-all_ascii_digits-more text i lt all digit = rw add-one (all_ascii_digits-suc text i lt all digit)
-
-pub digit_value-digit : (x : ℕ) → is_ascii_digit x ≡ true → (digit_value x ≡ x - 48) × (48 ≤ x) × (x ≤ 57)
-digit_value-digit x digit =
-    let parts = and_parts _ _ digit in
-    let low : 48 ≤ x = leb-true 48 x parts.0 in
-    let high : x ≤ 57 = leb-true x 57 parts.1 in
-    let not_below : ltb x 48 ≡ false = le-ltb x 48 low in
-    let below : ltb x 58 ≡ true = lt-ltb x 58 (omega arith) in
-    (rw (not_below, below) refl, low, high)
 
 -- the number after one more digit
 pub digits_value-more : (text : List ℕ) (i value digit : ℕ) → i < length text → value ≡ digits_value 10 (take i text) → is_ascii_digit (get_or text i 0) ≡ true → digit ≡ get_or text i 0 - 48 → value * 10 + digit ≡ digits_value 10 (take (i + 1) text)

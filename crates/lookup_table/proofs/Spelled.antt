@@ -12,6 +12,7 @@ use Rattle.std.proofs.lemmas.List.Splits.{join_with_byte-slice_split, length-sli
 use Rattle.std.proofs.lemmas.Slice.Eq.{bytes_eq-Decides}
 use Rattle.chart_model.specs.declared.drawing.Geom.{Geom}
 use Rattle.chart_model.specs.declared.drawing.Geom.TheVariants.{Area, Line, Point}
+use Rattle.chart_model.proofs.KeyTests.{Decides-le}
 use Rattle.text_lines.specs.Lines.{parts_at, Lacks}
 use Rattle.object_catalogue.specs.Acronym.{IsAcronymByte, IsAcronym, is_acronym, acronym_of}
 use Rattle.object_catalogue.proofs.Acronyms.{Decides-acronym, acronym_some, acronym_lacks}
@@ -79,9 +80,6 @@ module _ {X Y : Type 0} (f : X → Option Y) (spell : Y → X) (Is : Y → Type 
       ∙ (λ i. behind (read y (All-head Is y ys h) i) (each-spelled read ys (All-tail Is y ys h) i))
 
 -- ---- bytes
-
-Decides-le : (a b : ℕ) → Decides (nat_le a b) (a ≤ b)
-Decides-le a b = (leb-true a b, le-leb a b)
 
 Decides-text_byte : (byte : ℕ) → Decides (is_text_byte byte) (IsTextByte byte)
 Decides-text_byte byte =

@@ -12,6 +12,7 @@ use Rattle.std.proofs.lemmas.List.Elements.{All-nil, All-cons}
 use Rattle.std.proofs.lemmas.List.Splits.{length-slice_split}
 use Rattle.std.proofs.lemmas.Slice.Eq.{bytes_eq-Decides}
 use Rattle.std.proofs.lemmas.Str.Parse.{digit_from_value}
+use Rattle.common_lemmas.proofs.Choices.{some_is}
 use Rattle.text_scan.specs.Number.{IsNumber, value_of, number_of}
 use Rattle.text_lines.specs.Lines.{IsSilent, is_silent, parts_at, Lacks}
 use Rattle.object_catalogue.specs.declared.entry.Kind.{Kind}
@@ -21,7 +22,7 @@ use Rattle.object_catalogue.specs.Acronym.{IsAcronym, is_acronym, acronym_of}
 use Rattle.object_catalogue.specs.Entry.{letter_of, Spells, IsBad, kind_of, in_range, code_of, entry_with, entry_in, entry_of}
 use Rattle.object_catalogue.specs.Reading.{is_bad}
 use Rattle.object_catalogue.proofs.Acronyms.{Decides-acronym, acronym_some, acronym_lacks}
-use Rattle.text_scan.proofs.Numbers.{NumbersAreSpelled, some_is}
+use Rattle.text_scan.proofs.Numbers.{NumbersAreSpelled}
 use Rattle.text_lines.proofs.Parting.{PartsAreFound, PartsAreJoined}
 
 -- ---- kinds

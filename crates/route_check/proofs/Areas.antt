@@ -4,6 +4,7 @@ use Rattle.std.specs.Prelude.{option_map}
 use Rattle.std.specs.List.{Contains, cons_option, filter_map, flat_map}
 use Rattle.std.specs.FinMap as finite
 use Rattle.std.proofs.lemmas.Bool.{and_parts, eqb-true}
+use Rattle.common_lemmas.proofs.Choices.{some_is}
 use Rattle.chart_model.specs.declared.name.Name.{Name}
 use Rattle.chart_model.specs.declared.cell.Feature.{Feature}
 use Rattle.chart_model.specs.Cell.{CellValue}
@@ -19,7 +20,6 @@ use Rattle.depth_values.specs.Under.{is_depth_area, area_at, areas_of}
 use Rattle.depth_values.specs.Codes.{DEPARE, DRGARE}
 use Rattle.route_check.proofs.Members.{Has, has_out}
 use Rattle.route_check.proofs.Held.{entry_held}
-use Rattle.text_scan.proofs.Numbers.{some_is}
 
 -- a value that is there comes from one of those that were asked
 record Picked {X Y : Type 0} (f : X → Option Y) (xs : List X) (y : Y) : Type 0 where

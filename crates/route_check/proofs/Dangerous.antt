@@ -1,5 +1,5 @@
 -- The dangerous objects of a feature are those of its list.
-use Rattle.std.proofs.Common.{◌≡◌, inl, inr, ℕ, ◌≤◌, nat_le, eqb, ℤ, ◌≤ℤ◌, int_le, Bool, true, false, cond, ◌||◌, ◌&&◌, List, [], ◌∷◌, Option, Some, None, refl, sym, ap, ◌∙◌, subst, arith}
+use Rattle.std.proofs.Common.{◌≡◌, inl, inr, ℕ, nat_le, eqb, ℤ, ◌≤ℤ◌, int_le, Bool, true, false, cond, ◌||◌, ◌&&◌, List, [], ◌∷◌, Option, Some, None, refl, sym, ap, ◌∙◌, subst, arith}
 use Rattle.std.specs.Prelude.{option_map, not}
 use Rattle.std.specs.Bool.{Decides}
 use Rattle.std.specs.List.{flat_map, enumerate_from}
@@ -10,6 +10,7 @@ use Rattle.chart_model.specs.declared.cell.Feature.{Feature}
 use Rattle.chart_model.specs.declared.settings.Settings.{Settings}
 use Rattle.chart_model.specs.Cell.{CellValue}
 use Rattle.chart_model.specs.Codes.{POINT, AREA}
+use Rattle.chart_model.proofs.KeyTests.{Decides-le}
 use Rattle.plane_geometry.specs.declared.point.Pt.{Pt}
 use Rattle.area_rings.specs.declared.shape.Shape.{Shape}
 use Rattle.area_rings.specs.declared.shape.Shape.TheVariants.{Points, Lines, Rings, Bare}
@@ -27,15 +28,12 @@ use Rattle.route_check.proofs.Numbered.{IsNumbered, numbered_out, numbered_again
 Decides-int_le : (a b : ℤ) → Decides (int_le a b) (a ≤ℤ b)
 Decides-int_le a b = (λ e. grind (arith, ints), λ h. grind (arith, ints))
 
-Decides-nat_le : (a b : ℕ) → Decides (nat_le a b) (a ≤ b)
-Decides-nat_le a b = (λ e. grind arith, λ h. grind arith)
-
 Decides-hazard : (feature : Feature) → Decides (is_hazard feature) (IsHazard feature)
 Decides-hazard feature =
     Decides-like (is_hazard feature) (λ h. record { class = h.0; prim = h.1 }) (λ h. (h.class, h.prim))
     (Decides-and _ _
     (Decides-or _ _ (Decides-eqb feature.class OBSTRN) (Decides-or _ _ (Decides-eqb feature.class UWTROC) (Decides-eqb feature.class WRECKS)))
-    (Decides-and _ _ (Decides-nat_le POINT feature.prim) (Decides-nat_le feature.prim AREA)))
+    (Decides-and _ _ (Decides-le POINT feature.prim) (Decides-le feature.prim AREA)))
 
 pub Decides-dangerous : (cell : CellValue) (settings : Settings) (feature : Feature) → Decides (is_dangerous cell settings feature) (IsDangerous cell settings feature)
 Decides-dangerous cell settings feature =

@@ -7,9 +7,9 @@ use Rattle.std.specs.Cmp.{IsTotalOrder, tied_itself}
 use Rattle.std.specs.FinMap as finite
 use Rattle.std.specs.FinMap.{FinMap, IsAntisymmetric, find, is_sorted}
 use Rattle.std.specs.FinMap.Entries.{below_all}
+use Rattle.common_lemmas.proofs.Choices.{some_is}
 use Rattle.chart_model.proofs.SortedEntries.{first, second, less}
 use Rattle.route_check.proofs.Members.{Has, IsBefore, Rises, before_each}
-use Rattle.text_scan.proofs.Numbers.{some_is}
 
 tied : (o : Ordering) → is_eq o ≡ true → o ≡ Equal
 tied Less e = absurd (let no : ◌≡◌ {A = Bool} false true = e in cc)

@@ -11,12 +11,13 @@ use Rattle.std.proofs.lemmas.List.Elements.{All-nil, All-cons}
 use Rattle.std.proofs.lemmas.List.Splits.{length-slice_split}
 use Rattle.std.proofs.lemmas.Slice.Eq.{bytes_eq-Decides}
 use Rattle.std.proofs.lemmas.Str.Parse.{digit_from_value}
+use Rattle.common_lemmas.proofs.Choices.{some_is}
 use Rattle.text_scan.specs.Number.{IsNumber, value_of, number_of, SpellsSigned, signed_of}
 use Rattle.text_lines.specs.Lines.{parts_at, Lacks}
 use Rattle.plane_geometry.specs.declared.point.Pt.{Pt}
 use Rattle.route_check.specs.declared.line.HalfWidths.{HalfWidths}
 use Rattle.route_check.specs.RouteLine.{SpellsHalfWidth, SpellsBox, SpellsCoordinate, SpellsPoint, half_width_of, coordinate_of, widths_with, box_with, box_in, box_of, point_with, point_in, point_of}
-use Rattle.text_scan.proofs.Numbers.{NumbersAreSpelled, some_is}
+use Rattle.text_scan.proofs.Numbers.{NumbersAreSpelled}
 use Rattle.text_lines.proofs.Parting.{PartsAreFound, PartsAreJoined}
 
 -- what the laws of the crates below say of numbers and of parts

@@ -1,5 +1,5 @@
 -- What follows of an answer, and of those before it, where a value was answered.
-use Rattle.std.proofs.Common.{◌≡◌, Bool, true, false, cond, ◌⊎◌, Result, Ok, Err, refl, subst, inl, inr}
+use Rattle.std.proofs.Common.{◌≡◌, Bool, true, false, Result, Ok, Err, refl, subst}
 use Rattle.s57_records.specs.declared.fault.DatasetFault.{DatasetFault}
 use Rattle.chart_model.specs.Answers.{◌>>=◌}
 use Rattle.s57_records.specs.Rows.{ensure}
@@ -12,10 +12,6 @@ bind_ok (Err d) f y e = absurd cc
 pub ensure_ok : (test : Bool) (fault : DatasetFault) (x : Unit {0}) → ensure test fault ≡ Ok x → test ≡ true
 ensure_ok true fault x e = refl
 ensure_ok false fault x e = absurd cc
-
-pub chosen : {A : Type 0} (b : Bool) (x y z : A) → cond b x y ≡ z → ((b ≡ true) × (x ≡ z)) ⊎ ((b ≡ false) × (y ≡ z))
-chosen true x y z e = inl (refl, e)
-chosen false x y z e = inr (refl, e)
 
 pub ok_is : {A : Type 0} (x y : A) → ◌≡◌ {A = Result A DatasetFault} (Ok x) (Ok y) → x ≡ y
 ok_is x y e = cc

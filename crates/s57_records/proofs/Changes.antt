@@ -2,6 +2,7 @@
 use Rattle.std.proofs.Common.{◌≡◌, ℕ, ◌≤◌, Bool, true, false, cond, not, ◌&&◌, ◌||◌, eqb, ◌⊎◌, List, [], ◌++◌, Option, Some, None, Result, Ok, Err, refl, sym, ap, subst, ◌∙◌, inl, inr, arith, append-nil, All}
 use Rattle.std.specs.Prelude.{codes, IsSome, IsNone}
 use Rattle.std.proofs.lemmas.Bool.{and_parts, or_cases, eqb-true, eq-eqb, leb-true, true≢false}
+use Rattle.common_lemmas.proofs.Choices.{chosen}
 use Rattle.chart_model.specs.declared.name.Name.{Name}
 use Rattle.chart_model.specs.declared.name.Foid.{Foid}
 use Rattle.chart_model.specs.declared.record.Attr.{Attr}
@@ -20,8 +21,8 @@ use Rattle.s57_records.specs.declared.change.VectorHead.{VectorHead}
 use Rattle.s57_records.specs.declared.change.FeatureHead.{FeatureHead}
 use Rattle.chart_model.specs.Answers.{◌>>=◌}
 use Rattle.s57_subfields.specs.Number.{ONE_BYTE, TWO_BYTES, FOUR_BYTES}
-use Rattle.s57_records.specs.Rows.{ensure, reads_as, is_instruction, ruin_of, unless_deleted, edit_of, is_vector_kind, vector_head, coords_of, vector_of, is_prim, inserts, checked_prim, foid_of, feature_head, feature_of}
-use Rattle.s57_records.proofs.AnswerLemmas.{bind_ok, bind_then, ensure_ok, chosen, ok_is}
+use Rattle.s57_records.specs.Rows.{ensure, reads_as, is_instruction, ruin_of, unless_deleted, edit_of, is_vector_kind, vector_head, coords_of, vector_change, vector_of, is_prim, inserts, checked_prim, foid_of, feature_head, feature_change, feature_of}
+use Rattle.s57_records.proofs.AnswerLemmas.{bind_ok, bind_then, ensure_ok, ok_is}
 
 -- what the lists of a record keep
 pub record AreSound (s : Subfields) : Type 0 where
@@ -135,22 +136,7 @@ not_both : (rcnm : ℕ) → is_vector_kind rcnm ≡ true → rcnm ≡ 100 → �
 not_both rcnm vector feature = true≢false (sym vector ∙ ap is_vector_kind feature)
 
 -- a vector record's change, from its parts
-pub vector_made : (base : Bool) (n : ℕ) (s : Subfields) (sound : AreSound s) (head : VectorHead) (attrs : List Attr) (pointer_edit : Option Control) (pointers : List Pointer) (coord_edit : Option Control) (coords : List Coord) → IsVectorHead base n s head → unless_deleted head.ruin (s.attrs (codes "ATTV")) ≡ Ok attrs → IsEdit pointer_edit → IsEdit coord_edit → AreCoords coords → IsChange (record {
-  target = head.target;
-  ruin = head.ruin;
-  version = head.version;
-  prim = 0;
-  grup = 0;
-  class = 0;
-  foid = None;
-  attrs = attrs;
-  pointer_edit = pointer_edit;
-  pointers = pointers;
-  coord_edit = coord_edit;
-  coords = coords;
-  related_edit = None;
-  related = [];
-})
+pub vector_made : (base : Bool) (n : ℕ) (s : Subfields) (sound : AreSound s) (head : VectorHead) (attrs : List Attr) (pointer_edit : Option Control) (pointers : List Pointer) (coord_edit : Option Control) (coords : List Coord) → IsVectorHead base n s head → unless_deleted head.ruin (s.attrs (codes "ATTV")) ≡ Ok attrs → IsEdit pointer_edit → IsEdit coord_edit → AreCoords coords → IsChange (vector_change head attrs pointer_edit pointers coord_edit coords)
 vector_made base n s sound head attrs pointer_edit pointers coord_edit coords is attrs_e pointer_e coord_e coords_e = record {
   target = inl (vector_name head.target is.kind);
   ruin = ruin_is base n s (codes "VRID") head.ruin is.ruin;
@@ -233,22 +219,7 @@ feature_head_is base n s head e =
     subst (IsFeatureHead base n s) (ok_is _ head made) (record { kind = eqb-true rcnm 100 (ensure_ok _ _ _ kind_e); prim = ensure_ok _ _ _ listed_e; ruin = ruin_e }))))))))))
 
 -- a feature's change, from its parts
-pub feature_made : (base : Bool) (n : ℕ) (s : Subfields) (sound : AreSound s) (head : FeatureHead) (foid : Option Foid) (attrs : List Attr) (related_edit : Option Control) (related : List Related) (pointer_edit : Option Control) (pointers : List Pointer) → IsFeatureHead base n s head → foid_of head.ruin n s ≡ Ok foid → unless_deleted head.ruin (s.attrs (codes "ATTF")) ≡ Ok attrs → IsEdit related_edit → IsEdit pointer_edit → unless_deleted head.ruin (s.pointers (codes "FSPT")) ≡ Ok pointers → IsChange (record {
-  target = head.target;
-  ruin = head.ruin;
-  version = head.version;
-  prim = head.prim;
-  grup = head.grup;
-  class = head.class;
-  foid = foid;
-  attrs = attrs;
-  pointer_edit = pointer_edit;
-  pointers = pointers;
-  coord_edit = None;
-  coords = [];
-  related_edit = related_edit;
-  related = related;
-})
+pub feature_made : (base : Bool) (n : ℕ) (s : Subfields) (sound : AreSound s) (head : FeatureHead) (foid : Option Foid) (attrs : List Attr) (related_edit : Option Control) (related : List Related) (pointer_edit : Option Control) (pointers : List Pointer) → IsFeatureHead base n s head → foid_of head.ruin n s ≡ Ok foid → unless_deleted head.ruin (s.attrs (codes "ATTF")) ≡ Ok attrs → IsEdit related_edit → IsEdit pointer_edit → unless_deleted head.ruin (s.pointers (codes "FSPT")) ≡ Ok pointers → IsChange (feature_change head foid attrs related_edit related pointer_edit pointers)
 feature_made base n s sound head foid attrs related_edit related pointer_edit pointers is foid_e attrs_e related_edit_e pointer_edit_e pointers_e = record {
   target = inr is.kind;
   ruin = ruin_is base n s (codes "FRID") head.ruin is.ruin;

@@ -4,6 +4,7 @@ use Rattle.std.specs.Prelude.{codes, filter_map}
 use Rattle.std.specs.List.{AllByRecursion}
 use Rattle.std.proofs.lemmas.List.Elements.{All-from_recursion}
 use Rattle.std.proofs.lemmas.Bool.{and_parts, and_from, eqb-true, eq-eqb, true≢false, cases_Bool}
+use Rattle.common_lemmas.proofs.Choices.{chosen}
 use Rattle.chart_model.specs.Dataset.{DatasetValue, IsDataset, IsPlainInsert}
 use Rattle.chart_model.specs.Key.{IsKey}
 use Rattle.s57_records.specs.declared.general.General.{General}
@@ -14,7 +15,7 @@ use Rattle.chart_model.specs.Answers.{◌>>=◌}
 use Rattle.s57_subfields.specs.Number.{ONE_BYTE, TWO_BYTES}
 use Rattle.s57_records.specs.Rows.{ensure, reads_as, checked_edition, general_of, checked_structure, scale_of, vector_of, feature_of}
 use Rattle.s57_records.specs.Dataset.{Kind, general, parameters, vector, feature, other, kind_of, Said, change_is, scale_is, nothing, said_by, looked_at, all_of, change_in, scale_among, header_with, cancels, dataset_after, dataset_of}
-use Rattle.s57_records.proofs.AnswerLemmas.{bind_then, ensure_ok, chosen, ok_is}
+use Rattle.s57_records.proofs.AnswerLemmas.{bind_then, ensure_ok, ok_is}
 use Rattle.s57_records.proofs.Changes.{AreSound, HasKeys, vector_is_plain, feature_is_plain}
 
 -- ---- general information

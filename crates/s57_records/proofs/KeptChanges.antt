@@ -3,6 +3,7 @@ use Rattle.std.proofs.Common.{◌≡◌, ℕ, suc, Bool, true, false, cond, List
 use Rattle.std.specs.Prelude.{codes, filter_map}
 use Rattle.std.specs.List.{AllByRecursion}
 use Rattle.std.proofs.lemmas.List.Elements.{All-from_recursion}
+use Rattle.common_lemmas.proofs.Choices.{chosen}
 use Rattle.chart_model.specs.Change.{IsChange}
 use Rattle.chart_model.specs.Dataset.{DatasetValue}
 use Rattle.s57_records.specs.declared.general.General.{General}
@@ -12,7 +13,7 @@ use Rattle.s57_records.specs.Subfields.{Subfields}
 use Rattle.chart_model.specs.Answers.{◌>>=◌}
 use Rattle.s57_records.specs.Rows.{general_of, checked_structure, scale_of, vector_of, feature_of}
 use Rattle.s57_records.specs.Dataset.{Kind, general, parameters, vector, feature, other, kind_of, is_parameters, Said, change_is, scale_is, nothing, said_by, looked_at, all_of, change_in, scale_among, cancels, dataset_after, dataset_of}
-use Rattle.s57_records.proofs.AnswerLemmas.{bind_then, chosen, ok_is}
+use Rattle.s57_records.proofs.AnswerLemmas.{bind_then, ok_is}
 use Rattle.s57_records.proofs.Changes.{AreSound, All-nil, vector_is_change, feature_is_change}
 
 KeptSaid : Said → Type 0

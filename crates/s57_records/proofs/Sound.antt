@@ -6,6 +6,7 @@ use Rattle.std.specs.Str.{bytes_eq, all_ascii_digits}
 use Rattle.std.specs.Str.Parse.{digits_value}
 use Rattle.std.proofs.lemmas.List.Elements.{All-from_recursion}
 use Rattle.std.proofs.lemmas.Bool.{and_parts, eq-eqb, leb-true, true≢false, or_parts}
+use Rattle.common_lemmas.proofs.Choices.{chosen}
 use Rattle.chart_model.specs.declared.name.Name.{Name}
 use Rattle.chart_model.specs.declared.record.Attr.{Attr}
 use Rattle.chart_model.specs.declared.record.Pointer.{Pointer}
@@ -36,7 +37,6 @@ use Rattle.s57_fields.specs.Fspt.{fspt_row, feature_pointers, feature_pointer_co
 use Rattle.s57_fields.specs.Sg2d.{sg2d_row, coordinates, coordinate_columns, coordinates_in}
 use Rattle.s57_fields.specs.Sg3d.{sg3d_row, soundings, sounding_columns, soundings_in}
 use Rattle.s57_records.specs.LayoutReadings.{widened, mapped, under, Layouts, has_field, coords_in, subfields_of, all_subfields}
-use Rattle.s57_records.proofs.AnswerLemmas.{chosen}
 use Rattle.s57_records.proofs.Changes.{AreSound, HasKeys, All-nil}
 
 -- ---- steps

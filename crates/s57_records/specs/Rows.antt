@@ -9,7 +9,10 @@ use Rattle.chart_model.specs.Codes.{INSERT, DELETE, MODIFY}
 use Rattle.chart_model.specs.declared.name.Foid.{Foid}
 use Rattle.chart_model.specs.declared.update_record.Control.{Control}
 use Rattle.chart_model.specs.Change.{Change}
+use Rattle.chart_model.specs.declared.record.Attr.{Attr}
 use Rattle.chart_model.specs.declared.record.Coord.{Coord}
+use Rattle.chart_model.specs.declared.record.Pointer.{Pointer}
+use Rattle.chart_model.specs.declared.record.Related.{Related}
 use Rattle.s57_subfields.specs.Number.{ONE_BYTE, TWO_BYTES, FOUR_BYTES}
 use Rattle.s57_records.specs.declared.general.General.{General}
 use Rattle.s57_records.specs.declared.change.VectorHead.{VectorHead}
@@ -121,6 +124,25 @@ coords_of ruin s = do
   soundings ← unless_deleted ruin (s.coords (codes "SG3D"))
   Ok (coordinates ++ soundings)
 
+-- the change of a vector record, from its parts
+abbrev pub vector_change : VectorHead → List Attr → Option Control → List Pointer → Option Control → List Coord → Change
+vector_change head attrs pointer_edit pointers coord_edit coords = record {
+  target = head.target;
+  ruin = head.ruin;
+  version = head.version;
+  prim = 0;
+  grup = 0;
+  class = 0;
+  foid = None;
+  attrs = attrs;
+  pointer_edit = pointer_edit;
+  pointers = pointers;
+  coord_edit = coord_edit;
+  coords = coords;
+  related_edit = None;
+  related = [];
+}
+
 -- VRID, ATTV, VRPC, VRPT, SGCC, SG2D and SG3D. A record has no ARCC.
 unfoldable pub vector_of : Bool → ℕ → Subfields → Result Change DatasetFault
 vector_of base n s = do
@@ -131,22 +153,7 @@ vector_of base n s = do
   coord_edit ← edit_of base head.ruin n s (codes "SGCC") (codes "CCUI") (codes "CCIX") (codes "CCNC")
   coords ← coords_of head.ruin s
   _ ← ensure (not (s.has (codes "ARCC"))) (Profile (codes "ARCC"))
-  Ok (record {
-    target = head.target;
-    ruin = head.ruin;
-    version = head.version;
-    prim = 0;
-    grup = 0;
-    class = 0;
-    foid = None;
-    attrs = attrs;
-    pointer_edit = pointer_edit;
-    pointers = pointers;
-    coord_edit = coord_edit;
-    coords = coords;
-    related_edit = None;
-    related = [];
-  })
+  Ok (vector_change head attrs pointer_edit pointers coord_edit coords)
 
 -- a point, a line, an area or none of these
 abbrev pub is_prim : ℕ → Bool
@@ -189,6 +196,25 @@ feature_head base n s = do
     ruin = ruin;
   })
 
+-- the change of a feature record, from its parts
+abbrev pub feature_change : FeatureHead → Option Foid → List Attr → Option Control → List Related → Option Control → List Pointer → Change
+feature_change head foid attrs related_edit related pointer_edit pointers = record {
+  target = head.target;
+  ruin = head.ruin;
+  version = head.version;
+  prim = head.prim;
+  grup = head.grup;
+  class = head.class;
+  foid = foid;
+  attrs = attrs;
+  pointer_edit = pointer_edit;
+  pointers = pointers;
+  coord_edit = None;
+  coords = [];
+  related_edit = related_edit;
+  related = related;
+}
+
 -- FRID, FOID, ATTF, FFPC, FFPT, FSPC and FSPT
 unfoldable pub feature_of : Bool → ℕ → Subfields → Result Change DatasetFault
 feature_of base n s = do
@@ -199,19 +225,4 @@ feature_of base n s = do
   related ← unless_deleted head.ruin (s.related (codes "FFPT"))
   pointer_edit ← edit_of base head.ruin n s (codes "FSPC") (codes "FSUI") (codes "FSIX") (codes "NSPT")
   pointers ← unless_deleted head.ruin (s.pointers (codes "FSPT"))
-  Ok (record {
-    target = head.target;
-    ruin = head.ruin;
-    version = head.version;
-    prim = head.prim;
-    grup = head.grup;
-    class = head.class;
-    foid = foid;
-    attrs = attrs;
-    pointer_edit = pointer_edit;
-    pointers = pointers;
-    coord_edit = None;
-    coords = [];
-    related_edit = related_edit;
-    related = related;
-  })
+  Ok (feature_change head foid attrs related_edit related pointer_edit pointers)

@@ -3,6 +3,7 @@ use Rattle.std.proofs.Common.{◌≡◌, ℕ, ◌<◌, ◌⊎◌, Bool, true, fa
 use Rattle.std.specs.Prelude.{Result, Ok, Err}
 use Rattle.std.specs.List.{join_with_byte}
 use Rattle.std.proofs.lemmas.Bool.{false_from_ne_true, true≢false, eqb-true, eq-eqb}
+use Rattle.common_lemmas.proofs.Choices.{chosen, some_is}
 use Rattle.script_reader.specs.declared.event.Event.{Event}
 use Rattle.script_reader.specs.declared.event.Event.TheVariants.{Info, Load, Rollback, Drop, Cells, Draw, Route, Make, Reissue}
 use Rattle.script_reader.specs.declared.fault.LineFault.{LineFault}
@@ -11,8 +12,6 @@ use Rattle.script_reader.specs.Line.{AskFor, NamesFile, Spells, IsSilent, IsBad}
 use Rattle.script_reader.specs.Reading.{words_of, event_of, is_silent, event_or_bad, event_in, Answers}
 use Rattle.script_reader.proofs.WordTests.{KeysAreTested}
 use Rattle.script_reader.proofs.Events.{found, given, spelled_short}
-use Rattle.text_scan.proofs.Numbers.{some_is}
-use Rattle.text_scan.proofs.Scans.{chosen}
 
 abbrev pub Answer : Type 0
 Answer = Result (Option Event) LineFault

@@ -1,16 +1,17 @@
 -- What the tests of words and numbers tell.
-use Rattle.std.proofs.Common.{◌≡◌, ℕ, ◌≤◌, ◌<◌, ◌^◌, true, false, nat_le, ◌&&◌, ◌↔◌, List, length, refl, arith}
+use Rattle.std.proofs.Common.{◌≡◌, ℕ, ◌<◌, ◌^◌, true, false, nat_le, ◌&&◌, ◌↔◌, List, length, arith}
 use Rattle.std.specs.Bool.{Decides}
-use Rattle.std.specs.List.{list_all, All}
+use Rattle.std.specs.List.{All}
 use Rattle.std.specs.Str.{all_ascii_digits, IsUtf8}
-use Rattle.std.specs.Str.Parse.{AllDigits}
-use Rattle.std.proofs.lemmas.Bool.{leb-true, le-leb, false_from_ne_true}
-use Rattle.std.proofs.lemmas.Bool.Decides.{Decides-and, Decides-like, Decides-by_and}
+use Rattle.std.proofs.lemmas.Bool.{false_from_ne_true}
+use Rattle.std.proofs.lemmas.Bool.Decides.{Decides-and, Decides-like}
 use Rattle.std.proofs.lemmas.List.Elements.{All-weaker}
 use Rattle.std.proofs.lemmas.Str.{IsUtf8-from_ascii}
 use Rattle.std.proofs.lemmas.Str.Ascii.{IsAscii-from_all}
-use Rattle.std.proofs.lemmas.Str.Parse.{IsNumeralModel, numerals_by_value, tells_all_ascii_digits, digits_value_short}
-use Rattle.chart_model.specs.Key.{IsKey, IsVisible, is_key, is_visible}
+use Rattle.std.proofs.lemmas.Str.Parse.{digits_value_short}
+use Rattle.common_lemmas.proofs.Digits.{Decides-digits, numerals}
+use Rattle.chart_model.specs.Key.{IsKey, IsVisible, is_key}
+use Rattle.chart_model.proofs.KeyTests.{Decides-le, Decides-visible_word}
 use Rattle.text_scan.specs.Number.{value_of}
 use Rattle.script_reader.specs.Word.{IsWord, is_word}
 use Rattle.script_reader.specs.Number.{IsShortNumber, is_short_number}
@@ -26,22 +27,11 @@ no_key tested bytes other = false_from_ne_true (is_key bytes) (λ is. other ((te
 
 -- ---- words
 
-Decides-le : (a b : ℕ) → Decides (nat_le a b) (a ≤ b)
-Decides-le a b = (leb-true a b, le-leb a b)
-
-Decides-visible : (byte : ℕ) → Decides (is_visible byte) (IsVisible byte)
-Decides-visible byte = Decides-and (nat_le 33 byte) (nat_le byte 126) (Decides-le 33 byte) (Decides-le byte 126)
-
-Decides-all : (bytes : List ℕ) → Decides (list_all is_visible bytes) (All IsVisible bytes)
-Decides-all bytes = Decides-by_and is_visible IsVisible (list_all is_visible) Decides-visible refl (λ _ _. refl) bytes
-
 pub Decides-word : (bytes : List ℕ) → Decides (is_word bytes) (IsWord bytes)
-Decides-word bytes =
-    let short = Decides-and (nat_le (length bytes) 255) (list_all is_visible bytes) (Decides-le (length bytes) 255) (Decides-all bytes) in
-    Decides-like (is_word bytes)
+Decides-word bytes = Decides-like (is_word bytes)
     (λ h. record { nonempty = h.0; short = h.1.0; visible = h.1.1 })
     (λ w. (w.nonempty, (w.short, w.visible)))
-    (Decides-and (nat_le 1 (length bytes)) (nat_le (length bytes) 255 && list_all is_visible bytes) (Decides-le 1 (length bytes)) short)
+    (Decides-visible_word 255 bytes)
 
 pub no_word : (bytes : List ℕ) → ¬ IsWord bytes → is_word bytes ≡ false
 no_word bytes other = false_from_ne_true (is_word bytes) (λ is. other ((Decides-word bytes).0 is))
@@ -51,12 +41,6 @@ pub visible_text : (bytes : List ℕ) → All IsVisible bytes → IsUtf8 bytes
 visible_text bytes h = IsUtf8-from_ascii bytes (IsAscii-from_all bytes (All-weaker IsVisible (λ b. b < 128) (λ b v. omega arith) bytes h))
 
 -- ---- numbers
-
-numerals : IsNumeralModel (λ ds. all_ascii_digits ds ≡ true) (value_of)
-numerals = numerals_by_value (λ ds. all_ascii_digits ds ≡ true) tells_all_ascii_digits
-
-Decides-digits : (text : List ℕ) → Decides (all_ascii_digits text) (AllDigits 10 text)
-Decides-digits text = (numerals.to text, numerals.from text)
 
 pub Decides-short : (text : List ℕ) → Decides (is_short_number text) (IsShortNumber text)
 Decides-short text =

@@ -10,12 +10,13 @@ use Rattle.std.proofs.lemmas.List.{take-append-drop}
 use Rattle.std.proofs.lemmas.Bool.{ltb-true, lt-ltb, leb-true, le-leb, eqb-true, and_parts, and_from, cases_Bool}
 use Rattle.std.proofs.lemmas.Bool.{true≢false, false_from_ne_true}
 use native.Mathlib.Nat.{one-le-pow}
+use Rattle.common_lemmas.proofs.Choices.{chosen, map_some, some_is}
+use Rattle.common_lemmas.proofs.Digits.{AllDigits-from_test, test_from_AllDigits}
 use Rattle.text_scan.specs.Number.{value_of}
 use Rattle.text_scan.specs.Depth.{SpellsSign, with_sign, IsFloor, SpellsDepth, behind_digits, decimals_of, digits_of}
 use Rattle.text_scan.specs.Depth.{hundredths, depth_of}
 use Rattle.text_scan.proofs.Floors.{floor_unique, floor_down, floor_up}
-use Rattle.text_scan.proofs.Scans.{chosen, AllDigits-from_test, test_from_AllDigits, front_is_digits, cut_before}
-use Rattle.text_scan.proofs.Numbers.{some_is, map_some}
+use Rattle.text_scan.proofs.Scans.{front_is_digits, cut_before}
 
 -- the digits of a text before and behind its point
 pub record HasDigits (text whole decimals : List ℕ) : Type 0 where

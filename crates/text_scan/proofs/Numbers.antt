@@ -6,16 +6,9 @@ use Rattle.std.specs.Str.{all_ascii_digits}
 use Rattle.std.specs.Char.{is_ascii_digit}
 use Rattle.std.proofs.lemmas.Bool.{ltb-true, lt-ltb, leb-true, le-leb, eqb-true, and_parts, true≢false}
 use Rattle.std.proofs.lemmas.Bool.{false_from_ne_true}
+use Rattle.common_lemmas.proofs.Choices.{chosen, map_some, none_unless, some_is}
+use Rattle.common_lemmas.proofs.Digits.{AllDigits-from_test, test_from_AllDigits, value_short}
 use Rattle.text_scan.specs.Number.{IsNumber, value_of, number_of, SpellsSigned, signed_of}
-use Rattle.text_scan.proofs.Scans.{chosen, value_short, AllDigits-from_test, test_from_AllDigits}
-
-pub some_is : {A : Type 0} (x y : A) → ◌≡◌ {A = Option A} (Some x) (Some y) → x ≡ y
-some_is x y e = cc
-
-pub map_some : {A B : Type 0} (f : A → B) (o : Option A) (y : B) → option_map f o ≡ Some y
-    → (x : A) × (o ≡ Some x) × (f x ≡ y)
-map_some f None y e = absurd cc
-map_some f (Some x) y e = (x, refl, cc)
 
 abbrev is_number : List ℕ → Bool
 is_number text = ltb 0 (length text) && (leb (length text) 18 && all_ascii_digits text)
@@ -48,11 +41,7 @@ pub number_below : (text : List ℕ) → IsNumber text → value_of text < 10 ^ 
 number_below text is = value_short text 18 (test_from_AllDigits text is.0.1) is.1
 
 pub number_of_missing : (text : List ℕ) → (IsNumber text → ⊥) → number_of text ≡ None
-number_of_missing text other = missing (number_of text) (λ n e. other (number_of_found text n e).0)
-  where
-    missing : (o : Option ℕ) → ((n : ℕ) → o ≡ Some n → ⊥) → o ≡ None
-    missing None h = refl
-    missing (Some n) h = absurd (h n refl)
+number_of_missing text other = none_unless (number_of text) (λ n e. other (number_of_found text n e).0)
 
 pub number_of_none : (text : List ℕ) → number_of text ≡ None → IsNumber text → ⊥
 number_of_none text e is = let found = sym (number_of_again text is) ∙ e in cc

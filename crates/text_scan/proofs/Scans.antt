@@ -1,73 +1,20 @@
 -- Texts scanned digit by digit.
-use Rattle.std.proofs.Common.{◌≡◌, ℕ, zero, suc, ◌+◌, ◌-◌, ◌*◌, ◌^◌, ◌<◌, ◌≤◌, Bool, true, false, cond, ltb, ◌⊎◌, lit<}
-use Rattle.std.proofs.Common.{List, [], ◌∷◌, ◌++◌, length, get_or, take, drop, None, refl, sym, ap, ◌∙◌, inl, inr}
+use Rattle.std.proofs.Common.{◌≡◌, ℕ, zero, suc, ◌+◌, ◌-◌, ◌*◌, ◌^◌, ◌<◌, ◌≤◌, Bool, true, false, cond, lit<}
+use Rattle.std.proofs.Common.{List, [], ◌∷◌, ◌++◌, length, get_or, take, drop, refl, sym, ap, ◌∙◌}
 use Rattle.std.proofs.Common.{arith, add-one}
 use Rattle.std.specs.List.{prefix_len, take_while}
 use Rattle.std.specs.Char.{is_ascii_digit, digit_value}
 use Rattle.std.specs.Str.{all_ascii_digits}
-use Rattle.std.specs.Str.Parse.{AllDigits, digits_value, digits_value_after}
-use Rattle.std.proofs.lemmas.Bool.{leb-true, le-leb, le-ltb, lt-ltb, and_parts, and_from, false_from_ne_true}
-use Rattle.std.proofs.lemmas.Bool.{true≢false}
+use Rattle.std.specs.Str.Parse.{digits_value_after}
+use Rattle.std.proofs.lemmas.Bool.{le-leb, and_parts, and_from}
 use Rattle.std.proofs.lemmas.List.{take_all, drop_all, take-append-le, drop-append-le}
 use Rattle.std.proofs.lemmas.List.Sums.{take_while-cons}
-use Rattle.std.proofs.lemmas.Str.Parse.{IsNumeralModel, numerals_by_value, tells_all_ascii_digits, digits_value_short}
 use Rattle.std.proofs.lemmas.Str.Parse.{digit_from_value}
 use native.Mathlib.Nat.{pow-suc, pow-le-pow_right}
+use Rattle.common_lemmas.proofs.Digits.{all_ascii_digits-index, digit_value-digit}
 use Rattle.text_scan.specs.Depth.{behind_digits}
 
--- the branch that a choice took
-pub chosen : {A : Type 0} (b : Bool) (x y z : A) → cond b x y ≡ z → ((b ≡ true) × (x ≡ z)) ⊎ ((b ≡ false) × (y ≡ z))
-chosen true x y z e = inl (refl, e)
-chosen false x y z e = inr (refl, e)
-
 -- ---- digits
-
-abbrev pub digits_test : List ℕ → Type 0
-digits_test ds = all_ascii_digits ds ≡ true
-
-numerals : IsNumeralModel digits_test (digits_value 10)
-numerals = numerals_by_value digits_test tells_all_ascii_digits
-
-pub AllDigits-from_test : (ds : List ℕ) → all_ascii_digits ds ≡ true → AllDigits 10 ds
-AllDigits-from_test ds h = numerals.to ds h
-
-pub test_from_AllDigits : (ds : List ℕ) → AllDigits 10 ds → all_ascii_digits ds ≡ true
-test_from_AllDigits ds h = numerals.from ds h
-
-pub value_short : (ds : List ℕ) (k : ℕ) → all_ascii_digits ds ≡ true → length ds ≤ k → digits_value 10 ds < 10 ^ k
-value_short ds k all short = digits_value_short numerals ds k all short
-
-all_ascii_digits-index : (text : List ℕ) (i : ℕ) → i < length text → all_ascii_digits text ≡ true
-    → is_ascii_digit (get_or text i 0) ≡ true
-all_ascii_digits-index [] i lt all = absurd (omega arith)
-all_ascii_digits-index (x ∷ xs) zero lt all = (and_parts _ _ all).0
-all_ascii_digits-index (x ∷ xs) (suc i) lt all = all_ascii_digits-index xs i (omega arith) (and_parts _ _ all).1
-
-pub all_ascii_digits-other : (text : List ℕ) (i : ℕ) → i < length text → is_ascii_digit (get_or text i 0) ≡ false
-    → all_ascii_digits text ≡ false
-all_ascii_digits-other text i lt other =
-    false_from_ne_true _ (λ all. true≢false (sym (all_ascii_digits-index text i lt all) ∙ other))
-
-all_ascii_digits-suc : (text : List ℕ) (i : ℕ) → i < length text → all_ascii_digits (take i text) ≡ true
-    → is_ascii_digit (get_or text i 0) ≡ true → all_ascii_digits (take (suc i) text) ≡ true
-all_ascii_digits-suc [] i lt all digit = absurd (omega arith)
-all_ascii_digits-suc (x ∷ xs) zero lt all digit = and_from _ _ digit refl
-all_ascii_digits-suc (x ∷ xs) (suc i) lt all digit =
-    let parts = and_parts (is_ascii_digit x) (all_ascii_digits (take i xs)) all in
-    and_from _ _ parts.0 (all_ascii_digits-suc xs i (omega arith) parts.1 digit)
-
-pub all_ascii_digits-more : (text : List ℕ) (i : ℕ) → i < length text → all_ascii_digits (take i text) ≡ true
-    → is_ascii_digit (get_or text i 0) ≡ true → all_ascii_digits (take (i + 1) text) ≡ true
-all_ascii_digits-more text i lt all digit = rw add-one (all_ascii_digits-suc text i lt all digit)
-
-pub digit_value-digit : (x : ℕ) → is_ascii_digit x ≡ true → (digit_value x ≡ x - 48) × (48 ≤ x) × (x ≤ 57)
-digit_value-digit x digit =
-    let parts = and_parts _ _ digit in
-    let low : 48 ≤ x = leb-true 48 x parts.0 in
-    let high : x ≤ 57 = leb-true x 57 parts.1 in
-    let not_under : ltb x 48 ≡ false = le-ltb x 48 low in
-    let under : ltb x 58 ≡ true = lt-ltb x 58 (omega arith) in
-    (rw (not_under, under) refl, low, high)
 
 pub digit_at : (text : List ℕ) (i : ℕ) → i < length text → all_ascii_digits text ≡ true
     → (digit_value (get_or text i 0) ≡ get_or text i 0 - 48) × (48 ≤ get_or text i 0) × (get_or text i 0 ≤ 57)

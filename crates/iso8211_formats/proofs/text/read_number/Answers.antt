@@ -3,7 +3,8 @@ use Rattle.std.specs.Str.{all_ascii_digits}
 use Rattle.std.specs.Str.Parse.{digits_value}
 use Rattle.std.proofs.lemmas.List.{take_all}
 use Rattle.std.specs.Char.{is_ascii_digit}
-use Rattle.iso8211_formats.proofs.Searches.{counting_number_of-other, counting_number_of-over, counting_number_of-zero, counting_number_of-is, all_ascii_digits-more, digits_value-more}
+use Rattle.common_lemmas.proofs.Digits.{all_ascii_digits-more}
+use Rattle.iso8211_formats.proofs.Searches.{counting_number_of-other, counting_number_of-over, counting_number_of-zero, counting_number_of-is, digits_value-more}
 use Rattle.iso8211_formats.proofs.text.read_number.Goals as goal
 
 pub returns-then-not-is_ascii_digit : goal.returns-then-not-is_ascii_digit

@@ -1,7 +1,7 @@
 use Rattle.std.proofs.Common.{◌≡◌, ◌∙◌, ◌+◌, ◌*◌, ℕ, sym, ap, arith, rules, drop, get_or, true}
 use Rattle.std.proofs.lemmas.Bool.Decides.{nat_tests}
 use Rattle.std.specs.Char.{is_ascii_digit, digit_value}
-use Rattle.iso8211_formats.proofs.Searches.{digit_value-digit}
+use Rattle.common_lemmas.proofs.Digits.{digit_value-digit}
 use Rattle.s57_subfields.proofs.Digits.{scanned, digits_up_to-none, digits_up_to-is, scanned-other, scanned-over, scanned-more, scanned-all}
 use Rattle.s57_subfields.proofs.number.digits_up_to.Goals as goal
 

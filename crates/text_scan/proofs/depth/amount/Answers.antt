@@ -1,6 +1,7 @@
 use Rattle.std.proofs.Common.{ℕ, sym, ap, ◌∙◌, arith}
 use Rattle.std.specs.Str.Parse.{digits_value_after}
-use Rattle.text_scan.proofs.Scans.{value_short, value_after-append}
+use Rattle.common_lemmas.proofs.Digits.{value_short}
+use Rattle.text_scan.proofs.Scans.{value_after-append}
 use Rattle.text_scan.proofs.depth.amount.Goals as goal
 
 pub append_digits-requires-2-clause-small : goal.append_digits-requires-2-clause-small

@@ -1,5 +1,5 @@
 use Rattle.std.proofs.Common.{sym, arith, rules}
-use Rattle.text_scan.proofs.Scans.{all_ascii_digits-other, all_ascii_digits-more}
+use Rattle.common_lemmas.proofs.Digits.{all_ascii_digits-more, all_ascii_digits-other}
 use Rattle.text_scan.proofs.digits.are_digits.Goals as goal
 
 pub returns-then-not-is_ascii_digit : goal.returns-then-not-is_ascii_digit

@@ -1,6 +1,6 @@
 use Rattle.std.proofs.Common.{arith, sym, ap, ◌∙◌, Some, ℕ}
 use Rattle.std.proofs.lemmas.Bool.{true≢false}
-use Rattle.text_scan.proofs.Scans.{test_from_AllDigits}
+use Rattle.common_lemmas.proofs.Digits.{test_from_AllDigits}
 use Rattle.text_scan.proofs.Numbers.{number_below, number_of_again, number_of_missing}
 use Rattle.text_scan.proofs.number.read_number.Goals as goal
 
