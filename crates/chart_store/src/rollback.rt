@@ -27,7 +27,7 @@ use update_sequence::{
 
 /// Files that are kept of a cell, and the numbers that they leave.
 #[derive(Drop)]
-struct Kept {
+struct KeptFiles {
     files: FileList,
     held: Held,
 }
@@ -39,7 +39,7 @@ fn kept_by<C: Ledger>(
     files: &FileList,
     number: u32,
     steps: &mut Steps<C>,
-) -> Result<Option<Kept>, AllocError>
+) -> Result<Option<KeptFiles>, AllocError>
     ensures kept { (key : List ℕ) → IsSoundList key files.now →
         IfOk result (λ found. IfSome found (λ kept. kept_by key number files.now ≡ Some kept.files)) }
     ensures held { (key : List ℕ) → IsSoundList key files.now →
@@ -64,7 +64,7 @@ fn kept_by<C: Ledger>(
                 update: number,
                 cancelled: false,
             };
-            return Ok(Some(Kept { files: kept, held }));
+            return Ok(Some(KeptFiles { files: kept, held }));
         }
     }
     Ok(None)
@@ -76,7 +76,7 @@ fn next_with<C: Ledger>(
     live: &LiveCells,
     key: Key,
     here: &Holding,
-    kept: Kept,
+    kept: KeptFiles,
     naming: Naming,
     steps: &mut Steps<C>,
 ) -> Result<Next, AllocError>
@@ -96,7 +96,7 @@ fn next_with<C: Ledger>(
     let chart = rebuild(alloc, &kept.files, steps)?;
     let changed = changed_between(alloc, naming, here.chart.as_ref(), chart.as_ref())?;
     let bytes = live.bytes() - bytes_of(here.files.as_slice()) + bytes_of(kept.files.as_slice());
-    let Kept { files, held } = kept;
+    let KeptFiles { files, held } = kept;
     Ok(Next {
         key,
         held,
