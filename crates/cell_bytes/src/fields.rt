@@ -139,7 +139,7 @@ impl Fields {
 
     /// Adds the bytes of a record of these fields.
     #[tactic(auto, unfolding(crate::specs::Record::framed))]
-    pub(crate) fn put(&self, out: &mut Octets, kind: Kind) -> Result<(), AllocError>
+    pub(crate) fn append_to(&self, out: &mut Octets, kind: Kind) -> Result<(), AllocError>
         ensures { OnOk result (out.new ≡ out.old ++ framed kind self.now.directory self.now.area) }
     {
         out.extend_from_slice(&leader(kind, self.base()?, self.record_length()?))?;

@@ -72,7 +72,7 @@ impl CellFile {
             ≡ base_of self.old.draft.fields.directory + length self.old.draft.fields.area) }
     {
         let length = self.draft.fields.record_length()?;
-        self.draft.fields.put(&mut self.bytes, OF_DATA)?;
+        self.draft.fields.append_to(&mut self.bytes, OF_DATA)?;
         self.number = self.number.wrapping_add(1);
         Ok(length)
     }

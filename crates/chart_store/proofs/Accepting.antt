@@ -29,7 +29,7 @@ use Rattle.chart_store.specs.Refusal.{refusal_of_read, refusal_of_sequence, refu
 use Rattle.chart_store.specs.Fault.{or_refused}
 use Rattle.chart_store.specs.Loaded.{HoldingsByKey, nothing_held, files_of, files_after, buildable, holding_of}
 use Rattle.chart_store.specs.Loaded.{FILE_LIMIT, STORE_LIMIT, live_bytes, store_within, within_limit, cells_within, come_to}
-use Rattle.chart_store.specs.Loaded.{Outcome, put, accepted_file, loaded}
+use Rattle.chart_store.specs.Loaded.{Outcome, held_with, accepted_file, loaded}
 use Rattle.chart_store.specs.Live.{IsLive, AreLive, state_or, state_after, state_by}
 use Rattle.chart_store.specs.Taken.{held_of, chart_of, held_after, chart_after, cell_after, placed, taken}
 use Rattle.chart_store.proofs.Holdings.{AreLive-nothing, AreLive-insert}
@@ -89,9 +89,9 @@ store_within-is cells after e = go (leb (live_bytes cells) STORE_LIMIT) e
 
 -- ---- what a file is that is accepted
 
-put-is : (state : StateValue) (key : List ℕ) (here : Holding) (done : Outcome) → put state key here ≡ Ok done →
+held_with-is : (state : StateValue) (key : List ℕ) (here : Holding) (done : Outcome) → held_with state key here ≡ Ok done →
     (key ≡ done.key) × (map.insert state.cells key here ≡ done.state.cells)
-put-is state key here done e =
+held_with-is state key here done e =
     let b = bound_is (store_within (map.insert state.cells key here)) _ done e in
     let same = ok_is b.2 in (
       ap (λ (d : Outcome). d.key) same,
@@ -136,16 +136,16 @@ accepted-is state dataset file files done e =
     key : List ℕ
     key = dataset.header.key
 
-    building : (r : Result (Unit {0}) Refusal) (here : Holding) → (r >>= λ _. put state key here) ≡ Ok done →
+    building : (r : Result (Unit {0}) Refusal) (here : Holding) → (r >>= λ _. held_with state key here) ≡ Ok done →
         IsPut state dataset done
     building r here e =
-        let b = bound_is r (λ _. put state key here) done e in
-        let p = put-is state key here done b.2 in
+        let b = bound_is r (λ _. held_with state key here) done e in
+        let p = held_with-is state key here done b.2 in
         record { here = here; keyed = p.0; cells = p.1 }
 
     judging : (r : Result Effect Refusal) (room : Result (Unit {0}) Refusal) (builds : Effect →
         Result (Unit {0}) Refusal) (here : Effect → Holding) →
-        (r >>= λ effect. room >>= λ _. builds effect >>= λ _. put state key (here effect)) ≡ Ok done → IsPut state
+        (r >>= λ effect. room >>= λ _. builds effect >>= λ _. held_with state key (here effect)) ≡ Ok done → IsPut state
         dataset done
     judging (Ok effect) (Ok done') builds here e = building (builds effect) (here effect) e
     judging (Ok effect) (Err refusal) builds here e = absurd cc

@@ -25,7 +25,7 @@ use Rattle.chart_store.specs.declared.refusal.Refusal.{Refusal}
 use Rattle.chart_store.specs.Refusal.{refusal_of_sequence, refusal_of_build}
 use Rattle.chart_store.specs.Fault.{or_refused}
 use Rattle.chart_store.specs.Loaded.{files_of, files_after, buildable, holding_of}
-use Rattle.chart_store.specs.Loaded.{cells_within, store_within, Outcome, put, accepted_file}
+use Rattle.chart_store.specs.Loaded.{cells_within, store_within, Outcome, held_with, accepted_file}
 use Rattle.chart_store.specs.Live.{IsLive}
 use Rattle.chart_store.specs.Taken.{held_of, chart_of, held_after, cell_after, placed}
 use Rattle.chart_store.specs.Taken.{taken}
@@ -125,43 +125,43 @@ module _ (laws : Laws) where
   built-taken : (state : StateValue) (dataset : DatasetValue) (file : List ℕ) (before : Option Holding)
       (effect : Effect) → WasLive dataset.header.key before → data_set_in file ≡ Ok dataset →
       IsFileLength (length file) → judged (held_of before) dataset ≡ Ok effect →
-      (or_refused refusal_of_build (buildable (files_of before) effect dataset) >>= λ _. put state dataset.header.key
+      (or_refused refusal_of_build (buildable (files_of before) effect dataset) >>= λ _. held_with state dataset.header.key
       (holding_of (files_after (files_of before) effect file) dataset.header))
       ≡ (placed state dataset file before effect >>= λ after. Ok (record
       { key = dataset.header.key; held = held_after before effect dataset.header; state = after }))
   built-taken state dataset file before Replace h reads short judges = go (built None dataset) refl
     where
       go : (r : Result CellValue BuildFault) → built None dataset ≡ r →
-          (or_refused refusal_of_build (r >>= λ chart. Ok (tt {0})) >>= λ _. put state dataset.header.key
+          (or_refused refusal_of_build (r >>= λ chart. Ok (tt {0})) >>= λ _. held_with state dataset.header.key
           (holding_of (files_after (files_of before) Replace file) dataset.header))
           ≡ (((or_refused refusal_of_build r >>= λ after. Ok (Some after)) >>= λ chart. store_within
           (map.insert state.cells dataset.header.key (cell_after before Replace (numbers_of dataset.header) chart
           file)))
           >>= λ after. Ok (record { key = dataset.header.key; held = numbers_of dataset.header; state = after }))
       go (Ok cell) builds =
-          ap (put state dataset.header.key)
+          ap (held_with state dataset.header.key)
           (live-holding dataset.header.key _ dataset.header (live-replace before dataset file cell reads short judges
           builds))
       go (Err fault) builds = refl
   built-taken state dataset file before Extend h reads short judges =
       ap (λ (c : Option CellValue). or_refused refusal_of_build (built c dataset >>= λ chart. Ok (tt {0})) >>= λ _.
-      put state dataset.header.key (holding_of (files_after (files_of before) Extend file) dataset.header))
+      held_with state dataset.header.key (holding_of (files_after (files_of before) Extend file) dataset.header))
       (chart-before dataset.header.key before h)
       ∙ go (built (chart_of before) dataset) refl
     where
       go : (r : Result CellValue BuildFault) → built (chart_of before) dataset ≡ r →
-          (or_refused refusal_of_build (r >>= λ chart. Ok (tt {0})) >>= λ _. put state dataset.header.key
+          (or_refused refusal_of_build (r >>= λ chart. Ok (tt {0})) >>= λ _. held_with state dataset.header.key
           (holding_of (files_after (files_of before) Extend file) dataset.header))
           ≡ (((or_refused refusal_of_build r >>= λ after. Ok (Some after)) >>= λ chart. store_within
           (map.insert state.cells dataset.header.key (cell_after before Extend (numbers_of dataset.header) chart
           file)))
           >>= λ after. Ok (record { key = dataset.header.key; held = numbers_of dataset.header; state = after }))
       go (Ok cell) builds =
-          ap (put state dataset.header.key) (live-holding dataset.header.key _ dataset.header
+          ap (held_with state dataset.header.key) (live-holding dataset.header.key _ dataset.header
           (live-extend before dataset file cell h reads short judges builds))
       go (Err fault) builds = refl
   built-taken state dataset file before Cancel h reads short judges =
-      ap (put state dataset.header.key) (live-holding dataset.header.key _ dataset.header
+      ap (held_with state dataset.header.key) (live-holding dataset.header.key _ dataset.header
       (live-cancel before dataset file h reads short judges))
 
   pub accepted-taken : (state : StateValue) (dataset : DatasetValue) (file : List ℕ) (before : Option Holding) →
@@ -170,7 +170,7 @@ module _ (laws : Laws) where
   accepted-taken state dataset file before h reads short =
       ap (λ (n : Option Held). or_fault_as refusal_of_sequence (judged n dataset) >>= λ effect. cells_within
       state.cells dataset.header.key >>= λ _.
-      or_refused refusal_of_build (buildable (files_of before) effect dataset) >>= λ _. put state dataset.header.key
+      or_refused refusal_of_build (buildable (files_of before) effect dataset) >>= λ _. held_with state dataset.header.key
       (holding_of (files_after (files_of before) effect file) dataset.header))
       (held-before dataset.header.key before h)
       ∙ go (judged (held_of before) dataset) refl
@@ -180,7 +180,7 @@ module _ (laws : Laws) where
 
       go : (r : Result Effect SequenceFault) → judged (held_of before) dataset ≡ r →
           (or_fault_as refusal_of_sequence r >>= λ effect. cells_within state.cells dataset.header.key >>= λ _.
-          or_refused refusal_of_build (buildable (files_of before) effect dataset) >>= λ _. put state
+          or_refused refusal_of_build (buildable (files_of before) effect dataset) >>= λ _. held_with state
           dataset.header.key (holding_of (files_after (files_of before) effect file) dataset.header))
           ≡ (or_fault_as refusal_of_sequence r >>= λ effect. cells_within state.cells dataset.header.key >>= λ _.
           placed state dataset file before effect >>= λ after. Ok (record

@@ -107,8 +107,8 @@ pub record Outcome : Type 0 where
   pub state : StateValue
 
 -- the cells with this one put in, as far as there is room
-abbrev pub put : StateValue → List ℕ → Holding → Result Outcome Refusal
-put state key here = do
+abbrev pub held_with : StateValue → List ℕ → Holding → Result Outcome Refusal
+held_with state key here = do
   after ← store_within (map.insert state.cells key here)
   Ok (record { key = key; held = here.held; state = after })
 
@@ -118,7 +118,7 @@ accepted_file state dataset file files = do
   effect ← or_fault_as refusal_of_sequence (judged (held_by files) dataset)
   _ ← cells_within state.cells dataset.header.key
   _ ← or_refused refusal_of_build (buildable files effect dataset)
-  put state dataset.header.key (holding_of (files_after files effect file) dataset.header)
+  held_with state dataset.header.key (holding_of (files_after files effect file) dataset.header)
 
 -- what is held once the file is accepted, or the first refusal
 unfoldable pub loaded : StateValue → List ℕ → Result Outcome Refusal

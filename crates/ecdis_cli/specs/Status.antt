@@ -14,16 +14,16 @@ is_early ShelfFault = true
 is_early other = false
 
 -- the number with which the program ends
-abbrev pub number_of : Status → ℕ
-number_of Done = 0
-number_of Words = 1
-number_of (Tables which fault) = 2
-number_of (Foreign bank at) = 3
-number_of ScriptFault = 4
-number_of ScriptLong = 5
-number_of DeskFault = 6
-number_of NoMemory = 7
-number_of ShelfFault = 8
+abbrev pub exit_code : Status → ℕ
+exit_code Done = 0
+exit_code Words = 1
+exit_code (Tables which fault) = 2
+exit_code (Foreign bank at) = 3
+exit_code ScriptFault = 4
+exit_code ScriptLong = 5
+exit_code DeskFault = 6
+exit_code NoMemory = 7
+exit_code ShelfFault = 8
 
 -- what is written to standard error, and nothing where the run was done
 abbrev pub line_of : Status → List ℕ

@@ -75,7 +75,7 @@ fn changed(alloc: Global, place: usize, byte: u8) -> Result<Vec<u8>, AllocError>
 }
 
 /// Puts a file of this name on the shelf.
-fn put(
+fn add_file(
     alloc: Global,
     shelf: &mut MemoryShelf,
     name: &str,
@@ -89,20 +89,20 @@ fn put(
 fn shelf(alloc: Global, case: &Case) -> Result<MemoryShelf, AllocError> {
     let mut shelf = MemoryShelf::new(alloc, failing(alloc, case.fetch)?);
     if let Some(bytes) = case.catalogue {
-        put(alloc, &mut shelf, "catalogue", bytes.to_vec(alloc)?)?;
+        add_file(alloc, &mut shelf, "catalogue", bytes.to_vec(alloc)?)?;
     }
     if let Some(bytes) = case.table {
-        put(alloc, &mut shelf, "table", bytes.to_vec(alloc)?)?;
+        add_file(alloc, &mut shelf, "table", bytes.to_vec(alloc)?)?;
     }
-    put(alloc, &mut shelf, "AA5TEST1.000", CELL.to_vec(alloc)?)?;
-    put(alloc, &mut shelf, "LABELS", changed(alloc, 79, b'?')?)?;
-    put(alloc, &mut shelf, "EDITION", changed(alloc, 257, b'x')?)?;
-    put(alloc, &mut shelf, "ALONE", CELL[..201].to_vec(alloc)?)?;
-    put(alloc, &mut shelf, "EMPTY", Vec::new(alloc))?;
-    put(alloc, &mut shelf, "T", files::base(alloc)?)?;
-    put(alloc, &mut shelf, "U", files::update(alloc)?)?;
-    put(alloc, &mut shelf, "DELETE", files::deletion(alloc)?)?;
-    put(alloc, &mut shelf, "CANCEL", files::cancellation(alloc)?)?;
+    add_file(alloc, &mut shelf, "AA5TEST1.000", CELL.to_vec(alloc)?)?;
+    add_file(alloc, &mut shelf, "LABELS", changed(alloc, 79, b'?')?)?;
+    add_file(alloc, &mut shelf, "EDITION", changed(alloc, 257, b'x')?)?;
+    add_file(alloc, &mut shelf, "ALONE", CELL[..201].to_vec(alloc)?)?;
+    add_file(alloc, &mut shelf, "EMPTY", Vec::new(alloc))?;
+    add_file(alloc, &mut shelf, "T", files::base(alloc)?)?;
+    add_file(alloc, &mut shelf, "U", files::update(alloc)?)?;
+    add_file(alloc, &mut shelf, "DELETE", files::deletion(alloc)?)?;
+    add_file(alloc, &mut shelf, "CANCEL", files::cancellation(alloc)?)?;
     if case.large {
         for last in loads::LARGE {
             let mut name = String::from_str(alloc, "L")?;

@@ -5,7 +5,8 @@ use chart_model::{Settings, Target};
 use depth_values::codes::{OBSTRN, UWTROC, WRECKS};
 use hazard_symbology::{obstrn04, wrecks02};
 use sample_rows::{
-    Drawn, Item, Mark, Row, SETTINGS, Setting, are_items, chart, edges, feature, name, put, whole,
+    Drawn, Item, Mark, Row, SETTINGS, Setting, add_rows, are_items, chart, edges, feature, name,
+    whole,
 };
 use std::alloc::Global;
 use std::test::Fail;
@@ -253,7 +254,7 @@ static POINTS: [PointCase; 47] = [
 /// Whether these are the items of the feature 9, by both procedures, among the squares.
 fn draws(alloc: Global, contour: i32, row: &Row, wanted: &[Drawn]) -> Result<bool, Fail> {
     let mut cell = chart(alloc, &SQUARES)?;
-    put(alloc, &mut cell, &[*row])?;
+    add_rows(alloc, &mut cell, &[*row])?;
     let settings = Settings {
         safety_contour: contour,
         ..SETTINGS

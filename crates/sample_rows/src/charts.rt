@@ -8,7 +8,7 @@ use std::test::Fail;
 use update_apply::apply_record;
 
 /// Makes the changes of rows to a chart.
-pub fn put(alloc: Global, cell: &mut Cell, rows: &[Row]) -> Result<(), Fail> {
+pub fn add_rows(alloc: Global, cell: &mut Cell, rows: &[Row]) -> Result<(), Fail> {
     for row in rows {
         apply_record(alloc, cell, &change(alloc, row)?)?;
     }
@@ -31,6 +31,6 @@ fn empty_chart(alloc: Global) -> Result<Cell, Fail> {
 /// The chart of the rows, which are insertions.
 pub fn chart(alloc: Global, rows: &[Row]) -> Result<Cell, Fail> {
     let mut cell = empty_chart(alloc)?;
-    put(alloc, &mut cell, rows)?;
+    add_rows(alloc, &mut cell, rows)?;
     Ok(cell)
 }

@@ -13,6 +13,6 @@ mod rows;
 
 pub use changes::change;
 pub use chart_model::{Foid, Name, Target};
-pub use charts::{chart, put};
+pub use charts::{add_rows, chart};
 pub use drawn::{Drawn, SETTINGS, are_items};
 pub use rows::{BARE, Edit, FOID, Item, Mark, Row, Setting};

@@ -98,7 +98,7 @@ fn failing(alloc: Global, number: u64) -> Result<FailingCalls, AllocError> {
 }
 
 /// Puts a file of these records on the shelf.
-fn put(
+fn add_file(
     alloc: Global,
     shelf: &mut MemoryShelf,
     name: &str,
@@ -126,10 +126,10 @@ fn shelf(alloc: Global, call: u64) -> Result<MemoryShelf, AllocError> {
     put_route(alloc, &mut shelf, "WAY", b"box 0 0\n100 0\n100 0\n100 5\n")?;
     put_route(alloc, &mut shelf, "BAD", b"box 0 0\n100\n")?;
     put_route(alloc, &mut shelf, "SHORT", b"box 0 0\n100 0\n")?;
-    put(alloc, &mut shelf, "W", WRECK)?;
-    put(alloc, &mut shelf, "T", BASE)?;
-    put(alloc, &mut shelf, "U", UPDATE)?;
-    put(alloc, &mut shelf, "CANCEL", CANCELLATION)?;
+    add_file(alloc, &mut shelf, "W", WRECK)?;
+    add_file(alloc, &mut shelf, "T", BASE)?;
+    add_file(alloc, &mut shelf, "U", UPDATE)?;
+    add_file(alloc, &mut shelf, "CANCEL", CANCELLATION)?;
     Ok(shelf)
 }
 

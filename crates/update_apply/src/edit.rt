@@ -8,7 +8,7 @@ use chart_model::Control;
 use chart_model::codes::{DELETE, INSERT};
 
 /// Puts items in between, at a place from 0. It takes no memory.
-fn put<T: Copy>(list: &mut Vec<T>, front: usize, given: &[T])
+fn insert_at<T: Copy>(list: &mut Vec<T>, front: usize, given: &[T])
     requires front { front ≤ vec_len list.old }
     requires room { vec_len list.old + length given.now ≤ vec_capacity list.old }
     ensures { list.new.items ≡ take front list.old.items ++ given.now ++ drop front list.old.items }
@@ -45,7 +45,7 @@ fn edit_by<T: Copy>(list: &mut Vec<T>, control: Control, given: &[T])
 {
     let front = control.index as usize - 1;
     match control.instruction {
-        INSERT => put(list, front, given),
+        INSERT => insert_at(list, front, given),
         DELETE => take_out(list, front, control.count as usize),
         _ => replace(list, front, given),
     }

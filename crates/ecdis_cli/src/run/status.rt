@@ -2,7 +2,7 @@
 
 ghost use Rattle.std.specs.Prelude.{◌≡◌};
 ghost use Rattle.ecdis_cli.specs.FileStop.{status_of_file};
-ghost use Rattle.ecdis_cli.specs.Status.{number_of};
+ghost use Rattle.ecdis_cli.specs.Status.{exit_code};
 ghost use Rattle.ecdis_cli.specs.Stop.{status_of, status_of_opening};
 
 use crate::run::file_stop::FileStop;
@@ -69,7 +69,7 @@ impl Status {
 
     /// The number with which the program ends.
     pub fn number(self) -> u8
-        ensures { result ≡ number_of self }
+        ensures { result ≡ exit_code self }
     {
         match self {
             Status::Done => 0,

@@ -2,7 +2,7 @@
 
 use chart_closure::{ClosureFault, check, check_at};
 use chart_model::Cell;
-use sample_rows::{Row, chart, feature, name, put, vector};
+use sample_rows::{Row, add_rows, chart, feature, name, vector};
 use std::alloc::Global;
 use std::process::Abort;
 use std::test::Fail;
@@ -84,7 +84,7 @@ fn hold(rt: &impl Abort, alloc: Global, cases: &[Case]) -> Result<Cell, Fail> {
     let mut cell = chart(alloc, &CLOSED)?;
     assert!(rt; check(&cell) == Ok(()));
     for (row, wanted) in cases {
-        put(alloc, &mut cell, &[*row])?;
+        add_rows(alloc, &mut cell, &[*row])?;
         let number = row.name.rcid;
         assert!(rt; check(&cell) == *wanted, "chart {number}");
         assert!(rt; check_at(&cell, row.name) == *wanted, "record {number}");

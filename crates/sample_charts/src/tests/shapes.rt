@@ -3,7 +3,7 @@
 use area_rings::{Line, Shape, edge_line, feature_shape, has_line, has_shape, rings};
 use chart_model::{Coord, Name};
 use plane_geometry::Pt;
-use sample_rows::{Row, chart, feature, name, put, vector};
+use sample_rows::{Row, add_rows, chart, feature, name, vector};
 use std::test::Fail;
 
 /// A triangle whose first side bends at (5, 1), and two loops at (5, 5). The node 9 has no coordinate, and there is no
@@ -174,7 +174,7 @@ fn shapes_of_features(rt: HostRuntime) -> Result<(), Fail> {
     let alloc = rt.alloc();
     let mut cell = chart(alloc, &CHART)?;
     for (row, wanted) in &SHAPES {
-        put(alloc, &mut cell, &[*row])?;
+        add_rows(alloc, &mut cell, &[*row])?;
         let number = row.name.rcid;
         let feature = cell.features.get(row.name).ok_or("a feature")?;
         let shape = feature_shape(alloc, &cell, feature)?;

@@ -8,7 +8,7 @@ use chart_model::{
 };
 use plane_geometry::Pt;
 use route_check::{Danger, DangerList, PtList, Route, report, reports_are_exact};
-use sample_rows::{Row, feature, name, put, vector};
+use sample_rows::{Row, add_rows, feature, name, vector};
 use std::alloc::{AllocError, Global};
 use std::test::Fail;
 
@@ -309,7 +309,7 @@ fn chart_under(alloc: Global, key: Key, rows: &[Row]) -> Result<Cell, Fail> {
     };
     let _ = key.as_slice();
     let mut cell = Cell::new(alloc, header);
-    put(alloc, &mut cell, rows)?;
+    add_rows(alloc, &mut cell, rows)?;
     Ok(cell)
 }
 
@@ -378,7 +378,7 @@ fn is_row(row: &Danger, key: Key, wanted: &Wanted) -> bool {
 fn rows_of_a_chart(rt: HostRuntime) -> Result<(), Fail> {
     let key = Key::from_bytes(b"AA5TEST1").ok_or("a key")?;
     let mut chart = chart_under(rt.alloc(), key, &HARBOUR)?;
-    put(rt.alloc(), &mut chart, &ROCKS)?;
+    add_rows(rt.alloc(), &mut chart, &ROCKS)?;
     let mut state = nothing_held(rt.alloc());
     hold_chart(rt.alloc(), &mut state, chart)?;
     for (at, (contour, depth, half, points, wanted)) in CASES.iter().enumerate() {
