@@ -57,6 +57,13 @@ refused-opening (of_opening.Foreign file place) ended found bank at is has read 
     (err-same (record { bank = file; at = place }) (record { bank = bank; at = at }) (sym has ∙ read)))
 refused-opening of_opening.NoMemory ended found bank at is has read = inr (inr is)
 
+-- what is known of foreign files is known where the run ends for them
+pub foreign-left : {P : Type 0} (fault : OpenFault) (ended : Status) (bank at : ℕ) → ended ≡ status_of_opening fault
+    → ForeignHas (λ _. P) fault → ended ≡ status.Foreign bank at → P
+foreign-left of_opening.DeskFault ended bank at is has foreign = absurd (let no = sym is ∙ foreign in cc)
+foreign-left (of_opening.Foreign file place) ended bank at is has foreign = has
+foreign-left of_opening.NoMemory ended bank at is has foreign = absurd (let no = sym is ∙ foreign in cc)
+
 -- the same, where it may also have ended before
 pub or_early : (ended : Status) (bank at : ℕ)
     → (ended ≡ status.Foreign bank at) ⊎ ((ended ≡ status.DeskFault) ⊎ (ended ≡ status.NoMemory))

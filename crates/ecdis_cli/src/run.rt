@@ -14,6 +14,7 @@ pub mod tables_fault;
 ghost use Rattle.std.specs.Prelude.{◌≡◌, ◌+◌, ◌<◌, ◌≤◌, ◌⊎◌, [], List, ℕ};
 ghost use Rattle.std.specs.Prelude.{IsTrue, length, map, string_bytes, Some, None, Ok, Err};
 ghost use Rattle.chart_ports.specs.Count.{IsSteady, Rose, RoseBy};
+ghost use Rattle.chart_ports.specs.Disk.{SameFiles};
 ghost use Rattle.chart_ports.specs.Moments.{LeavesOnly, MayBeLeft, images_of};
 ghost use Rattle.chart_store.specs.Images.{Reading, read_of};
 ghost use Rattle.chart_store.specs.Store.{LeavesBefore};
@@ -58,7 +59,8 @@ pub fn run_ecdis<S: Source, L: Shelf, D: Desk, C: Ledger>(
         (script.new ≡ script.old) × (shelf.new ≡ shelf.old) × (desk.new ≡ desk.old) }
 
     // A catalogue or a table that isn't there, is too long or has a fault ends it too, and no other does: nothing of
-    // the script is read and nothing is written or said, here and wherever the words or a fetch of these files end it.
+    // the script is read and nothing is written or said, however the run ends then, and wherever the words or a fetch
+    // of these files end it.
     ensures tables { (which : ℕ) (fault : FaultValue) → IsTrue L.tells → result ≡ Status.Tables which fault →
         (said : WordsValue) × (words_of (map string_bytes words.now) ≡ Some said)
         × (table_in (L.files shelf.old) said ≡ Err (record { which = which; fault = fault })) }
@@ -66,6 +68,9 @@ pub fn run_ecdis<S: Source, L: Shelf, D: Desk, C: Ledger>(
         words_of (map string_bytes words.now) ≡ Some said → table_in (L.files shelf.old) said ≡ Err end →
         (result ≡ Status.Tables end.which end.fault) ⊎ ((result ≡ Status.ShelfFault) ⊎ (result ≡ Status.NoMemory)) }
     ensures untabled { IsTrue (is_early result) → (script.new ≡ script.old) × (desk.new ≡ desk.old) }
+    ensures tableless { (said : WordsValue) (end : TablesEnd) → IsTrue L.tells →
+        words_of (map string_bytes words.now) ≡ Some said → table_in (L.files shelf.old) said ≡ Err end →
+        (script.new ≡ script.old) × (desk.new ≡ desk.old) }
 
     // From files that read as what is held, the output is the replies to the script's lines, all of them where the run
     // is done and else a front. At every moment a crash leaves files that stand for what the first accepted commands
@@ -86,16 +91,20 @@ pub fn run_ecdis<S: Source, L: Shelf, D: Desk, C: Ledger>(
     ensures short { IsTrue S.tells → result ≡ Status.Done → length (S.left script.old) ≤ SCRIPT_LIMIT }
     ensures same { IsTrue L.tells → L.files shelf.new ≡ L.files shelf.old }
 
-    // Each other end has its cause. Want of memory alone needs none. Files that are no store's end the run, unless the
-    // disk fails or memory runs out, before anything is read of the script, or said.
+    // Each other end has its cause. Want of memory alone needs none. Where the files are no store's, nothing is read of
+    // the script and nothing said, however the run ends; it ends for them unless the disk fails or memory runs out, and
+    // then they are left as they were.
     ensures foreign { (bank at : ℕ) → IsTrue D.tells → result ≡ Status.Foreign bank at →
         read_of (images_of (D.contents desk.old)) ≡ Err (record { bank = bank; at = at }) }
     ensures refused_files { (bank at : ℕ) → IsTrue D.tells →
         read_of (images_of (D.contents desk.old)) ≡ Err (record { bank = bank; at = at }) →
         (result ≡ Status.Foreign bank at) ⊎ ((result ≡ Status.DeskFault) ⊎ ((result ≡ Status.NoMemory) ⊎ IsTrue (is_early result))) }
     ensures unread { (bank at : ℕ) → result ≡ Status.Foreign bank at → script.new ≡ script.old }
-    ensures unsaid { (bank at : ℕ) → IsTrue D.tells → result ≡ Status.Foreign bank at →
-        D.said desk.new ≡ D.said desk.old }
+    ensures unopened { (bank at : ℕ) → IsTrue D.tells →
+        read_of (images_of (D.contents desk.old)) ≡ Err (record { bank = bank; at = at }) →
+        (script.new ≡ script.old) × (D.said desk.new ≡ D.said desk.old) }
+    ensures left { (bank at : ℕ) → IsTrue D.tells → result ≡ Status.Foreign bank at →
+        SameFiles (D.contents desk.old) (D.contents desk.new) }
     ensures script_failed { result ≡ Status.ScriptFault → Rose (S.faults script.old) (S.faults script.new) }
     ensures script_long { result ≡ Status.ScriptLong →
         RoseBy (SCRIPT_LIMIT + 1) (S.given script.old) (S.given script.new) }

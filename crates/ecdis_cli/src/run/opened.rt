@@ -2,6 +2,7 @@
 
 ghost use Rattle.std.specs.Prelude.{◌≡◌, ◌+◌, ◌<◌, ◌≤◌, ◌⊎◌, [], ℕ, IsTrue, false, length, Ok, Err};
 ghost use Rattle.chart_ports.specs.Count.{IsSteady, Rose, RoseBy};
+ghost use Rattle.chart_ports.specs.Disk.{SameFiles};
 ghost use Rattle.chart_ports.specs.Moments.{LeavesOnly, MayBeLeft, images_of};
 ghost use Rattle.chart_store.specs.Images.{Reading, read_of};
 ghost use Rattle.chart_store.specs.Store.{LeavesBefore};
@@ -51,8 +52,11 @@ pub fn run_opened<S: Source, L: Shelf, D: Desk, C: Ledger>(
         read_of (images_of (D.contents desk.old)) ≡ Err (record { bank = bank; at = at }) →
         (result ≡ Status.Foreign bank at) ⊎ ((result ≡ Status.DeskFault) ⊎ (result ≡ Status.NoMemory)) }
     ensures unread { (bank at : ℕ) → result ≡ Status.Foreign bank at → script.new ≡ script.old }
-    ensures unsaid { (bank at : ℕ) → IsTrue D.tells → result ≡ Status.Foreign bank at →
-        D.said desk.new ≡ D.said desk.old }
+    ensures unopened { (bank at : ℕ) → IsTrue D.tells →
+        read_of (images_of (D.contents desk.old)) ≡ Err (record { bank = bank; at = at }) →
+        (script.new ≡ script.old) × (D.said desk.new ≡ D.said desk.old) }
+    ensures left { (bank at : ℕ) → IsTrue D.tells → result ≡ Status.Foreign bank at →
+        SameFiles (D.contents desk.old) (D.contents desk.new) }
     ensures script_failed { result ≡ Status.ScriptFault → Rose (S.faults script.old) (S.faults script.new) }
     ensures script_long { result ≡ Status.ScriptLong →
         RoseBy (SCRIPT_LIMIT + 1) (S.given script.old) (S.given script.new) }

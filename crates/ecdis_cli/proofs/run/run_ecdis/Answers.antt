@@ -142,6 +142,14 @@ pub returns-clause-refused_tables : goal.returns-clause-refused_tables
 returns-clause-refused_tables g c =
     λ said there t is fault. read-not (g.L.Shelf.files c.args.shelf.now) (words_of (map string_bytes c.args.words.now)) (value_of c.in-Ok.words) said _ there c.in-Ok.ensures.said is (c.in-Ok-fetch_tables.ensures.found t) fault
 
+pub returns-in-Err-Refused-clause-tableless : goal.returns-in-Err-Refused-clause-tableless
+returns-in-Err-Refused-clause-tableless g c =
+    λ said there t is. refused-words _ said is (c.in-Err-Refused.ensures.refused (ap Err c.in-Err-Refused.field-0-is))
+
+pub returns-clause-tableless : goal.returns-clause-tableless
+returns-clause-tableless g c =
+    λ said there t is fault. read-not (g.L.Shelf.files c.args.shelf.now) (words_of (map string_bytes c.args.words.now)) (value_of c.in-Ok.words) said _ there c.in-Ok.ensures.said is (c.in-Ok-fetch_tables.ensures.found t) fault
+
 pub returns-clause-untabled : goal.returns-clause-untabled
 returns-clause-untabled g c =
     early-not _ c.run_opened.ensures.begun

@@ -7,7 +7,7 @@ use Rattle.chart_store.specs.Store.{IsKept, count_of, is_sound}
 use Rattle.chart_store.specs.declared.store.Store.{Store}
 use Rattle.session_core.specs.Session.{model_of, store_of}
 use Rattle.ecdis_cli.specs.Run.{outside_of}
-use Rattle.ecdis_cli.proofs.Opening.{not-refused, opened-model, opening-status, other-status, ran-opened, ran-unopened, refused-opening, rose-later, session-model}
+use Rattle.ecdis_cli.proofs.Opening.{foreign-left, not-refused, opened-model, opening-status, other-status, ran-opened, ran-unopened, refused-opening, rose-later, session-model}
 use Rattle.ecdis_cli.proofs.run.opened.run_opened.Goals as goal
 
 pub returns-in-Err-clause-ran : goal.returns-in-Err-clause-ran
@@ -63,8 +63,24 @@ returns-clause-foreign g c = λ bank at d is. absurd (c.run_script.ensures.opene
 pub returns-clause-unread : goal.returns-clause-unread
 returns-clause-unread g c = λ bank at is. absurd (c.run_script.ensures.opened bank at is)
 
-pub returns-clause-unsaid : goal.returns-clause-unsaid
-returns-clause-unsaid g c = λ bank at d is. absurd (c.run_script.ensures.opened bank at is)
+pub returns-in-Err-clause-left : goal.returns-in-Err-clause-left
+returns-in-Err-clause-left g c = λ bank at d is.
+    foreign-left c.in-Err.fault c.of_opening.result bank at c.of_opening.ensures (c.in-Err.ensures.refused d) is
+
+pub returns-clause-left : goal.returns-clause-left
+returns-clause-left g c = λ bank at d is. absurd (c.run_script.ensures.opened bank at is)
+
+pub returns-in_default-clause-unopened : goal.returns-in_default-clause-unopened
+returns-in_default-clause-unopened g c = λ bank at d read.
+    not-refused _ _ (record { bank = bank; at = at }) (c.in-Ok.ensures.state d) read
+
+pub returns-in_default-vec-clause-unopened : goal.returns-in_default-vec-clause-unopened
+returns-in_default-vec-clause-unopened g c = λ bank at d read.
+    not-refused _ _ (record { bank = bank; at = at }) (c.in-Ok.ensures.state d) read
+
+pub returns-clause-unopened : goal.returns-clause-unopened
+returns-clause-unopened g c = λ bank at d read.
+    not-refused _ _ (record { bank = bank; at = at }) (c.in-Ok.ensures.state d) read
 
 pub returns-in-Err-clause-refused_files : goal.returns-in-Err-clause-refused_files
 returns-in-Err-clause-refused_files g c = λ bank at d read.
