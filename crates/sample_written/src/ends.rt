@@ -3,7 +3,7 @@
 ghost use Rattle.std.specs.Prelude.{IfOk};
 ghost use Rattle.chart_model.specs.Record.{AreCoords};
 
-use cell_bytes::spell_cell;
+use cell_writer::write_cell;
 use chart_model::{Coord, Coords, Name, Sequence, UpdateRecord};
 use sample_rows::{Row, chart, vector};
 use std::alloc::{AllocError, Global};
@@ -68,7 +68,7 @@ fn edge(alloc: Global) -> Result<UpdateRecord, AllocError> {
 fn the_corners_of_the_globe(rt: HostRuntime) -> Result<(), Fail> {
     let mut cell = chart(rt.alloc(), &[])?;
     apply_record(rt.alloc(), &mut cell, &edge(rt.alloc())?)?;
-    let file = spell_cell(rt.alloc(), &cell)?;
+    let file = write_cell(rt.alloc(), &cell)?;
     let (_, written) = file.as_slice().split_at_checked(BEFORE).ok_or("a record")?;
     let expected = b"00096 D     00067   5504000100003000\
         00VRID0000900003SG2D0001700012\x1e\x03\0\x1e\x82\xff\xff\xff\xff\x01\0\x01\x1e\
@@ -83,7 +83,7 @@ fn an_attribute_of_every_byte(rt: HostRuntime) -> Result<(), Fail> {
         attrs: &[(65_535, &EVERY_BYTE)],
         ..vector!(110, 0, [], [])
     };
-    let file = spell_cell(rt.alloc(), &chart(rt.alloc(), &[row])?)?;
+    let file = write_cell(rt.alloc(), &chart(rt.alloc(), &[row])?)?;
     let (_, written) = file.as_slice().split_at_checked(BEFORE).ok_or("a record")?;
     let (front, text) = written.split_at_checked(81).ok_or("a text")?;
     let expected = b"00337 D     00067   5504000100003000\

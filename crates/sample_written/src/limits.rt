@@ -3,7 +3,7 @@
 ghost use Rattle.std.specs.Prelude.{IfOk, IsSome};
 ghost use Rattle.chart_model.specs.Record.{AreCoords, IsCoord};
 
-use cell_bytes::{WriteFault, spell_cell};
+use cell_writer::{WriteFault, write_cell};
 use chart_model::{Cell, Coord, Coords, Name, Sequence, UpdateRecord};
 use sample_rows::chart;
 use std::alloc::{AllocError, Global};
@@ -53,10 +53,10 @@ fn node(alloc: Global, rcid: u32, count: usize) -> Result<UpdateRecord, AllocErr
     })
 }
 
-/// A cell with so many nodes, each with so many soundings.
+/// A cell with so many nodes, numbered from 1, each with so many soundings.
 fn cell_of(alloc: Global, nodes: u32, count: usize) -> Result<Cell, Fail> {
     let mut cell = chart(alloc, &[])?;
-    for rcid in 0..nodes {
+    for rcid in 1..=nodes {
         apply_record(alloc, &mut cell, &node(alloc, rcid, count)?)?;
     }
     Ok(cell)
@@ -64,32 +64,32 @@ fn cell_of(alloc: Global, nodes: u32, count: usize) -> Result<Cell, Fail> {
 
 #[test]
 fn records_at_their_limit(rt: HostRuntime) -> Result<(), Fail> {
-    let whole = spell_cell(rt.alloc(), &cell_of(rt.alloc(), 1, 8326)?)?;
+    let whole = write_cell(rt.alloc(), &cell_of(rt.alloc(), 1, 8326)?)?;
     assert_eq!(rt; whole.as_slice().len(), 2004 + 99_992);
-    let fault = spell_cell(rt.alloc(), &cell_of(rt.alloc(), 2, 8327)?).err();
-    let name = Name { rcnm: 110, rcid: 0 };
+    let fault = write_cell(rt.alloc(), &cell_of(rt.alloc(), 1, 8327)?).err();
+    let name = Name { rcnm: 110, rcid: 1 };
     assert_eq!(rt; fault, Some(WriteFault::RecordLong(name, 100_004)));
     Ok(())
 }
 
 #[test]
 fn files_at_their_limit(rt: HostRuntime) -> Result<(), Fail> {
-    let whole = spell_cell(rt.alloc(), &cell_of(rt.alloc(), 83, 8326)?)?;
+    let whole = write_cell(rt.alloc(), &cell_of(rt.alloc(), 83, 8326)?)?;
     assert_eq!(rt; whole.as_slice().len(), 2004 + 83 * 99_992);
-    let fault = spell_cell(rt.alloc(), &cell_of(rt.alloc(), 84, 8326)?).err();
+    let fault = write_cell(rt.alloc(), &cell_of(rt.alloc(), 84, 8326)?).err();
     assert_eq!(rt; fault, Some(WriteFault::CellLong(2004 + 84 * 99_992)));
     Ok(())
 }
 
 #[test]
 fn numbers_turn_over(rt: HostRuntime) -> Result<(), Fail> {
-    let file = spell_cell(rt.alloc(), &cell_of(rt.alloc(), 65_536, 0)?)?;
+    let file = write_cell(rt.alloc(), &cell_of(rt.alloc(), 65_536, 0)?)?;
     let records = file.as_slice();
     assert_eq!(rt; records.len(), 2004 + 65_536 * 65);
     // the last record has the number 65,538
     let (_, last) = records
         .split_at_checked(records.len() - 12)
         .ok_or("a record")?;
-    assert!(rt; last == b"\x02\0\x1en\xff\xff\0\0\x01\0\x01\x1e".as_slice());
+    assert!(rt; last == b"\x02\0\x1en\0\0\x01\0\x01\0\x01\x1e".as_slice());
     Ok(())
 }

@@ -1,6 +1,6 @@
 //! Records.
 
-use cell_bytes::spell_cell;
+use cell_writer::write_cell;
 use sample_rows::{Foid, Row, chart, feature, vector};
 use std::test::Fail;
 
@@ -131,7 +131,7 @@ const COUNTS: usize = 1761 + 161 - 33;
 
 #[test]
 fn features_are_counted_by_their_classes(rt: HostRuntime) -> Result<(), Fail> {
-    let file = spell_cell(rt.alloc(), &chart(rt.alloc(), &CLASSES)?)?;
+    let file = write_cell(rt.alloc(), &chart(rt.alloc(), &CLASSES)?)?;
     let (_, numbers) = file.as_slice().split_at_checked(COUNTS).ok_or("numbers")?;
     let (counts, _) = numbers.split_at_checked(16).ok_or("four numbers")?;
     // meta objects, cartographic objects, geographic ones and collections
@@ -142,7 +142,7 @@ fn features_are_counted_by_their_classes(rt: HostRuntime) -> Result<(), Fail> {
 #[test]
 fn records_alone(rt: HostRuntime) -> Result<(), Fail> {
     for (row, bytes) in RECORDS {
-        let file = spell_cell(rt.alloc(), &chart(rt.alloc(), &[row])?)?;
+        let file = write_cell(rt.alloc(), &chart(rt.alloc(), &[row])?)?;
         let (_, written) = file.as_slice().split_at_checked(BEFORE).ok_or("a record")?;
         assert!(rt; written == bytes);
     }

@@ -1,12 +1,12 @@
 //! Cells and updates that are made for trials.
 
-use cell_bytes::{make_cell, make_update, spell_cell};
+use cell_writer::{make_cell, make_update, write_cell};
 use std::test::Fail;
 
 #[test]
 fn a_cell_of_one_area(rt: HostRuntime) -> Result<(), Fail> {
     let cell = make_cell(rt.alloc(), 1)?;
-    let file = spell_cell(rt.alloc(), &cell)?;
+    let file = write_cell(rt.alloc(), &cell)?;
     let (_, records) = file.as_slice().split_at_checked(1761).ok_or("records")?;
     let expected = b"00161 D     00067   550400010000300000DSID0005500003DSSI0003600058\x1e\
         \x01\0\x1e\
