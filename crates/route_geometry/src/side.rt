@@ -33,11 +33,7 @@ impl Side {
     pub(crate) fn segment_turned(self) -> Side
         ensures { IsSegmentTurned self result }
     {
-        Side {
-            start: self.start + self.segment,
-            leg: self.leg,
-            segment: -self.segment,
-        }
+        self.exchanged().leg_turned().exchanged()
     }
 
     /// The side with leg and segment exchanged.
