@@ -3,7 +3,6 @@ use Rattle.std.proofs.Common.{◌≡◌, ◌≢◌, ℕ, ◌<◌, ◌≤◌, Boo
 use Rattle.std.proofs.Common.{Result, Ok, Err, refl, sym, ◌∙◌, ap, subst, arith, inl, inr}
 use Rattle.std.proofs.lemmas.Bool.{cases_Bool}
 use Rattle.std.proofs.lemmas.Bool.Decides.{nat_tests}
-use Rattle.std.specs.Prelude.{[], ◌∷◌, fold}
 use Rattle.std.specs.declared.cmp.Ordering.{Ordering}
 use Rattle.std.specs.declared.cmp.Ordering.TheVariants.{Less, Equal, Greater}
 use Rattle.std.specs.Ordering.{is_eq, eq_by_cmp}
@@ -27,12 +26,12 @@ use Rattle.chart_store.specs.declared.refusal.Refusal.{Refusal}
 use Rattle.chart_store.specs.declared.refusal.Refusal.TheVariants.{FileLong, StoreFull}
 use Rattle.chart_store.specs.Refusal.{refusal_of_read, refusal_of_sequence, refusal_of_build}
 use Rattle.chart_store.specs.Fault.{or_refused}
-use Rattle.chart_store.specs.Loaded.{HoldingsByKey, nothing_held, files_of, files_after, buildable, holding_of}
+use Rattle.chart_store.specs.Loaded.{HoldingsByKey, files_of, files_after, buildable, holding_of}
 use Rattle.chart_store.specs.Loaded.{FILE_LIMIT, STORE_LIMIT, live_bytes, store_within, within_limit, cells_within, come_to}
 use Rattle.chart_store.specs.Loaded.{Outcome, held_with, accepted_file, loaded}
-use Rattle.chart_store.specs.Live.{IsLive, AreLive, state_or, state_after, state_by}
+use Rattle.chart_store.specs.Live.{IsLive, AreLive}
 use Rattle.chart_store.specs.Taken.{held_of, chart_of, held_after, chart_after, cell_after, placed, taken}
-use Rattle.chart_store.proofs.Holdings.{AreLive-nothing, AreLive-insert}
+use Rattle.chart_store.proofs.Holdings.{AreLive-insert}
 use Rattle.chart_store.proofs.Loading.{Laws, WasLive, live-replace, live-extend, live-cancel, accepted-taken}
 
 -- ---- steps
@@ -231,23 +230,6 @@ module _ (laws : Laws) where
       let before = map.get state.cells l.dataset.header.key in
       taken-live state l.dataset file before done live (live l.dataset.header.key) l.reads l.short
       (sym (accepted-taken laws state l.dataset file before (live l.dataset.header.key) l.reads l.short) ∙ l.accepts)
-
-  pub state_after-live : (state : StateValue) (file : List ℕ) → AreLive state.cells →
-      AreLive (state_after state file).cells
-  state_after-live state file live = go (loaded state file) refl
-    where
-      go : (r : Result Outcome Refusal) → loaded state file ≡ r → AreLive (state_or state r).cells
-      go (Ok done) e = loaded-live state file done live e
-      go (Err refusal) e = live
-
-  files-live : (state : StateValue) (files : List (List ℕ)) → AreLive state.cells →
-      AreLive (fold state_after state files).cells
-  files-live state [] live = live
-  files-live state (file ∷ files) live = files-live (state_after state file) files (state_after-live state file live)
-
-  pub state_by-live : (files : List (List ℕ)) → AreLive (state_by files).cells
-  unfolding state_by
-  state_by-live files = files-live nothing_held files AreLive-nothing
 
   -- by what is held of the cell
   pub loaded-taken : (state : StateValue) (file : List ℕ) (dataset : DatasetValue) → AreLive state.cells →

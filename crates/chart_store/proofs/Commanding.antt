@@ -14,7 +14,7 @@ use Rattle.update_sequence.specs.Sound.{IsSoundList}
 use Rattle.chart_store.specs.declared.refusal.Refusal.{Refusal}
 use Rattle.chart_store.specs.declared.refusal.Refusal.TheVariants.{NoCell, NoUpdate}
 use Rattle.chart_store.specs.KeptFiles.{kept_by}
-use Rattle.chart_store.specs.Live.{IsLive, AreLive, state_or}
+use Rattle.chart_store.specs.Live.{IsLive, AreLive, state_or, state_after, state_by}
 use Rattle.chart_store.specs.Loaded.{Outcome, HoldingsByKey, nothing_held}
 use Rattle.chart_store.specs.Next.{cells_with, outcome_by}
 use Rattle.chart_store.specs.declared.next.Next.{Next}
@@ -166,6 +166,29 @@ module _ (laws : Laws) (sounds : Sounds) (holds : Holds) where
   pub after-live : (commands : List Command) → AreLive (after nothing_held commands).cells
   unfolding after
   after-live commands = commands-live nothing_held commands AreLive-nothing
+
+-- ---- files are loaded in turn, each by a command
+
+abbrev pub CommandsStayLive : Type 0
+CommandsStayLive = (state : StateValue) (command : Command) → AreLive state.cells →
+    AreLive (state_with state command).cells
+
+pub state_after-live : CommandsStayLive → (state : StateValue) (file : List ℕ) → AreLive state.cells →
+    AreLive (state_after state file).cells
+unfolding outcome
+state_after-live stay state file live = stay state (Load file) live
+
+files-live : CommandsStayLive → (state : StateValue) (files : List (List ℕ)) → AreLive state.cells →
+    AreLive (fold state_after state files).cells
+files-live stay state [] live = live
+files-live stay state (file ∷ files) live =
+    files-live stay (state_after state file) files (state_after-live stay state file live)
+
+pub state_by-live : CommandsStayLive → (files : List (List ℕ)) → AreLive (state_by files).cells
+unfolding state_by
+state_by-live stay files = files-live stay nothing_held files AreLive-nothing
+
+-- ---- commands in turn
 
 fold-push : (state : StateValue) (commands : List Command) (command : Command) →
     fold state_with state (commands ++ command ∷ []) ≡ state_with (fold state_with state commands) command

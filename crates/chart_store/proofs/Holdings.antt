@@ -131,6 +131,11 @@ live_bytes-remove cells key here is =
       ap live_bytes (remove-insert cells key here is),
     )
 
+-- a cell that was found among cells that are these is there
+pub found-there : (found cells : HoldingsByKey) (key : List ℕ) (here : Holding) → Some here ≡ map.get found key
+    → found ≡ cells → map.get cells key ≡ Some here
+found-there found cells key here is same = sym (is ∙ ap (λ (m : HoldingsByKey). map.get m key) same)
+
 pub bytes_of-held : (cells : HoldingsByKey) (key : List ℕ) (here : Holding) → map.get cells key ≡ Some here →
     bytes_of here.files ≤ live_bytes cells
 bytes_of-held cells key here is =

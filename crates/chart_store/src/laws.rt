@@ -25,8 +25,7 @@ pub fn live_files_leave_what_is_held()
     ensures live { (files : List (List ℕ)) → AreLive (state_by files).cells }
     ensures more { (state : StateValue) (file : List ℕ) → AreLive state.cells → AreLive (state_after state file).cells }
 {
-    one_file_more();
-    accepted_files_follow();
+    commands_leave_what_is_held();
 }
 
 /// A file that is accepted is one of its key, and changes the cell of that key alone. A refused one changes none.

@@ -1,14 +1,12 @@
 -- What is taken away is live.
-use Rattle.std.proofs.Common.{◌≡◌, Some, sym, ap, arith, ◌∙◌}
-use Rattle.std.specs.FinMap as map
-use Rattle.chart_store.specs.Loaded.{HoldingsByKey, bytes_of}
-use Rattle.chart_store.proofs.Holdings.{bytes_of-held, can-drop}
+use Rattle.std.proofs.Common.{ap, arith, ◌∙◌}
+use Rattle.chart_store.specs.Loaded.{bytes_of}
+use Rattle.chart_store.proofs.Holdings.{bytes_of-held, can-drop, found-there}
 use Rattle.chart_store.proofs.command.next_of_drop.Goals as goal
 
 pub bytes_of-requires : goal.bytes_of-requires
 bytes_of-requires c =
-    let there : map.get c.args.live.now.cells c.args.key ≡ Some c.in-Some.here.now
-    = sym (c.in-Some.ensures ∙ ap (λ (m : HoldingsByKey). map.get m c.args.key) c.cells.ensures.cells) in
+    let there = found-there _ c.args.live.now.cells c.args.key _ c.in-Some.ensures c.cells.ensures.cells in
     omega (
       arith,
       c.bytes.ensures.bytes,
@@ -19,8 +17,7 @@ bytes_of-requires c =
 
 pub overflow_sub-result : goal.overflow_sub-result
 overflow_sub-result c =
-    let there : map.get c.args.live.now.cells c.args.key ≡ Some c.in-Some.here.now
-    = sym (c.in-Some.ensures ∙ ap (λ (m : HoldingsByKey). map.get m c.args.key) c.cells.ensures.cells) in
+    let there = found-there _ c.args.live.now.cells c.args.key _ c.in-Some.ensures c.cells.ensures.cells in
     omega (
       arith,
       c.bytes.ensures.bytes,
@@ -31,7 +28,6 @@ overflow_sub-result c =
 
 pub returns-clause-stands : goal.returns-clause-stands
 returns-clause-stands c =
-    let there : map.get c.args.live.now.cells c.args.key ≡ Some c.in-Some.here.now
-    = sym (c.in-Some.ensures ∙ ap (λ (m : HoldingsByKey). map.get m c.args.key) c.cells.ensures.cells) in
+    let there = found-there _ c.args.live.now.cells c.args.key _ c.in-Some.ensures c.cells.ensures.cells in
     can-drop c.args.live.now.cells c.args.key c.in-Some.here.now _ _ there c.bytes.ensures.bytes c.bytes.ensures.within
     (c.bytes_of.ensures ∙ ap bytes_of c.as_slice.ensures)
