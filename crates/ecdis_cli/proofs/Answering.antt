@@ -156,6 +156,21 @@ module _ {D : Type 0} (clock : D → ℕ) (might : D → ℕ → Images → List
       (subst (λ (l : List ℕ). SaysFront before.said l so_far) (ap said_of (sym replied))
       (subst (λ (l : List ℕ). SaysFront l (printed reply) so_far) silent x.front))) then_said)
 
+  -- what is taken of the script where a reply is begun
+  taken-said : (IsGiven : Step → Type 0) (d0 d1 d2 : D) (may_leave : ℕ → List ℕ → Type 0) (reply : Reply) (middle : List ℕ) (now : World)
+      → now.faults ≡ faults → middle ≡ before.said
+      → ((step : Step) → IsGiven step → (step.reply ≡ Some reply) × (step.model ≡ now.model))
+      → ((images : Images) → MayBeLeft may_leave images → StandFor images now.model.state)
+      → (x : Replied tells files (LeavesOnly clock might d0 d1) before.said number line before.model before.faults faults IsGiven)
+      → LeavesOnly clock might d1 d2 (LeavesSaying may_leave middle (printed reply))
+      → Taken tells files (LeavesOnly clock might d0 d2) before now.faults (x.fetches ∷ []) (step_to x.fetches before.model number line ∷ [])
+  taken-said IsGiven d0 d1 d2 may_leave reply middle now counted silent gives stands x then_said =
+      let step : Step = step_to x.fetches before.model number line in
+      let given : (step.reply ≡ Some reply) × (step.model ≡ now.model) = gives step x.gives in
+      subst (λ (n : ℕ). Taken tells files (LeavesOnly clock might d0 d2) before n (x.fetches ∷ []) (step ∷ [])) (sym counted)
+      (Taken-one rests follows speaks law tells files (LeavesOnly clock might d0 d2) number line before faults x.fetches later x.answers
+      (said-crash d0 d1 d2 may_leave x.fetches now.model reply middle silent given.0 given.1 stands x.leaves then_said))
+
   -- the reply was said
   pub answered-said : (IsGiven : Step → Type 0) (d0 d1 d2 : D) (may_leave : ℕ → List ℕ → Type 0) (reply : Reply) (middle : List ℕ) (now : World)
       → now.faults ≡ faults → middle ≡ before.said → now.said ≡ middle ++ printed reply
@@ -169,9 +184,7 @@ module _ {D : Type 0} (clock : D → ℕ) (might : D → ℕ → Images → List
       let given : (step.reply ≡ Some reply) × (step.model ≡ now.model) = gives step x.gives in
       record {
         fetches = x.fetches;
-        taken = subst (λ (n : ℕ). Taken tells files (LeavesOnly clock might d0 d2) before n (x.fetches ∷ []) (step ∷ [])) (sym counted)
-            (Taken-one rests follows speaks law tells files (LeavesOnly clock might d0 d2) number line before faults x.fetches later x.answers
-            (said-crash d0 d1 d2 may_leave x.fetches now.model reply middle silent given.0 given.1 stands x.leaves then_said));
+        taken = taken-said IsGiven d0 d1 d2 may_leave reply middle now counted silent gives stands x then_said;
         after = record {
           said = said ∙ ap (λ (l : List ℕ). l ++ printed reply) silent ∙ ap (λ (o : Option Reply). before.said ++ said_of o) (sym given.0)
               ∙ ap (λ (l : List ℕ). before.said ++ l) (sym (output-one step));
@@ -192,9 +205,7 @@ module _ {D : Type 0} (clock : D → ℕ) (might : D → ℕ → Images → List
       let given : (step.reply ≡ Some reply) × (step.model ≡ now.model) = gives step x.gives in
       record {
         fetches = x.fetches;
-        taken = subst (λ (n : ℕ). Taken tells files (LeavesOnly clock might d0 d2) before n (x.fetches ∷ []) (step ∷ [])) (sym counted)
-            (Taken-one rests follows speaks law tells files (LeavesOnly clock might d0 d2) number line before faults x.fetches later x.answers
-            (said-crash d0 d1 d2 may_leave x.fetches now.model reply middle silent given.0 given.1 stands x.leaves then_said));
+        taken = taken-said IsGiven d0 d1 d2 may_leave reply middle now counted silent gives stands x then_said;
         front = subst (λ (l : List ℕ). SaysFront before.said l now.said) (ap said_of (sym given.0) ∙ sym (output-one step))
             (subst (λ (l : List ℕ). SaysFront l (printed reply) now.said) silent front);
       }
