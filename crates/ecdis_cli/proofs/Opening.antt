@@ -21,6 +21,8 @@ use Rattle.chart_store.specs.declared.open_fault.OpenFault.{OpenFault}
 use Rattle.chart_store.specs.declared.open_fault.OpenFault.TheVariants as of_opening
 use Rattle.ecdis_cli.specs.declared.run.status.Status.{Status}
 use Rattle.ecdis_cli.specs.declared.run.status.Status.TheVariants as status
+use Rattle.command_words.specs.Reading.{WordsValue}
+use Rattle.ecdis_cli.specs.Portrayal.{IsPortrayal}
 use Rattle.ecdis_cli.specs.Progress.{Leaving}
 use Rattle.ecdis_cli.specs.Status.{is_early}
 use Rattle.ecdis_cli.specs.Stop.{status_of_opening}
@@ -29,6 +31,7 @@ use Rattle.ecdis_cli.specs.Run.{Outside, Ran, model_at, outside_of}
 use Rattle.ecdis_cli.specs.Script.{failures_in, steps_of}
 use Rattle.ecdis_cli.specs.Step.{Step}
 use Rattle.ecdis_cli.proofs.Crashes.{prefix-extended, prefix-none}
+use Rattle.ecdis_cli.proofs.Early.{any-is, any_portrayal}
 use Rattle.ecdis_cli.proofs.Failures.{TellsFailure}
 use Rattle.ecdis_cli.proofs.Runs.{Covers, IsOther, covers-none, other-says, padding, padding-told}
 use Rattle.ecdis_cli.proofs.Taking.{answers-same, front-none, rose-none}
@@ -230,3 +233,19 @@ complete found opening status.ShelfFault script limit s0 s1 d0 d1 reads words fo
 -- the words were refused
 pub refused-words : {A : Type 0} (found : Option A) (x : A) → found ≡ Some x → found ≡ None → {X : Type 0} → X
 refused-words {A = A} found x e n = absurd (let f : ◌≡◌ {A = Option A} (Some x) None = sym e ∙ n in cc)
+
+-- a run that ends before its store is opened
+pub ran-untouched : {D : Type 0} (clock : D → ℕ) (might : D → ℕ → Images → List ℕ → Type 0) (reads : ReadStands) (desk : D)
+    (contents : ℕ → List ℕ) (may_leave : ℕ → List ℕ → Type 0) (said : List ℕ) (opening : Reading) → read_of (images_of contents) ≡ Ok opening
+    → TellsFailure → ((images : Images) (so_far : List ℕ) → might desk (clock desk) images so_far → MayBeLeft may_leave images × (so_far ≡ said))
+    → (tells : Bool) (files : Files) (words : Option WordsValue) (status : Status) (left : List ℕ) (faults faults' : ℕ)
+    → IsOther status → faults ≤ faults'
+    → (portrayal : Portrayal) × IsPortrayal tells files words portrayal
+    × Ran tells files (model_at portrayal opening) status (LeavesOnly clock might desk desk) (LeavesBefore may_leave said) (MayBeLeft may_leave)
+    (outside_of left said faults) (outside_of left said faults')
+ran-untouched clock might reads desk contents may_leave said opening read law only_now tells files words status left faults faults' other later = (
+  any_portrayal files words,
+  any-is tells files words,
+  ran-unopened clock might reads contents may_leave said (any_portrayal files words) opening read law tells files desk desk status
+      (MayBeLeft may_leave) left said faults faults' other refl later (reading-none clock might desk contents may_leave said only_now),
+)

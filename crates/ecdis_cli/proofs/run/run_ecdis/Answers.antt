@@ -1,11 +1,10 @@
 -- A run whose words are refused, or whose catalogue or table isn't taken, does nothing; any other is the run over the store.
 use Rattle.std.proofs.Common.{ap, arith, refl}
 use Rattle.std.specs.Prelude.{Err, map, string_bytes}
-use Rattle.chart_ports.specs.Moments.{MayBeLeft}
 use Rattle.command_words.specs.Reading.{value_of, words_of}
 use Rattle.ecdis_cli.specs.declared.run.status.Status.TheVariants as status
-use Rattle.ecdis_cli.proofs.Early.{any-is, any_portrayal, begun-not, early-not, file-complete, file-either, file-ends, file-fault, file-status, not-file, read-is, read-not}
-use Rattle.ecdis_cli.proofs.Opening.{complete, or_early, other-status, ran-later, ran-unopened, reading-none, refused-words, words-status}
+use Rattle.ecdis_cli.proofs.Early.{begun-not, early-not, file-complete, file-either, file-ends, file-fault, file-status, not-file, read-is, read-not}
+use Rattle.ecdis_cli.proofs.Opening.{complete, or_early, other-status, ran-later, ran-untouched, refused-words, words-status}
 use Rattle.ecdis_cli.proofs.run.run_ecdis.Goals as goal
 
 -- ---- the words
@@ -13,15 +12,10 @@ use Rattle.ecdis_cli.proofs.run.run_ecdis.Goals as goal
 pub returns-in-Err-Refused-clause-ran : goal.returns-in-Err-Refused-clause-ran
 returns-in-Err-Refused-clause-ran g c =
     λ s d opening read.
-    let desk = c.args.desk.now in (
-      any_portrayal (g.L.Shelf.files c.args.shelf.now) (words_of (map string_bytes c.args.words.now)),
-      any-is g.L.Shelf.tells (g.L.Shelf.files c.args.shelf.now) (words_of (map string_bytes c.args.words.now)),
-      ran-unopened g.D.Desk.clock g.D.Desk.might c.files_that_stand_are_read.ensures.reads (g.D.Desk.contents desk) (g.D.Desk.may_leave desk) (g.D.Desk.said desk) _ opening read
-          c.turns_follow_their_commands.ensures.failed _ _ desk desk _ (MayBeLeft (g.D.Desk.may_leave desk))
-          (g.S.Source.left c.args.script.now) _ (g.L.Shelf.faults c.args.shelf.now) (g.L.Shelf.faults c.args.shelf.now) words-status refl (omega arith)
-          (reading-none g.D.Desk.clock g.D.Desk.might desk (g.D.Desk.contents desk) (g.D.Desk.may_leave desk) (g.D.Desk.said desk)
-          (λ images so_far left. g.met.D.Desk.only_now desk images so_far d left)),
-    )
+    let desk = c.args.desk.now in
+    ran-untouched g.D.Desk.clock g.D.Desk.might c.files_that_stand_are_read.ensures.reads desk (g.D.Desk.contents desk)
+    (g.D.Desk.may_leave desk) (g.D.Desk.said desk) opening read c.turns_follow_their_commands.ensures.failed
+    (λ images so_far left. g.met.D.Desk.only_now desk images so_far d left) _ _ _ _ _ _ _ words-status (omega arith)
 
 pub returns-in-Err-Refused-clause-refused_tables : goal.returns-in-Err-Refused-clause-refused_tables
 returns-in-Err-Refused-clause-refused_tables g c =
@@ -34,15 +28,10 @@ returns-in-Err-Refused-clause-complete g c =
 pub returns-in-Err-NoMemory-clause-ran : goal.returns-in-Err-NoMemory-clause-ran
 returns-in-Err-NoMemory-clause-ran g c =
     λ s d opening read.
-    let desk = c.args.desk.now in (
-      any_portrayal (g.L.Shelf.files c.args.shelf.now) (words_of (map string_bytes c.args.words.now)),
-      any-is g.L.Shelf.tells (g.L.Shelf.files c.args.shelf.now) (words_of (map string_bytes c.args.words.now)),
-      ran-unopened g.D.Desk.clock g.D.Desk.might c.files_that_stand_are_read.ensures.reads (g.D.Desk.contents desk) (g.D.Desk.may_leave desk) (g.D.Desk.said desk) _ opening read
-          c.turns_follow_their_commands.ensures.failed _ _ desk desk _ (MayBeLeft (g.D.Desk.may_leave desk))
-          (g.S.Source.left c.args.script.now) _ (g.L.Shelf.faults c.args.shelf.now) (g.L.Shelf.faults c.args.shelf.now) other-status refl (omega arith)
-          (reading-none g.D.Desk.clock g.D.Desk.might desk (g.D.Desk.contents desk) (g.D.Desk.may_leave desk) (g.D.Desk.said desk)
-          (λ images so_far left. g.met.D.Desk.only_now desk images so_far d left)),
-    )
+    let desk = c.args.desk.now in
+    ran-untouched g.D.Desk.clock g.D.Desk.might c.files_that_stand_are_read.ensures.reads desk (g.D.Desk.contents desk)
+    (g.D.Desk.may_leave desk) (g.D.Desk.said desk) opening read c.turns_follow_their_commands.ensures.failed
+    (λ images so_far left. g.met.D.Desk.only_now desk images so_far d left) _ _ _ _ _ _ _ other-status (omega arith)
 
 -- ---- the catalogue and the table
 
@@ -69,15 +58,10 @@ returns-in-Err-clause-refused_tables g c =
 pub returns-in-Err-clause-ran : goal.returns-in-Err-clause-ran
 returns-in-Err-clause-ran g c =
     λ s d opening read.
-    let desk = c.args.desk.now in (
-      any_portrayal (g.L.Shelf.files c.args.shelf.now) (words_of (map string_bytes c.args.words.now)),
-      any-is g.L.Shelf.tells (g.L.Shelf.files c.args.shelf.now) (words_of (map string_bytes c.args.words.now)),
-      ran-unopened g.D.Desk.clock g.D.Desk.might c.files_that_stand_are_read.ensures.reads (g.D.Desk.contents desk) (g.D.Desk.may_leave desk) (g.D.Desk.said desk) _ opening read
-          c.turns_follow_their_commands.ensures.failed _ _ desk desk _ (MayBeLeft (g.D.Desk.may_leave desk))
-          (g.S.Source.left c.args.script.now) _ (g.L.Shelf.faults c.args.shelf.now) (g.L.Shelf.faults c.fetch_tables.new.shelf) (file-status _ c.in-Err.ensures.ends) refl c.fetch_tables.ensures.later
-          (reading-none g.D.Desk.clock g.D.Desk.might desk (g.D.Desk.contents desk) (g.D.Desk.may_leave desk) (g.D.Desk.said desk)
-          (λ images so_far left. g.met.D.Desk.only_now desk images so_far d left)),
-    )
+    let desk = c.args.desk.now in
+    ran-untouched g.D.Desk.clock g.D.Desk.might c.files_that_stand_are_read.ensures.reads desk (g.D.Desk.contents desk)
+    (g.D.Desk.may_leave desk) (g.D.Desk.said desk) opening read c.turns_follow_their_commands.ensures.failed
+    (λ images so_far left. g.met.D.Desk.only_now desk images so_far d left) _ _ _ _ _ _ _ (file-status _ c.in-Err.ensures.ends) c.fetch_tables.ensures.later
 
 pub returns-in-Err-clause-done : goal.returns-in-Err-clause-done
 returns-in-Err-clause-done g c =

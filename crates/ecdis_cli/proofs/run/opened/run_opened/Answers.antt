@@ -20,19 +20,15 @@ returns-in-Err-clause-ran g c = λ s d opening read.
 
 pub returns-in_default-clause-ran : goal.returns-in_default-clause-ran
 returns-in_default-clause-ran g c = λ s d opening read.
-    let old = c.args.desk.now in
-    ran-unopened g.D.Desk.clock g.D.Desk.might c.files_that_stand_are_read.ensures.reads (g.D.Desk.contents old) (g.D.Desk.may_leave old) (g.D.Desk.said old) _ opening read
-    c.turns_follow_their_commands.ensures.failed _ _ old c.open_store.new.desk _ (MayBeLeft (g.D.Desk.may_leave c.open_store.new.desk))
-    (g.S.Source.left c.args.script.now) _ (g.L.Shelf.faults c.args.shelf.now) _
-    other-status (c.open_store.ensures.said d) (omega arith) (c.open_store.ensures.moments d)
+    ran-unopened g.D.Desk.clock g.D.Desk.might c.files_that_stand_are_read.ensures.reads _ _ _ _ opening read
+    c.turns_follow_their_commands.ensures.failed _ _ _ _ _ _ _ _ _ _ other-status (c.open_store.ensures.said d) (omega arith)
+    (c.open_store.ensures.moments d)
 
 pub returns-in_default-vec-clause-ran : goal.returns-in_default-vec-clause-ran
 returns-in_default-vec-clause-ran g c = λ s d opening read.
-    let old = c.args.desk.now in
-    ran-unopened g.D.Desk.clock g.D.Desk.might c.files_that_stand_are_read.ensures.reads (g.D.Desk.contents old) (g.D.Desk.may_leave old) (g.D.Desk.said old) _ opening read
-    c.turns_follow_their_commands.ensures.failed _ _ old c.open_store.new.desk _ (MayBeLeft (g.D.Desk.may_leave c.open_store.new.desk))
-    (g.S.Source.left c.args.script.now) _ (g.L.Shelf.faults c.args.shelf.now) _
-    other-status (c.open_store.ensures.said d) (omega arith) (c.open_store.ensures.moments d)
+    ran-unopened g.D.Desk.clock g.D.Desk.might c.files_that_stand_are_read.ensures.reads _ _ _ _ opening read
+    c.turns_follow_their_commands.ensures.failed _ _ _ _ _ _ _ _ _ _ other-status (c.open_store.ensures.said d) (omega arith)
+    (c.open_store.ensures.moments d)
 
 pub run_script-requires-clause-ready : goal.run_script-requires-clause-ready
 run_script-requires-clause-ready g c =
