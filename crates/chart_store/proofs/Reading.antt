@@ -2,7 +2,8 @@
 use Rattle.std.proofs.Common.{◌≡◌, ℕ, ◌+◌, List, [], ◌∷◌, length, Option, Some, None, Result, Ok, Err}
 use Rattle.std.proofs.Common.{refl, sym, ◌∙◌, ap, subst}
 use Rattle.std.specs.Option.{option_and_then}
-use Rattle.std.specs.Prelude.{◌↔◌}
+use Rattle.std.specs.Prelude.{◌↔◌, IfErr}
+use Rattle.std.proofs.lemmas.Result.{IfErr-weaker}
 use Rattle.chart_model.specs.Answers.{◌>>=◌, or_fault, or_fault_as}
 use Rattle.chart_model.specs.State.{StateValue}
 use Rattle.chart_model.specs.declared.command.Command.{Command}
@@ -94,6 +95,11 @@ pub foreign_leads : (P Q : Place → Type 0) → ((place : Place) → P place �
 foreign_leads P Q leads DeskFault has = tt
 foreign_leads P Q leads (Foreign bank at) has = leads (record { bank = bank; at = at }) has
 foreign_leads P Q leads NoMemory has = tt
+
+-- where a call answers a foreign place, more is known
+pub foreign_more : {A : Type 0} {P Q : Place → Type 0} (result : Result A OpenFault) → ((place : Place) → P place → Q place)
+    → IfErr result (ForeignHas P) → IfErr result (ForeignHas Q)
+foreign_more {P = P} {Q = Q} result leads has = IfErr-weaker result (ForeignHas P) (ForeignHas Q) (foreign_leads P Q leads) has
 
 -- ---- records and commands
 

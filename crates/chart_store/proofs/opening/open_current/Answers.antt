@@ -6,21 +6,13 @@ use Rattle.chart_store.proofs.opening.open_current.Goals as goal
 
 pub returns-in_err-open_bank-clause-moments : goal.returns-in_err-open_bank-clause-moments
 returns-in_err-open_bank-clause-moments g c = λ tells.
-    let old = c.args.desk.now in
-    let mid = c.open_head.new.desk in
-    opens_behind g.D.Desk.clock g.D.Desk.might old mid c.open_bank.new.desk
-    (g.D.Desk.contents old) (g.D.Desk.contents mid) (g.D.Desk.may_leave old) (g.D.Desk.may_leave mid)
-    (g.D.Desk.said old) (g.D.Desk.said mid)
+    opens_behind g.D.Desk.clock g.D.Desk.might _ _ _ _ _ _ _ _ _
     (c.open_head.ensures.moments tells) (c.in_ok-open_head.ensures.settled tells 0 (omega arith))
     (c.in_ok-open_head.ensures.files tells) (c.open_head.ensures.said tells) (c.open_bank.ensures.moments tells)
 
 pub returns-clause-moments : goal.returns-clause-moments
 returns-clause-moments g c = λ tells.
-    let old = c.args.desk.now in
-    let mid = c.open_head.new.desk in
-    opens_behind g.D.Desk.clock g.D.Desk.might old mid c.open_bank.new.desk
-    (g.D.Desk.contents old) (g.D.Desk.contents mid) (g.D.Desk.may_leave old) (g.D.Desk.may_leave mid)
-    (g.D.Desk.said old) (g.D.Desk.said mid)
+    opens_behind g.D.Desk.clock g.D.Desk.might _ _ _ _ _ _ _ _ _
     (c.open_head.ensures.moments tells) (c.in_ok-open_head.ensures.settled tells 0 (omega arith))
     (c.in_ok-open_head.ensures.files tells) (c.open_head.ensures.said tells) (c.open_bank.ensures.moments tells)
 

@@ -9,7 +9,7 @@ use Rattle.chart_store.specs.Images.{begun, content_in, in_bank, read_of, replay
 use Rattle.chart_store.specs.Loaded.{nothing_held}
 use Rattle.chart_store.specs.Store.{state_of}
 use Rattle.chart_store.proofs.FilesLeft.{content_left}
-use Rattle.chart_store.proofs.Reading.{content_behind, foreign_leads, has_commands, no_content, not_begun}
+use Rattle.chart_store.proofs.Reading.{content_behind, foreign_leads, foreign_more, has_commands, no_content, not_begun}
 use Rattle.chart_store.proofs.Reading.{not_carried, state_in}
 use Rattle.chart_store.proofs.opening.open_store.Goals as goal
 
@@ -87,29 +87,10 @@ returns-in_err-bank-clause-refused g c = λ tells.
 
 pub returns-in_err-open_checkpoint-clause-refused : goal.returns-in_err-open_checkpoint-clause-refused
 returns-in_err-open_checkpoint-clause-refused g c = λ tells.
-    let contents = g.D.Desk.contents c.args.desk.now in
-    let content = c.in_ok-bank.content in
-    let exit = c.from_residual-in_err-open_checkpoint in
-    let p = err_from_is_err_and exit.result exit.ensures.1 in
-    rw (p.1, p.2) (foreign_leads (λ place. begun content.checkpoint ≡ Err place) _
-    (λ place e. content_left contents _ place (c.in_ok-bank.ensures.head tells)
-    (not_begun (images_of contents) content place
-    (content_behind (contents 0) (contents 1) content (c.in_ok-bank.ensures.head tells)
-    (c.in_ok-bank.ensures.content tells)) e)
-    (c.in_ok-bank.ensures.long tells))
-    c.in_err-open_checkpoint.field-0.0 c.in_err-open_checkpoint.ensures.foreign)
+    foreign_more _ (λ place none. content_left (g.D.Desk.contents c.args.desk.now) _ place (c.in_ok-bank.ensures.head tells)
+    none (c.in_ok-bank.ensures.long tells)) (returns-in_err-open_checkpoint-clause-foreign g c tells)
 
 pub returns-in_err-live-clause-refused : goal.returns-in_err-live-clause-refused
 returns-in_err-live-clause-refused g c = λ tells.
-    let contents = g.D.Desk.contents c.args.desk.now in
-    let content = c.in_ok-bank.content in
-    let p = err_from_is_err_and c.from_residual-in_err-live.result c.from_residual-in_err-live.ensures.1 in
-    rw (p.1, p.2) (foreign_leads
-    (λ place. or_fault_as in_bank (replayed nothing_held 8 content.bodies) ≡ Err place) _
-    (λ place e. content_left contents _ place (c.in_ok-bank.ensures.head tells)
-    (not_carried (images_of contents) content place
-    (content_behind (contents 0) (contents 1) content (c.in_ok-bank.ensures.head tells)
-    (c.in_ok-bank.ensures.content tells))
-    c.in_ok-open_checkpoint.ensures.first e)
-    (c.in_ok-bank.ensures.long tells))
-    c.in_err-live.field-0.0 c.in_err-live.ensures.foreign)
+    foreign_more _ (λ place none. content_left (g.D.Desk.contents c.args.desk.now) _ place (c.in_ok-bank.ensures.head tells)
+    none (c.in_ok-bank.ensures.long tells)) (returns-in_err-live-clause-foreign g c tells)

@@ -38,10 +38,7 @@ returns-then-dataset-number-clause-at_most g c =
 
 pub returns-then-dataset-number-clause-kept : goal.returns-then-dataset-number-clause-kept
 returns-then-dataset-number-clause-kept g c = λ key sound.
-    let sounds : Sounds = record {
-      tested = c.sound_lists_are_tested.ensures;
-      before = c.sound_lists_grow.ensures.before;
-    } in
+    let sounds : Sounds = record { tested = c.sound_lists_are_tested.ensures; before = c.sound_lists_grow.ensures.before } in
     let below = rw c.as_slice-file-items.ensures at c.loop-file-test.true in
     let item = rw c.as_slice-file-items.ensures at c.file-item.is in
     let reads : data_set_in c.file-item.result ≡ Ok c.in-Ok.dataset = rw c.get.ensures at (rw c.as_slice.ensures at c.in-Ok.ensures.exact) in
@@ -55,10 +52,7 @@ returns-then-dataset-number-clause-kept g c = λ key sound.
 
 pub returns-clause-none : goal.returns-clause-none
 returns-clause-none g c = λ key sound.
-    let sounds : Sounds = record {
-      tested = c.sound_lists_are_tested.ensures;
-      before = c.sound_lists_grow.ensures.before;
-    } in
+    let sounds : Sounds = record { tested = c.sound_lists_are_tested.ensures; before = c.sound_lists_grow.ensures.before } in
     let past = rw c.as_slice-file-items.ensures at c.loop-file-test.false in
     kept-none sounds key c.args.number c.args.files.now sound
     (subst (λ (l : List (List ℕ)). AllByRecursion (λ file. has_update c.args.number file ≡ false) l)

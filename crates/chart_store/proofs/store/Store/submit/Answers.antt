@@ -97,12 +97,10 @@ returns-in-Err-clause-stands g c = λ tells no_desk images left.
 pub returns-in-Err-clause-moments : goal.returns-in-Err-clause-moments
 returns-in-Err-clause-moments g c = λ tells.
     let kept = c.requires.kept tells in
-    let live = state_of c.args.self.now in
-    let done = outcome_by live c.in_ok-key.field-0 in
-    let needs = c.in_ok-framed.ensures.need in
-    append-moments g.D.Desk.clock g.D.Desk.might c.args.desk.now _ _ _ c.args.self.now kept c.args.command done
-    (used_of c.args.self.now) _ c.in-Err.fault c.append.result c.append.new.desk c.in_ok-key.ensures.after
-    c.in_ok-framed.ensures.spelled needs c.in-Err.is c.append.ensures.told c.append.ensures.full
+    append-moments g.D.Desk.clock g.D.Desk.might c.args.desk.now _ _ _ c.args.self.now kept c.args.command
+    (outcome_by (state_of c.args.self.now) c.in_ok-key.field-0) (used_of c.args.self.now) _ c.in-Err.fault c.append.result
+    c.append.new.desk c.in_ok-key.ensures.after c.in_ok-framed.ensures.spelled c.in_ok-framed.ensures.need c.in-Err.is
+    c.append.ensures.told c.append.ensures.full
     (λ over. (c.append.ensures.unchanged over).1)
     (λ images bytes left. g.met.D.Desk.only_now c.args.desk.now images bytes tells left)
     (c.append.ensures.moments tells kept.content (spelling c.args.command) (in_step _ _ c.args.self.now kept)
