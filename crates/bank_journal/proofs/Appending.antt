@@ -1,7 +1,7 @@
 -- What a crash leaves in each of the two writes of an append, and what stands behind them.
-use Rattle.std.proofs.Common.{◌≡◌, inl, inr, ⊎_elim, ℕ, ◌+◌, ◌<◌, List, [], ◌∷◌, ◌++◌, length, take, drop, Ok}
-use Rattle.std.proofs.Common.{sym, ◌∙◌, ap, subst, arith}
-use Rattle.std.proofs.lemmas.List.{append_assoc}
+use Rattle.std.proofs.Common.{◌≡◌, inl, inr, ⊎_elim, ℕ, ◌+◌, ◌<◌, ◌≤◌, List, [], ◌∷◌, ◌++◌, length, take, drop, Ok}
+use Rattle.std.proofs.Common.{sym, ◌∙◌, ap, subst, arith, length-append}
+use Rattle.std.proofs.lemmas.List.{append_assoc, length-take-le}
 use Rattle.chart_ports.specs.declared.images.Images.{Images}
 use Rattle.chart_ports.specs.Disk.{LeavesNoMoreOfOthers, Only, Torn, written}
 use Rattle.chart_ports.specs.Moments.{LeavesOnly, image_of}
@@ -16,6 +16,14 @@ use Rattle.bank_journal.proofs.Readings.{given}
 -- what has a content is read so
 pub reads : (bytes : List ℕ) (content : BankContent) → HasContent bytes content → bank_of bytes ≡ Ok content
 reads bytes content has = given bytes content (reads_content bytes content has)
+
+-- a file reaches to where it was written from
+pub reaches : (at : ℕ) (bytes old new : List ℕ) → at ≤ length old → new ≡ written at bytes old → at ≤ length new
+reaches at bytes old new within is =
+    let rest = drop (at + length bytes) old in
+    let past : at ≤ length ((take at old ++ bytes) ++ rest) =
+    omega (arith, length-append (take at old ++ bytes) rest, length-append (take at old) bytes, length-take-le at old within) in
+    subst (λ (l : List ℕ). at ≤ length l) (sym is) past
 
 module _ (bytes : List ℕ) (content : BankContent) (has : HasContent bytes content) (place : ℕ)
     (place_is : place ≡ gate_of content) (body framed : List ℕ) (fits : IsBodyLength (length body))

@@ -1,6 +1,7 @@
 //! An open bank.
 
 ghost use Rattle.std.specs.Prelude.{◌<◌};
+ghost use Rattle.std.specs.Int.{IsInRange};
 
 use crate::fault::AppendFault;
 use crate::framing::Framed;
@@ -19,6 +20,7 @@ const OPEN: u8 = 1;
 pub struct Bank {
     file: u8,
     gate: u64,
+    ghost bank: { IsInRange 1 2 file },
     ghost gate_in: { gate < 9223372036854775808 },
 }
 
@@ -35,7 +37,8 @@ impl Bank {
 
     /// The bank of a file whose closed gate stands at this place.
     pub(crate) fn at(file: u8, gate: u64) -> Bank
-        requires { gate < 9223372036854775808 }
+        requires bank { IsInRange 1 2 file }
+        requires gate { gate < 9223372036854775808 }
         ensures file { file_of result ≡ file }
         ensures gate { place_of result ≡ gate }
     {

@@ -28,7 +28,8 @@ const EMPTY: [u8; 9] = [0; 9];
 
 /// The bank that more than nine bytes are.
 fn read_opened(alloc: Global, file: u8, bytes: &[u8]) -> Result<(Bank, BankContent), BankFault>
-    requires { 9 < length bytes.now }
+    requires bank { IsInRange 1 2 file }
+    requires long { 9 < length bytes.now }
     ensures content { IfOk result (λ opened. bank_of bytes.now ≡ Ok opened.1) }
     ensures file { IfOk result (λ opened. file_of opened.0 ≡ file) }
     ensures gate { IfOk result (λ opened. place_of opened.0 ≡ gate_of opened.1) }
@@ -48,6 +49,7 @@ fn write_empty<D: Desk>(
     desk: &mut D,
     file: u8,
 ) -> Result<(Bank, BankContent), BankFault>
+    requires bank { IsInRange 1 2 file }
     requires short { IsTrue D.tells → length (D.contents desk.old file) ≤ 9 }
     requires settled { IsTrue D.tells → Only (D.contents desk.old file) (D.may_leave desk.old file) }
     ensures content { IfOk result (λ opened. opened.1 ≡ nothing) }

@@ -23,6 +23,7 @@ pub(crate) fn read_whole<D: Desk>(
     desk: &mut D,
     file: u8,
 ) -> Result<Vec<u8>, BankFault>
+    requires is_file { file ≤ 2 }
     requires settled { IsTrue D.tells → Only (D.contents desk.old file) (D.may_leave desk.old file) }
     ensures bytes { IsTrue D.tells → IfOk result (λ bytes. bytes.items ≡ D.contents desk.old file) }
     ensures not_foreign { IfErr result (ForeignHas (λ _ _. ⊥)) }
@@ -50,6 +51,8 @@ pub(crate) fn write_through<D: Desk>(
     at: u64,
     bytes: &[u8],
 ) -> Result<(), Failed>
+    requires is_file { file ≤ 2 }
+    requires within { IsTrue D.tells → at ≤ length (D.contents desk.old file) }
     requires settled { IsTrue D.tells → Only (D.contents desk.old file) (D.may_leave desk.old file) }
     ensures done { IsTrue D.tells → OnOk result
         (D.contents desk.new file ≡ written at bytes.now (D.contents desk.old file)) }

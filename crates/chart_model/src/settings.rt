@@ -21,7 +21,7 @@ pub struct Settings {
     /// The deep contour.
     pub deep: i32,
     pub shades: Shades,
-    /// Whether areas that are not safe have a pattern.
+    /// Whether depth areas that are not deeper than the safety contour have a pattern.
     pub pattern: bool,
     /// The denominator of the display scale.
     pub scale: u32,

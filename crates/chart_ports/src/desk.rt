@@ -2,8 +2,9 @@
 
 ghost use Rattle.std.specs.Prelude.{◌≡◌, ◌-◌, ◌≤◌, ◌++◌, Bool, List, ℕ, IfOk, IsTrue, OnOk, OnErr};
 ghost use Rattle.std.specs.Prelude.{length, min, take, drop};
+ghost use Rattle.std.specs.Prelude as list;
 ghost use Rattle.chart_ports.specs.Count.{HasCause};
-ghost use Rattle.chart_ports.specs.Disk.{CutShort, Follows, IsPlace, LeavesNoMore, LeavesNoMoreOfOthers, Only};
+ghost use Rattle.chart_ports.specs.Disk.{CutShort, Follows, LeavesNoMore, LeavesNoMoreOfOthers, Only};
 ghost use Rattle.chart_ports.specs.Disk.{SameFiles, SameOthers, Torn, written};
 ghost use Rattle.chart_ports.specs.Moments.{Elapses, MayBeLeft};
 ghost use Rattle.chart_ports.specs.Said.{SaysFront};
@@ -14,9 +15,9 @@ use crate::source::Failed;
 /// A disk of three files, and where replies are said, under one clock: what a crash leaves and what
 /// was said belong to one moment.
 ///
-/// File 0 is the head, 1 and 2 are the banks; a call on another file fails. What a call that has
-/// failed may have done is in the clauses without `OnOk`: a crash leaves then only what one inside
-/// the call could have left.
+/// File 0 is the head, 1 and 2 are the banks. A call asks for one of them, and for a place in it, so that
+/// it has no cause to fail but the disk's. What a call that has failed may have done is in the clauses
+/// without `OnOk`: a crash leaves then only what one inside the call could have left.
 pub trait Desk {
     /// Whether contracts see what the files hold, what was said, and the clock.
     ghost tells: { Bool };
@@ -42,7 +43,7 @@ pub trait Desk {
 
     /// The number of bytes of a file.
     fn length(&mut self, file: u8) -> Result<u64, Failed>
-        ensures is_file { OnOk result (file ≤ 2) }
+        requires is_file { file ≤ 2 }
         ensures count { IsTrue tells → IfOk result (λ n. n ≡ length (contents self.old file)) }
 
         // It leaves the files and what is said.
@@ -57,7 +58,7 @@ pub trait Desk {
     /// Reads the bytes from a place on into the front of `buf`, and answers how many: as many as
     /// `buf` has, and fewer exactly where the file ends before.
     fn read_at(&mut self, file: u8, at: u64, buf: &mut [u8]) -> Result<usize, Failed>
-        ensures is_file { OnOk result (file ≤ 2) }
+        requires is_file { file ≤ 2 }
         ensures within { IfOk result (λ n. n ≤ length buf.old) }
         ensures count { IsTrue tells →
             IfOk result (λ n. n ≡ min (length buf.old) (length (contents self.old file) - at)) }
@@ -74,9 +75,10 @@ pub trait Desk {
         ensures cause { HasCause (faults self.old) (faults self.new) result };
 
     /// Writes the bytes over what is there from a place on, and past the file's end. The place is in
-    /// the file or at its end, or the call fails.
+    /// the file or at its end.
     fn write_at(&mut self, file: u8, at: u64, bytes: &[u8]) -> Result<(), Failed>
-        ensures place { IsTrue tells → OnOk result (IsPlace (contents self.old) file at) }
+        requires is_file { file ≤ 2 }
+        requires within { IsTrue tells → at ≤ length (contents self.old file) }
         ensures written { IsTrue tells →
             OnOk result (contents self.new file ≡ written at bytes.now (contents self.old file)) }
         ensures others { IsTrue tells → SameOthers file (contents self.old) (contents self.new) }
@@ -91,9 +93,10 @@ pub trait Desk {
 
         ensures cause { HasCause (faults self.old) (faults self.new) result };
 
-    /// Cuts a file to a length, which is at most its own, or the call fails.
+    /// Cuts a file to a length, which is at most its own.
     fn cut(&mut self, file: u8, length: u64) -> Result<(), Failed>
-        ensures place { IsTrue tells → OnOk result (IsPlace (contents self.old) file length) }
+        requires is_file { file ≤ 2 }
+        requires within { IsTrue tells → length ≤ list.length (contents self.old file) }
         ensures cut { IsTrue tells → OnOk result (contents self.new file ≡ take length (contents self.old file)) }
         ensures others { IsTrue tells → SameOthers file (contents self.old) (contents self.new) }
         ensures said { IsTrue tells → said self.new ≡ said self.old }
@@ -108,7 +111,7 @@ pub trait Desk {
 
     /// Brings a file to the disk: a crash after it leaves what a read gives.
     fn sync(&mut self, file: u8) -> Result<(), Failed>
-        ensures is_file { OnOk result (file ≤ 2) }
+        requires is_file { file ≤ 2 }
         ensures settled { IsTrue tells → OnOk result (Only (contents self.old file) (may_leave self.new file)) }
         ensures same { IsTrue tells → OnOk result (contents self.new file ≡ contents self.old file) }
         ensures others { IsTrue tells → SameOthers file (contents self.old) (contents self.new) }

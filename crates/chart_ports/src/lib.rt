@@ -1,5 +1,5 @@
 //! What the chart kernel asks of the outside: a script to read, files to fetch, a disk to write and
-//! a place to say replies, and a counter of decoded records.
+//! a place to say replies, and a counter of steps.
 //!
 //! Each is a trait with a written meaning. Whether an implementation tells contracts its content is
 //! part of its type; each counts its own failures, and code that is generic over the trait can't

@@ -1,14 +1,14 @@
-//! A count of decoded records that costs nothing.
+//! A count of steps that costs nothing: of decoded records, or of features looked at.
 
 ghost use Rattle.std.specs.Prelude.{◌≡◌, ◌+◌, ◌<◌};
 
 use std::marker::Model;
 use std::sync::ledger::{Blank, Book, Ledger, Share};
 
-/// How many records were decoded. It takes no bytes, and only `tick` raises it.
+/// How many steps were taken. It takes no bytes, and only `tick` raises it.
 ///
 /// Each ledger has one counter. Code that is generic in the ledger can't make another, so a bound
-/// on the count speaks of all that was decoded.
+/// on the count speaks of all steps.
 #[derive(Drop)]
 pub struct Steps<C: Ledger> {
     book: Book<C>,
@@ -37,7 +37,7 @@ impl<C: Ledger> Steps<C> {
         Steps { book, share }
     }
 
-    /// Counts one record.
+    /// Counts one step.
     pub fn tick(&mut self)
         ensures { self.new ≡ self.old + 1 }
     {

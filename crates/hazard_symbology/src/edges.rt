@@ -23,8 +23,8 @@ pub fn push_line(
     }
 }
 
-/// Adds what is drawn of an area of hazards: a line on each of its edges that is drawn, and behind it a pattern where
-/// it is a danger.
+/// Adds what is drawn of an area of hazards: a pattern where it is a danger, and then a line on each of its edges
+/// that is drawn.
 pub fn push_area(
     alloc: Global,
     items: &mut ItemList,

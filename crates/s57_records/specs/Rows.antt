@@ -197,7 +197,8 @@ feature_head base n s = do
   })
 
 -- the change of a feature record, from its parts
-abbrev pub feature_change : FeatureHead → Option Foid → List Attr → Option Control → List Related → Option Control → List Pointer → Change
+abbrev pub feature_change : FeatureHead → Option Foid → List Attr → Option Control → List Related
+    → Option Control → List Pointer → Change
 feature_change head foid attrs related_edit related pointer_edit pointers = record {
   target = head.target;
   ruin = head.ruin;

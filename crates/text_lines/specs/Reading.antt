@@ -1,9 +1,6 @@
 -- What files of lines share: the first fault among their lines.
-use Rattle.std.specs.Prelude.{◌≡◌, ℕ, List, [], ◌∷◌, ◌++◌, Option, Some, None, Result}
+use Rattle.std.specs.Prelude.{◌≡◌, ℕ, List, [], ◌∷◌, ◌++◌, Option, Some, None}
 use Rattle.std.specs.Option.{option_or}
-use Rattle.std.specs.List.{flat_map}
-use Rattle.std.specs.Str.Lines.{lines}
-use Rattle.chart_model.specs.Answers.{unless}
 
 -- What is wrong with a line may depend on the lines before it, as on how many these are.
 module _ {F : Type 0} (fault_at : List (List ℕ) → List ℕ → Option F) where
@@ -25,7 +22,3 @@ module _ {F : Type 0} (fault_at : List (List ℕ) → List ℕ → Option F) whe
     pub whole : all ≡ before ++ line ∷ rest
     pub sound : AreSound before
     pub here : fault_at before line ≡ Some fault
-
-  -- what the lines of a file say, one after the other, or the first fault
-  abbrev pub content : {X : Type 0} → (List ℕ → List X) → List ℕ → Result (List X) F
-  content said bytes = unless (first_fault [] (lines bytes)) (flat_map said (lines bytes))

@@ -1,5 +1,6 @@
-use Rattle.std.proofs.Common.{◌∙◌}
-use Rattle.bank_journal.proofs.Appending.{first_write, both_writes, in_step_after}
+use Rattle.std.proofs.Common.{◌∙◌, ◌+◌, arith}
+use Rattle.bank_journal.proofs.Fronts.{inside}
+use Rattle.bank_journal.proofs.Appending.{first_write, both_writes, in_step_after, reaches}
 use Rattle.bank_journal.proofs.bank.Bank.append.Goals as goal
 
 -- the first write leaves the records as they were
@@ -41,3 +42,18 @@ returns-clause-appended g c = λ tells content body step fits framed_is.
     (g.D.Desk.contents c.write_through-2.new.desk file)
     (c.in_ok-write_through-2.ensures.done tells) (c.in_ok-write_through.ensures.done tells)
     (c.in_ok-write_through-2.ensures.settled tells)
+
+-- ---- both writes are within the file
+
+pub write_through-requires-clause-within : goal.write_through-requires-clause-within
+write_through-requires-clause-within g c = λ tells.
+    let step = c.requires.in_step tells in
+    omega (arith, inside (g.D.Desk.contents c.args.desk.now c.args.self.now.file) step.0 step.1.has c.args.self.now.gate step.1.gate)
+
+pub write_through-requires-2-clause-within : goal.write_through-requires-2-clause-within
+write_through-requires-2-clause-within g c = λ tells.
+    let step = c.requires.in_step tells in
+    let old = g.D.Desk.contents c.args.desk.now c.args.self.now.file in
+    let gate = c.args.self.now.gate in
+    let past = reaches (gate + 1) _ old _ (omega (arith, inside old step.0 step.1.has gate step.1.gate)) (c.in_ok-write_through.ensures.done tells) in
+    omega (arith, past)
