@@ -92,8 +92,9 @@ Taken-one rests follows speaks law tells files Leaves number line before faults 
       crash = crash;
     }
 
-output-one : (step : Step) → output (step ∷ []) ≡ said_in step
-output-one step = append-nil (said_in step)
+-- the output of a step that has a reply
+output-replied : (step : Step) (reply : Reply) → step.reply ≡ Some reply → output (step ∷ []) ≡ printed reply
+output-replied step reply is = append-nil (said_in step) ∙ ap said_of is
 
 module _ {D : Type 0} (clock : D → ℕ) (might : D → ℕ → Images → List ℕ → Type 0)
     (rests : Rests) (follows : Follows) (speaks : Speaks) (law : TellsFailure)
@@ -180,14 +181,12 @@ module _ {D : Type 0} (clock : D → ℕ) (might : D → ℕ → Images → List
       → LeavesOnly clock might d1 d2 (LeavesSaying may_leave middle (printed reply))
       → Answered tells files (LeavesOnly clock might d0 d2) number line before now
   answered-said IsGiven d0 d1 d2 may_leave reply middle now counted silent said gives stands x then_said =
-      let step : Step = step_to x.fetches before.model number line in
-      let given : (step.reply ≡ Some reply) × (step.model ≡ now.model) = gives step x.gives in
+      let given = gives (step_to x.fetches before.model number line) x.gives in
       record {
         fetches = x.fetches;
         taken = taken-said IsGiven d0 d1 d2 may_leave reply middle now counted silent gives stands x then_said;
         after = record {
-          said = said ∙ ap (λ (l : List ℕ). l ++ printed reply) silent ∙ ap (λ (o : Option Reply). before.said ++ said_of o) (sym given.0)
-              ∙ ap (λ (l : List ℕ). before.said ++ l) (sym (output-one step));
+          said = said ∙ ap (λ (l : List ℕ). l ++ printed reply) silent ∙ ap (λ (l : List ℕ). before.said ++ l) (sym (output-replied _ reply given.0));
           reached = sym given.1;
         };
       }
@@ -201,12 +200,11 @@ module _ {D : Type 0} (clock : D → ℕ) (might : D → ℕ → Images → List
       → LeavesOnly clock might d1 d2 (LeavesSaying may_leave middle (printed reply))
       → Interrupted tells files (LeavesOnly clock might d0 d2) number line before now
   interrupted-said IsGiven d0 d1 d2 may_leave reply middle now counted silent front gives stands x then_said =
-      let step : Step = step_to x.fetches before.model number line in
-      let given : (step.reply ≡ Some reply) × (step.model ≡ now.model) = gives step x.gives in
       record {
         fetches = x.fetches;
         taken = taken-said IsGiven d0 d1 d2 may_leave reply middle now counted silent gives stands x then_said;
-        front = subst (λ (l : List ℕ). SaysFront before.said l now.said) (ap said_of (sym given.0) ∙ sym (output-one step))
+        front = subst (λ (l : List ℕ). SaysFront before.said l now.said)
+            (sym (output-replied (step_to x.fetches before.model number line) reply (gives _ x.gives).0))
             (subst (λ (l : List ℕ). SaysFront l (printed reply) now.said) silent front);
       }
 

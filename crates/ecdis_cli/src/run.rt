@@ -17,7 +17,7 @@ ghost use Rattle.chart_ports.specs.Count.{IsSteady, Rose, RoseBy};
 ghost use Rattle.chart_ports.specs.Disk.{SameFiles};
 ghost use Rattle.chart_ports.specs.Moments.{LeavesOnly, MayBeLeft, images_of};
 ghost use Rattle.chart_store.specs.Images.{Reading, read_of};
-ghost use Rattle.chart_store.specs.Store.{LeavesBefore};
+ghost use Rattle.chart_store.specs.Store.{LeavesBefore, LeavesReading};
 ghost use Rattle.command_words.specs.Reading.{WordsValue, words_of};
 ghost use Rattle.lookup_table.specs.declared.line.TableLine.{TableLine as LineValue};
 ghost use Rattle.session_core.specs.Model.{Portrayal};
@@ -92,8 +92,9 @@ pub fn run_ecdis<S: Source, L: Shelf, D: Desk, C: Ledger>(
     ensures same { IsTrue L.tells → L.files shelf.new ≡ L.files shelf.old }
 
     // Each other end has its cause. Want of memory alone needs none. Where the files are no store's, nothing is read of
-    // the script and nothing said, however the run ends; it ends for them unless the disk fails or memory runs out, and
-    // then they are left as they were.
+    // the script and nothing said, however the run ends, and at every moment a crash leaves files that read the same, or
+    // as one might have left them at the start; it ends for them unless the disk fails or memory runs out, and then they
+    // are left as they were.
     ensures foreign { (bank at : ℕ) → IsTrue D.tells → result ≡ Status.Foreign bank at →
         read_of (images_of (D.contents desk.old)) ≡ Err (record { bank = bank; at = at }) }
     ensures refused_files { (bank at : ℕ) → IsTrue D.tells →
@@ -103,6 +104,10 @@ pub fn run_ecdis<S: Source, L: Shelf, D: Desk, C: Ledger>(
     ensures unopened { (bank at : ℕ) → IsTrue D.tells →
         read_of (images_of (D.contents desk.old)) ≡ Err (record { bank = bank; at = at }) →
         (script.new ≡ script.old) × (D.said desk.new ≡ D.said desk.old) }
+    ensures refused_moments { (bank at : ℕ) → IsTrue D.tells →
+        read_of (images_of (D.contents desk.old)) ≡ Err (record { bank = bank; at = at }) →
+        LeavesOnly D.clock D.might desk.old desk.new
+        (LeavesReading (D.contents desk.old) (D.may_leave desk.old) (D.said desk.old)) }
     ensures left { (bank at : ℕ) → IsTrue D.tells → result ≡ Status.Foreign bank at →
         SameFiles (D.contents desk.old) (D.contents desk.new) }
     ensures script_failed { result ≡ Status.ScriptFault → Rose (S.faults script.old) (S.faults script.new) }

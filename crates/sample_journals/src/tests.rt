@@ -5,12 +5,11 @@ ghost use Rattle.std.specs.Prelude.{◌≡◌, ◌≤◌, length};
 mod appending;
 mod far;
 mod opening;
-mod untold;
 
 use bank_journal::{BankContent, BankFault, open_bank};
 use chart_ports::{FailingCalls, FileBytes, Images, MemoryDesk};
+use sample_devices::Untold;
 use std::alloc::{AllocError, Global};
-use untold::Untold;
 
 /// A desk with these bytes as bank 1, where the calls of these numbers fail. What it logs takes no memory.
 fn desk_of(alloc: Global, bank: &[u8], failing: &[u64]) -> Result<Untold, AllocError> {

@@ -5,7 +5,7 @@ ghost use Rattle.chart_ports.specs.Count.{IsSteady, Rose, RoseBy};
 ghost use Rattle.chart_ports.specs.Disk.{SameFiles};
 ghost use Rattle.chart_ports.specs.Moments.{LeavesOnly, MayBeLeft, images_of};
 ghost use Rattle.chart_store.specs.Images.{Reading, read_of};
-ghost use Rattle.chart_store.specs.Store.{LeavesBefore};
+ghost use Rattle.chart_store.specs.Store.{LeavesBefore, LeavesReading};
 ghost use Rattle.session_core.specs.Model.{portrayal_with};
 ghost use Rattle.ecdis_cli.specs.Limits.{SCRIPT_LIMIT};
 ghost use Rattle.ecdis_cli.specs.Run.{Ran, model_at, outside_of};
@@ -55,6 +55,10 @@ pub fn run_opened<S: Source, L: Shelf, D: Desk, C: Ledger>(
     ensures unopened { (bank at : ℕ) → IsTrue D.tells →
         read_of (images_of (D.contents desk.old)) ≡ Err (record { bank = bank; at = at }) →
         (script.new ≡ script.old) × (D.said desk.new ≡ D.said desk.old) }
+    ensures refused_moments { (bank at : ℕ) → IsTrue D.tells →
+        read_of (images_of (D.contents desk.old)) ≡ Err (record { bank = bank; at = at }) →
+        LeavesOnly D.clock D.might desk.old desk.new
+        (LeavesReading (D.contents desk.old) (D.may_leave desk.old) (D.said desk.old)) }
     ensures left { (bank at : ℕ) → IsTrue D.tells → result ≡ Status.Foreign bank at →
         SameFiles (D.contents desk.old) (D.contents desk.new) }
     ensures script_failed { result ≡ Status.ScriptFault → Rose (S.faults script.old) (S.faults script.new) }

@@ -1,8 +1,12 @@
 //! What a desk in memory keeps, what a crash leaves of it, and what a call does that fails.
 
+ghost use Rattle.std.specs.Prelude.{IsTrue};
+
+use super::calls::StoreFile::{Bank1, Bank2};
 use super::calls::{Call, is_answered, reads, try_all};
 use super::memory::failing;
-use chart_ports::{Desk, Failed, FailingCalls, FileBytes, Fill, Images, MemoryDesk};
+use crate::Untold;
+use chart_ports::{Desk, FailingCalls, FileBytes, Fill, Images, MemoryDesk};
 use std::alloc::{AllocError, Global};
 use std::process::Abort;
 use std::test::Fail;
@@ -16,29 +20,30 @@ fn images(alloc: Global, bank1: &[u8]) -> Result<Images, AllocError> {
 }
 
 // A desk whose bank 1 has these bytes, all of them on the disk.
-fn opened(alloc: Global, bank1: &[u8], numbers: &[u64]) -> Result<MemoryDesk, AllocError> {
-    MemoryDesk::open(alloc, failing(alloc, numbers)?, images(alloc, bank1)?)
+fn opened(alloc: Global, bank1: &[u8], numbers: &[u64]) -> Result<Untold, AllocError> {
+    let memory = MemoryDesk::open(alloc, failing(alloc, numbers)?, images(alloc, bank1)?)?;
+    Ok(Untold { memory })
 }
 
 /// Writes, cuts and syncs of bank 1.
 const CALLS: [Call; 6] = [
-    Call::Write(1, 2, "CDE", Ok(())),
-    Call::Sync(1, Ok(())),
-    Call::Write(1, 5, "FG", Ok(())),
-    Call::Cut(1, 1, Ok(())),
-    Call::Write(1, 1, "xyz", Ok(())),
-    Call::Sync(1, Ok(())),
+    Call::Write(Bank1, 2, "CDE", Ok(())),
+    Call::Sync(Bank1, Ok(())),
+    Call::Write(Bank1, 5, "FG", Ok(())),
+    Call::Cut(Bank1, 1, Ok(())),
+    Call::Write(Bank1, 1, "xyz", Ok(())),
+    Call::Sync(Bank1, Ok(())),
 ];
 
 /// Whether a crash after so many calls leaves these bytes of bank 1, and the other files as they were.
 fn leaves(
     alloc: Global,
-    desk: &MemoryDesk,
+    desk: &Untold,
     calls: u64,
     fill: Fill,
     bank1: &[u8],
 ) -> Result<bool, AllocError> {
-    let left = desk.image_after(alloc, calls, fill)?;
+    let left = desk.memory.image_after(alloc, calls, fill)?;
     let others = left.head.as_slice() == b"".as_slice()
         && left.bank2.as_slice() == b"other".as_slice();
     Ok(others && left.bank1.as_slice() == bank1)
@@ -58,7 +63,7 @@ const FILLED: [(u64, [&[u8]; 3]); 7] = [
 // Whether it leaves these bytes of bank 1, with old bytes, with new bytes, and with ones.
 fn leaves_each(
     alloc: Global,
-    desk: &MemoryDesk,
+    desk: &Untold,
     calls: u64,
     filled: [&[u8]; 3],
 ) -> Result<bool, AllocError> {
@@ -90,7 +95,9 @@ const TORN: [(u64, &[u8], &[u8]); 4] = [
 ];
 
 // Makes the calls above up to the one of this number, counted from 1, which alone fails.
-fn fails_at<D: Desk>(test: &impl Abort, desk: &mut D, number: usize) {
+fn fails_at<D: Desk>(test: &impl Abort, desk: &mut D, number: usize)
+    requires untold { ¬ IsTrue D.tells }
+{
     for (before, call) in CALLS.iter().enumerate() {
         if before == number {
             break;
@@ -106,8 +113,8 @@ fn a_call_that_fails_is_torn(rt: HostRuntime) -> Result<(), Fail> {
     for (number, read, ones) in TORN {
         let mut desk = opened(alloc, b"abc", &[number])?;
         fails_at(&rt, &mut desk, number as usize);
-        assert_eq!(rt; desk.faults(), 1);
-        assert!(rt; reads(&mut desk, 1, 0, 8, read), "call {number}");
+        assert_eq!(rt; desk.memory.faults(), 1);
+        assert!(rt; reads(&mut desk, Bank1, 0, 8, read), "call {number}");
         assert!(rt;
             leaves(alloc, &desk, number, Fill::Ones, ones)?,
             "call {number}"
@@ -120,47 +127,47 @@ fn a_call_that_fails_is_torn(rt: HostRuntime) -> Result<(), Fail> {
 fn a_read_ends_where_the_file_ends(rt: HostRuntime) -> Result<(), Fail> {
     let mut desk = opened(rt.alloc(), b"abc", &[])?;
     const READS: [Call; 5] = [
-        Call::Length(1, Ok(3)),
-        Call::Read(1, 0, 2, Ok("ab")),
-        Call::Read(1, 1, 2, Ok("bc")),
-        Call::Read(1, 3, 2, Ok("")),
-        Call::Read(1, u64::MAX, 2, Ok("")),
+        Call::Length(Bank1, Ok(3)),
+        Call::Read(Bank1, 0, 2, Ok("ab")),
+        Call::Read(Bank1, 1, 2, Ok("bc")),
+        Call::Read(Bank1, 3, 2, Ok("")),
+        Call::Read(Bank1, u64::MAX, 2, Ok("")),
     ];
     try_all(&rt, &mut desk, &READS);
     Ok(())
 }
 
+// Code that knows a desk by its bound alone can't make these calls.
 #[test]
 fn a_call_outside_the_files_is_a_fault(rt: HostRuntime) -> Result<(), Fail> {
-    let mut desk = opened(rt.alloc(), b"abc", &[])?;
-    const OUTSIDE: [Call; 7] = [
-        Call::Length(3, Err(Failed)),
-        Call::Read(3, 0, 1, Err(Failed)),
-        Call::Write(3, 0, "x", Err(Failed)),
-        Call::Write(1, 4, "x", Err(Failed)),
-        Call::Cut(1, 4, Err(Failed)),
-        Call::Sync(3, Err(Failed)),
-        Call::Length(1, Ok(3)),
-    ];
-    try_all(&rt, &mut desk, &OUTSIDE);
+    let mut desk = opened(rt.alloc(), b"abc", &[])?.memory;
+    assert!(rt; desk.length(3).is_err());
+    assert!(rt; desk.read_at(3, 0, &mut [0; 1]).is_err());
+    assert!(rt; desk.write_at(3, 0, b"x").is_err());
+    assert!(rt; desk.write_at(1, 4, b"x").is_err());
+    assert!(rt; desk.cut(1, 4).is_err());
+    assert!(rt; desk.sync(3).is_err());
     assert_eq!(rt; desk.faults(), 6);
+    assert_eq!(rt; desk.length(1), Ok(3));
     Ok(())
 }
 
 #[test]
 fn room_is_taken_ahead_and_as_it_goes(rt: HostRuntime) -> Result<(), Fail> {
     let alloc = rt.alloc();
-    let mut desk = MemoryDesk::new(alloc, FailingCalls::none(alloc));
-    desk.reserve(alloc, 2, 8)?;
+    let mut desk = Untold {
+        memory: MemoryDesk::new(alloc, FailingCalls::none(alloc)),
+    };
+    desk.memory.reserve(alloc, 2, 8)?;
     const WRITES: [Call; 5] = [
-        Call::Write(2, 0, "room", Ok(())),
-        Call::Write(2, 4, "room", Ok(())),
-        Call::Write(2, 8, "room", Ok(())),
-        Call::Write(2, 12, "room", Ok(())),
-        Call::Length(2, Ok(16)),
+        Call::Write(Bank2, 0, "room", Ok(())),
+        Call::Write(Bank2, 4, "room", Ok(())),
+        Call::Write(Bank2, 8, "room", Ok(())),
+        Call::Write(Bank2, 12, "room", Ok(())),
+        Call::Length(Bank2, Ok(16)),
     ];
     try_all(&rt, &mut desk, &WRITES);
-    assert!(rt; desk.reserve(alloc, u64::MAX, 1).is_err());
-    assert_eq!(rt; desk.faults(), 0);
+    assert!(rt; desk.memory.reserve(alloc, u64::MAX, 1).is_err());
+    assert_eq!(rt; desk.memory.faults(), 0);
     Ok(())
 }

@@ -1,5 +1,8 @@
 //! What the desk of a folder does with real files. The parts share a folder, so they are one test.
 
+ghost use Rattle.std.specs.Prelude.{IsTrue};
+
+use crate::tests::calls::StoreFile::{Bank1, Bank2, Head};
 use crate::tests::calls::{Call, try_all};
 use crate::tests::slow::{Pace, Slow};
 use chart_ports::{Desk, Failed, FolderDesk};
@@ -20,24 +23,25 @@ fn has_text(rt: &HostRuntime, path: &str, text: &str) -> Result<bool, Fail> {
 }
 
 // What is said makes no folder.
-fn says_first<D: Desk>(rt: &HostRuntime, test: &impl Abort, desk: &mut D) -> Result<(), Fail> {
+fn says_first<D: Desk>(rt: &HostRuntime, test: &impl Abort, desk: &mut D) -> Result<(), Fail>
+    requires untold { ¬ IsTrue D.tells }
+{
     try_all(test, desk, &[Call::Say("said\n", Ok(()))]);
     assert!(test; !fs::exists(rt, FOLDER)?);
     Ok(())
 }
 
-const WRITTEN: [Call; 11] = [
-    Call::Length(0, Ok(0)),
-    Call::Write(0, 0, "head", Ok(())),
-    Call::Write(1, 0, "the first bank", Ok(())),
-    Call::Write(2, 0, "bank", Ok(())),
-    Call::Write(2, 2, "nk 2", Ok(())),
-    Call::Write(2, 6, "", Ok(())),
-    Call::Cut(1, 9, Ok(())),
-    Call::Write(3, 0, "no file", Err(Failed)),
-    Call::Sync(0, Ok(())),
-    Call::Sync(1, Ok(())),
-    Call::Sync(2, Ok(())),
+const WRITTEN: [Call; 10] = [
+    Call::Length(Head, Ok(0)),
+    Call::Write(Head, 0, "head", Ok(())),
+    Call::Write(Bank1, 0, "the first bank", Ok(())),
+    Call::Write(Bank2, 0, "bank", Ok(())),
+    Call::Write(Bank2, 2, "nk 2", Ok(())),
+    Call::Write(Bank2, 6, "", Ok(())),
+    Call::Cut(Bank1, 9, Ok(())),
+    Call::Sync(Head, Ok(())),
+    Call::Sync(Bank1, Ok(())),
+    Call::Sync(Bank2, Ok(())),
 ];
 
 /// What is written stands at its place in its file, also for a desk that comes later.
@@ -45,6 +49,7 @@ fn keeps_what_is_written(rt: &HostRuntime, test: &impl Abort) -> Result<(), Fail
     let mut desk = FolderDesk::new(rt);
     says_first(rt, test, &mut desk)?;
     try_all(test, &mut desk, &WRITTEN);
+    assert!(test; desk.write_at(3, 0, b"no file").is_err());
     assert_eq!(test; desk.faults(), 1);
     let files = [
         ("chart-store/head", "head"),
@@ -57,41 +62,45 @@ fn keeps_what_is_written(rt: &HostRuntime, test: &impl Abort) -> Result<(), Fail
     Ok(())
 }
 
-const KEPT: [Call; 11] = [
-    Call::Length(0, Ok(4)),
-    Call::Length(1, Ok(9)),
-    Call::Length(2, Ok(6)),
-    Call::Length(3, Err(Failed)),
-    Call::Read(1, 4, 3, Ok("fir")),
-    Call::Read(1, 4, 8, Ok("first")),
-    Call::Read(1, 9, 8, Ok("")),
-    Call::Read(1, 90, 8, Ok("")),
-    Call::Read(2, 0, 0, Ok("")),
-    Call::Read(2, 1 << 63, 8, Err(Failed)),
-    Call::Read(3, 0, 8, Err(Failed)),
+const KEPT: [Call; 9] = [
+    Call::Length(Head, Ok(4)),
+    Call::Length(Bank1, Ok(9)),
+    Call::Length(Bank2, Ok(6)),
+    Call::Read(Bank1, 4, 3, Ok("fir")),
+    Call::Read(Bank1, 4, 8, Ok("first")),
+    Call::Read(Bank1, 9, 8, Ok("")),
+    Call::Read(Bank1, 90, 8, Ok("")),
+    Call::Read(Bank2, 0, 0, Ok("")),
+    Call::Read(Bank2, 1 << 63, 8, Err(Failed)),
 ];
 
 fn reads_what_is_kept(rt: &HostRuntime, test: &impl Abort) {
     let mut desk = FolderDesk::new(rt);
     try_all(test, &mut desk, &KEPT);
+    assert!(test; desk.length(3).is_err());
+    assert!(test; desk.read_at(3, 0, &mut [0; 8]).is_err());
     assert_eq!(test; desk.faults(), 3);
 }
 
 // The folder can't be made, and is there then.
-fn makes_no_folder<D: Desk>(rt: &HostRuntime, test: &impl Abort, desk: &mut D) -> Result<(), Fail> {
+fn makes_no_folder<D: Desk>(rt: &HostRuntime, test: &impl Abort, desk: &mut D) -> Result<(), Fail>
+    requires untold { ¬ IsTrue D.tells }
+{
     write_text(rt, FOLDER, "a file")?;
-    try_all(test, desk, &[Call::Length(0, Err(Failed))]);
+    try_all(test, desk, &[Call::Length(Head, Err(Failed))]);
     fs::remove_file(rt, FOLDER)?;
     fs::create_dir(rt, FOLDER)?;
     Ok(())
 }
 
 // One of the files can't be opened, and then it can.
-fn opens_no_file<D: Desk>(rt: &HostRuntime, test: &impl Abort, desk: &mut D) -> Result<(), Fail> {
+fn opens_no_file<D: Desk>(rt: &HostRuntime, test: &impl Abort, desk: &mut D) -> Result<(), Fail>
+    requires untold { ¬ IsTrue D.tells }
+{
     fs::create_dir(rt, "chart-store/bank1")?;
-    try_all(test, desk, &[Call::Length(1, Err(Failed))]);
+    try_all(test, desk, &[Call::Length(Bank1, Err(Failed))]);
     fs::remove_dir(rt, "chart-store/bank1")?;
-    try_all(test, desk, &[Call::Length(1, Ok(0))]);
+    try_all(test, desk, &[Call::Length(Bank1, Ok(0))]);
     Ok(())
 }
 
@@ -103,9 +112,15 @@ fn counts_what_is_in_the_way(rt: &HostRuntime, test: &impl Abort) -> Result<(), 
     Ok(())
 }
 
-const FOUND: [Call; 2] = [Call::Write(1, 0, "x", Ok(())), Call::Sync(1, Ok(()))];
+const FOUND: [Call; 2] = [
+    Call::Write(Bank1, 0, "x", Ok(())),
+    Call::Sync(Bank1, Ok(())),
+];
 
-const LOST: [Call; 2] = [Call::Write(1, 0, "x", Ok(())), Call::Sync(1, Err(Failed))];
+const LOST: [Call; 2] = [
+    Call::Write(Bank1, 0, "x", Ok(())),
+    Call::Sync(Bank1, Err(Failed)),
+];
 
 // A folder with such a file, which isn't the one that was opened.
 fn make_another_folder(rt: &HostRuntime) -> Result<(), Fail> {
@@ -114,11 +129,9 @@ fn make_another_folder(rt: &HostRuntime) -> Result<(), Fail> {
 }
 
 // The folder goes, and another takes its place.
-fn loses_its_folder<D: Desk>(
-    rt: &HostRuntime,
-    test: &impl Abort,
-    desk: &mut D,
-) -> Result<(), Fail> {
+fn loses_its_folder<D: Desk>(rt: &HostRuntime, test: &impl Abort, desk: &mut D) -> Result<(), Fail>
+    requires untold { ¬ IsTrue D.tells }
+{
     try_all(test, desk, &FOUND);
     fs::remove_dir_all(rt, FOLDER)?;
     try_all(test, desk, &LOST);
@@ -150,17 +163,19 @@ const PIECES_SAID: [Call; 2] = [
 ];
 
 const PIECES_WRITTEN: [Call; 5] = [
-    Call::Write(0, 0, "12345678", Ok(())),
-    Call::Write(0, 8, "123456", Err(Failed)),
-    Call::Write(1, 0, "12345678", Ok(())),
-    Call::Write(2, 0, "abc", Ok(())),
-    Call::Read(2, 0, 8, Ok("abc")),
+    Call::Write(Head, 0, "12345678", Ok(())),
+    Call::Write(Head, 8, "123456", Err(Failed)),
+    Call::Write(Bank1, 0, "12345678", Ok(())),
+    Call::Write(Bank2, 0, "abc", Ok(())),
+    Call::Read(Bank2, 0, 8, Ok("abc")),
 ];
 
-const SYNCED: [Call; 2] = [Call::Sync(0, Ok(())), Call::Sync(0, Err(Failed))];
+const SYNCED: [Call; 2] = [Call::Sync(Head, Ok(())), Call::Sync(Head, Err(Failed))];
 
 // The folder and the one in which it stands are synced at the first call on a file.
-fn moves_pieces<D: Desk>(test: &impl Abort, desk: &mut D, syncs: &Cell<u8>) {
+fn moves_pieces<D: Desk>(test: &impl Abort, desk: &mut D, syncs: &Cell<u8>)
+    requires untold { ¬ IsTrue D.tells }
+{
     try_all(test, desk, &PIECES_SAID);
     assert_eq!(test; syncs.get(), 0);
     try_all(test, desk, &PIECES_WRITTEN);
@@ -179,7 +194,7 @@ fn goes_on_after_pieces(rt: &HostRuntime, test: &impl Abort) -> Result<(), Fail>
     Ok(())
 }
 
-const ANEW: [Call; 2] = [Call::Length(0, Err(Failed)), Call::Length(0, Ok(11))];
+const ANEW: [Call; 2] = [Call::Length(Head, Err(Failed)), Call::Length(Head, Ok(11))];
 
 /// Where the sync of a folder fails, no file is open, and the next call begins anew.
 fn begins_anew(rt: &HostRuntime, test: &impl Abort) {

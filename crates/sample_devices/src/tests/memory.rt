@@ -1,4 +1,5 @@
 use super::calls::{Call, gives, is_answered, pulls};
+use crate::Untold;
 use chart_ports::{
     Calls, Failed, FailingCalls, FileBytes, MemoryDesk, MemoryShelf, MemorySource, ShelfError,
 };
@@ -82,7 +83,9 @@ fn a_shelf_answers_by_name_and_size(rt: HostRuntime) -> Result<(), Fail> {
 #[test]
 fn a_desk_tears_what_it_fails_to_say(rt: HostRuntime) -> Result<(), Fail> {
     let alloc = rt.alloc();
-    let mut desk = MemoryDesk::new(alloc, failing(alloc, &[2])?);
+    let mut desk = Untold {
+        memory: MemoryDesk::new(alloc, failing(alloc, &[2])?),
+    };
     // Of each call: what was said after it.
     let calls: [(Call, &str); 4] = [
         (Call::Say("one\n", Ok(())), "one\n"),
@@ -92,18 +95,20 @@ fn a_desk_tears_what_it_fails_to_say(rt: HostRuntime) -> Result<(), Fail> {
     ];
     for (call, said) in calls {
         assert!(rt; is_answered(&mut desk, &call));
-        assert!(rt; desk.said() == said.as_bytes(), "{said}");
+        assert!(rt; desk.memory.said() == said.as_bytes(), "{said}");
     }
-    assert_eq!(rt; desk.faults(), 1);
+    assert_eq!(rt; desk.memory.faults(), 1);
     Ok(())
 }
 
 #[test]
 fn a_desk_without_room_says_all(rt: HostRuntime) -> Result<(), Fail> {
     let alloc = rt.alloc();
-    let mut desk = MemoryDesk::new(alloc, FailingCalls::none(alloc));
+    let mut desk = Untold {
+        memory: MemoryDesk::new(alloc, FailingCalls::none(alloc)),
+    };
     assert!(rt; is_answered(&mut desk, &Call::Say("five", Ok(()))));
-    assert!(rt; desk.said() == b"five".as_slice());
+    assert!(rt; desk.memory.said() == b"five".as_slice());
     Ok(())
 }
 

@@ -3,10 +3,10 @@
 ghost use Rattle.std.specs.Prelude.{◌≤◌, length};
 
 use super::far::Far;
-use super::untold::Untold;
 use super::{desk_of, read_as};
 use bank_journal::{AppendFault, Bank, frame, open_bank};
 use chart_ports::{FileBytes, Fill};
+use sample_devices::Untold;
 use std::alloc::Global;
 use std::test::Fail;
 

@@ -4,8 +4,8 @@ ghost use Rattle.std.specs.Prelude.{◌≡◌, ◌≤◌, ⊤, [], false, IfOk, 
 ghost use Rattle.std.proofs.Common.{refl};
 ghost use Rattle.chart_ports.specs.Count.{HasCause};
 
-use super::untold::Untold;
 use chart_ports::{Desk, Failed};
+use sample_devices::Untold;
 
 /// A bank that is a checkpoint of zeros up to a gate is read, and all else goes to another desk.
 #[derive(Drop)]

@@ -4,7 +4,7 @@ use Rattle.std.specs.Prelude.{Err, map, string_bytes}
 use Rattle.command_words.specs.Reading.{value_of, words_of}
 use Rattle.ecdis_cli.specs.declared.run.status.Status.TheVariants as status
 use Rattle.ecdis_cli.proofs.Early.{begun-not, early-not, file-complete, file-either, file-ends, file-fault, file-status, not-file, read-is, read-not}
-use Rattle.ecdis_cli.proofs.Opening.{complete, or_early, other-status, ran-later, ran-untouched, refused-words, words-status}
+use Rattle.ecdis_cli.proofs.Opening.{complete, or_early, other-status, ran-later, ran-untouched, reading-none, refused-words, words-status}
 use Rattle.ecdis_cli.proofs.run.run_ecdis.Goals as goal
 
 -- ---- the words
@@ -163,3 +163,23 @@ returns-in-Err-clause-refused_files g c =
 pub returns-clause-refused_files : goal.returns-clause-refused_files
 returns-clause-refused_files g c =
     λ bank at d read. or_early _ bank at (c.run_opened.ensures.refused_files bank at d read)
+
+-- ---- files that are no store's
+
+pub returns-in-Err-Refused-clause-refused_moments : goal.returns-in-Err-Refused-clause-refused_moments
+returns-in-Err-Refused-clause-refused_moments g c =
+    λ bank at d read.
+    let desk = c.args.desk.now in
+    reading-none g.D.Desk.clock g.D.Desk.might desk _ _ _ (λ images so_far left. g.met.D.Desk.only_now desk images so_far d left)
+
+pub returns-in-Err-NoMemory-clause-refused_moments : goal.returns-in-Err-NoMemory-clause-refused_moments
+returns-in-Err-NoMemory-clause-refused_moments g c =
+    λ bank at d read.
+    let desk = c.args.desk.now in
+    reading-none g.D.Desk.clock g.D.Desk.might desk _ _ _ (λ images so_far left. g.met.D.Desk.only_now desk images so_far d left)
+
+pub returns-in-Err-clause-refused_moments : goal.returns-in-Err-clause-refused_moments
+returns-in-Err-clause-refused_moments g c =
+    λ bank at d read.
+    let desk = c.args.desk.now in
+    reading-none g.D.Desk.clock g.D.Desk.might desk _ _ _ (λ images so_far left. g.met.D.Desk.only_now desk images so_far d left)

@@ -78,6 +78,21 @@ pub returns-clause-unopened : goal.returns-clause-unopened
 returns-clause-unopened g c = λ bank at d read.
     not-refused _ _ (record { bank = bank; at = at }) (c.in-Ok.ensures.state d) read
 
+pub returns-in-Err-clause-refused_moments : goal.returns-in-Err-clause-refused_moments
+returns-in-Err-clause-refused_moments g c = λ bank at d read. c.open_store.ensures.moments d
+
+pub returns-in_default-clause-refused_moments : goal.returns-in_default-clause-refused_moments
+returns-in_default-clause-refused_moments g c = λ bank at d read.
+    not-refused _ _ (record { bank = bank; at = at }) (c.in-Ok.ensures.state d) read
+
+pub returns-in_default-vec-clause-refused_moments : goal.returns-in_default-vec-clause-refused_moments
+returns-in_default-vec-clause-refused_moments g c = λ bank at d read.
+    not-refused _ _ (record { bank = bank; at = at }) (c.in-Ok.ensures.state d) read
+
+pub returns-clause-refused_moments : goal.returns-clause-refused_moments
+returns-clause-refused_moments g c = λ bank at d read.
+    not-refused _ _ (record { bank = bank; at = at }) (c.in-Ok.ensures.state d) read
+
 pub returns-in-Err-clause-refused_files : goal.returns-in-Err-clause-refused_files
 returns-in-Err-clause-refused_files g c = λ bank at d read.
     refused-opening c.in-Err.fault c.of_opening.result _ bank at c.of_opening.ensures (c.in-Err.ensures.foreign d) read

@@ -1,4 +1,4 @@
-//! A desk in memory of which contracts see nothing, so that nothing of its files is owed at a call.
+//! A desk in memory of which contracts see nothing.
 
 ghost use Rattle.std.specs.Prelude.{◌≡◌, ◌≤◌, ⊤, [], false, IfOk, OnOk, length};
 ghost use Rattle.std.proofs.Common.{refl};
@@ -6,6 +6,8 @@ ghost use Rattle.chart_ports.specs.Count.{HasCause};
 
 use chart_ports::{Desk, Failed, MemoryDesk};
 
+/// A desk in memory of which contracts see nothing, so that a call on one of its files owes nothing of what the file
+/// holds.
 #[derive(Drop)]
 pub struct Untold {
     pub memory: MemoryDesk,
