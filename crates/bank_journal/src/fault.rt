@@ -27,7 +27,8 @@ pub enum AppendFault {
     /// A call of the desk failed. The bank is used no more.
     #[error("the disk failed")]
     DeskFault,
-    /// 63: the bank has this length, and the record needs so many bytes more. Nothing was changed.
+    /// The bank has this length, of at most 268,435,456 bytes, and has no room for the so many more that the record
+    /// needs. Nothing was changed.
     #[error("a bank of {length} bytes has no room for {need} more")]
     Full { length: u64, need: u64 },
 }

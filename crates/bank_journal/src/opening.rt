@@ -14,7 +14,7 @@ ghost use Rattle.bank_journal.specs.Reading.{bank_of};
 use crate::bank::Bank;
 use crate::content::{BankContent, BodyList};
 use crate::fault::BankFault;
-use crate::reading::{ReadFault, read_bank};
+use crate::reading::{HEADER, ReadFault, read_bank};
 use crate::whole::{read_whole, write_through};
 use chart_model::Octets;
 use chart_ports::Desk;
@@ -71,7 +71,10 @@ fn write_empty<D: Desk>(
     write_through(desk, file, 0, &EMPTY)?;
     let checkpoint = Octets::from_vec(Vec::new(alloc));
     let bodies = BodyList::new(alloc);
-    Ok((Bank::at(file, 8), BankContent { checkpoint, bodies }))
+    Ok((
+        Bank::at(file, HEADER as u64),
+        BankContent { checkpoint, bodies },
+    ))
 }
 
 /// Opens the bank in a file, which is read once.

@@ -13,6 +13,12 @@ use byteorder::{BigEndian, ByteOrder};
 use chart_model::Octets;
 use std::alloc::{AllocError, Global};
 
+/// The bytes before the checkpoint: the layout, and the checkpoint's length.
+pub(crate) const HEADER: usize = 8;
+
+/// The bytes of a record beside its body: its gate, and the body's length.
+const OVERHEAD: usize = 5;
+
 /// Why bytes give no content.
 #[derive(Clone, Copy)]
 pub(crate) enum ReadFault {
@@ -63,8 +69,8 @@ fn read_bodies(alloc: Global, bytes: &[u8], first: usize) -> Result<(BodyList, u
         let Some(body) = body_at(&bytes[at + 1..]) else {
             return Err(ReadFault::Foreign(at));
         };
-        bodies.push(Octets::from_vec(Vec::from_slice(alloc, body)?))?;
-        at += 5 + body.len();
+        bodies.push(Octets::from_slice(alloc, body)?)?;
+        at += OVERHEAD + body.len();
     }
     Ok((bodies, at))
 }
@@ -77,8 +83,8 @@ fn first_gate(bytes: &[u8]) -> Option<usize>
     ensures none { IfNone result (¬ HasHeader bytes.now) }
 {
     let length = BigEndian::read_uint(&bytes[1..], 7);
-    if bytes[0] == 0 && length < (bytes.len() - 8) as u64 {
-        Some(8 + length as usize)
+    if bytes[0] == 0 && length < (bytes.len() - HEADER) as u64 {
+        Some(HEADER + length as usize)
     } else {
         None
     }
@@ -101,6 +107,6 @@ pub(crate) fn read_bank(alloc: Global, bytes: &[u8]) -> Result<(BankContent, usi
         return Err(ReadFault::Foreign(0));
     };
     let (bodies, gate) = read_bodies(alloc, bytes, first)?;
-    let checkpoint = Octets::from_vec(Vec::from_slice(alloc, &bytes[8..first])?);
+    let checkpoint = Octets::from_slice(alloc, &bytes[HEADER..first])?;
     Ok((BankContent { checkpoint, bodies }, gate))
 }

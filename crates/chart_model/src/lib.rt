@@ -23,7 +23,7 @@ mod shared;
 mod state;
 mod update_record;
 
-pub use attr_map::AttrMap;
+pub use attr_map::{AttrMap, MOST_SET_IN_PLACE};
 pub use cell::{Cell, Feature, FeatureMap, Vector, VectorMap};
 pub use command::Command;
 pub use dataset::{ChangeList, Dataset, Header};

@@ -1,4 +1,4 @@
--- The calls of a form in memory: those on a list fail, and each failure is counted.
+-- The calls of a source, a shelf or a desk in memory: those on a list fail, and each failure is counted.
 use Rattle.std.specs.Prelude.{ℕ, ◌≡◌, ◌↔◌, List, Contains}
 use Rattle.chart_ports.specs.Count.{one_more}
 use Rattle.chart_ports.specs.declared.calls.Calls.{Calls}

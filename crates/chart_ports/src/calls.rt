@@ -1,4 +1,4 @@
-//! The calls of a form in memory: which are to fail, how many were made, and how many failed.
+//! The calls of a source, a shelf or a desk in memory: which are to fail, how many were made, and how many failed.
 
 ghost use Rattle.std.specs.Prelude.{◌≡◌, ◌≤◌, ◌↔◌, IsTrue, IsErr, OnOk, Contains, []};
 ghost use Rattle.chart_ports.specs.Count.{HasCause, Rose};
@@ -46,7 +46,7 @@ impl FailingCalls {
     }
 }
 
-/// The calls of a form in memory.
+/// The calls of a source, a shelf or a desk in memory.
 #[derive(Debug, Drop)]
 pub struct Calls {
     /// The numbers of the calls that are to fail.

@@ -17,7 +17,7 @@ use std::rt::Files;
 /// The first call on a file makes the folder and the files that aren't there, and opens all three;
 /// they are kept open. Whatever the system refuses is a fault, and so is a write that takes nothing, a
 /// place at 2^63 or behind it, and a sync after which the file isn't found in the folder. A read or a
-/// write that a signal interrupts is tried again, and one that moves a part goes on.
+/// write that a signal interrupts is tried again, up to 64 times in a call, and one that moves a part goes on.
 #[derive(Drop)]
 pub struct FolderDesk<R: Files> {
     rt: R,
@@ -47,7 +47,7 @@ impl<R: Print + Files> FolderDesk<R> {
         self.faults
     }
 
-    // Counts a fault, and gives the error that says so.
+    /// Counts a fault, and gives the error that says so.
     fn count_fault(&mut self) -> Failed
         ensures counted { faults_of self.new ≡ one_more (faults_of self.old) }
         ensures rose { Rose (faults_of self.old) (faults_of self.new) }
@@ -58,7 +58,7 @@ impl<R: Print + Files> FolderDesk<R> {
         Failed
     }
 
-    // Makes a call on the files, which the first one opens. A failure is counted.
+    /// Makes a call on the files, which the first one opens. A failure is counted.
     fn on_files<T, C: FnOnce(&R, &mut StoreFiles<R::File>) -> io::Result<T>>(
         &mut self,
         call: C,

@@ -23,23 +23,23 @@ pub struct FolderShelf<R> {
     faults: u64,
 }
 
-// Whether a name leads out of the folder.
+/// Whether a name leads out of the folder.
 fn leads_out(name: &str) -> bool
     ensures { result ≡ leads_out name.now }
 {
     name.as_bytes().starts_with(b"/") || goes_up(name)
 }
 
-// Whether a part of the name is `..`.
+/// Whether a part of the name is `..`.
 fn goes_up(name: &str) -> bool
     ensures { result ≡ goes_up name.now }
 {
     name.split('/').any(|part| part == "..")
 }
 
-// A file as the shelf answers it, of which at most one byte more than the limit is read. `size` is
-// the size that it is said to have: with room for that, and for the read that sees its end, the bytes
-// are read in place. A file that is longer or shorter than that is read as it comes.
+/// A file as the shelf answers it, of which at most one byte more than the limit is read. `size` is
+/// the size that it is said to have: with room for that, and for the read that sees its end, the bytes
+/// are read in place. A file that is longer or shorter than that is read as it comes.
 #[tactic(auto, using(crate::proofs::Front::taken_whole, crate::proofs::Front::taken_long))]
 fn read_front<F: Read + Drop>(file: F, alloc: Global, size: u64, limit: u64) -> io::Result<Fetched>
     ensures within { IfOk result (IsWithin limit) }

@@ -30,7 +30,7 @@ pub struct MemoryDesk {
     calls: Calls,
 }
 
-// How many of the bytes of a call are written or said.
+/// How many of the bytes of a call are written or said.
 #[tactic(auto, using(crate::proofs::Halves::take_whole))]
 fn done_of(listed: bool, bytes: &[u8]) -> usize
     ensures within { result ≤ length bytes.now }
@@ -43,7 +43,7 @@ fn done_of(listed: bool, bytes: &[u8]) -> usize
     bytes.len()
 }
 
-// The bytes from a place on, none behind the end.
+/// The bytes from a place on, none behind the end.
 fn tail(bytes: &[u8], at: u64) -> &[u8]
     ensures { result.now ≡ drop at bytes.now }
 {

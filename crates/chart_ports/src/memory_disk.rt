@@ -28,7 +28,7 @@ pub struct MemoryDisk {
     ghost said_in_step: { said.items ≡ (after (opened start) (events_of log.items bytes.items)).said },
 }
 
-// Logs a call, with the bytes that it was given.
+/// Logs a call, with the bytes that it was given.
 #[tactic(auto, using(crate::proofs::Events::events_of_push, crate::proofs::Events::size_of_push))]
 fn push_call(
     log: &mut Vec<Logged>,
@@ -174,7 +174,7 @@ impl MemoryDisk {
         self.log_say(bytes, done)
     }
 
-    // Logs a call that leaves the files and what is said, where the file is there.
+    /// Logs a call that leaves the files and what is said, where the file is there.
     fn log_still(&mut self, file: u8, deed: Deed) -> bool
         requires files { (files : Images) → files_after files deed [] ≡ files }
         requires said { (said : List ℕ) → said_after said deed [] ≡ said }
@@ -193,7 +193,7 @@ impl MemoryDisk {
         true
     }
 
-    // Logs a write, and writes so many of its bytes.
+    /// Logs a write, and writes so many of its bytes.
     fn log_write(&mut self, file: u8, at: u64, bytes: &[u8], done: usize) -> bool
         requires { done ≤ length bytes.now }
         ensures logged { IsTrue result → Logs self.old self.new (Deed.Write file at done, bytes.now) }
@@ -217,7 +217,7 @@ impl MemoryDisk {
         true
     }
 
-    // Logs a cut, and cuts the file if it is done.
+    /// Logs a cut, and cuts the file if it is done.
     fn log_cut(&mut self, file: u8, length: u64, done: bool) -> bool
         ensures logged { IsTrue result → Logs self.old self.new (Deed.Cut file length done, []) }
         ensures place { IsTrue result → IsPlace (contents_of self.old) file length }
@@ -239,7 +239,7 @@ impl MemoryDisk {
         true
     }
 
-    // Logs what is said, and says so many of the bytes.
+    /// Logs what is said, and says so many of the bytes.
     fn log_say(&mut self, bytes: &[u8], done: usize) -> bool
         requires { done ≤ length bytes.now }
         ensures logged { IsTrue result → Logs self.old self.new (Deed.Say done, bytes.now) }

@@ -28,7 +28,7 @@ pub fn append(to: &mut Vec<u8>, bytes: &[u8])
     let _ = to.extend_from_slice(bytes);
 }
 
-// Writes bytes over what is there from a place on, and past the end, where there is room.
+/// Writes bytes over what is there from a place on, and past the end, where there is room.
 fn overwrite(file: &mut Vec<u8>, at: usize, bytes: &[u8])
     requires place { at ≤ vec_len file.old }
     requires room { at + length bytes.now ≤ vec_capacity file.old }
@@ -40,7 +40,7 @@ fn overwrite(file: &mut Vec<u8>, at: usize, bytes: &[u8])
     append(file, &bytes[over..]);
 }
 
-// The same, with room taken for them, and at the end where the place is behind it.
+/// The same, with room taken for them, and at the end where the place is behind it.
 #[tactic(auto, using(crate::proofs::Files::written_min))]
 fn put_over(file: &mut Vec<u8>, at: u64, bytes: &[u8]) -> Result<(), AllocError>
     ensures { OnOk result (file.new.items ≡ written at bytes.now file.old.items) }
@@ -51,7 +51,7 @@ fn put_over(file: &mut Vec<u8>, at: u64, bytes: &[u8]) -> Result<(), AllocError>
     Ok(())
 }
 
-// Puts bytes in the place of those that are there.
+/// Puts bytes in the place of those that are there.
 fn refill(file: &mut Vec<u8>, bytes: &[u8]) -> Result<(), AllocError>
     ensures { OnOk result (file.new.items ≡ bytes.now) }
 {

@@ -22,7 +22,7 @@ pub struct MemorySource {
     ghost paced: { 0 < pace },
 }
 
-// Copies as many bytes as both have, and at most `most`, and answers how many.
+/// Copies as many bytes as both have, and at most `most`, and answers how many.
 pub fn copy_front(from: &[u8], to: &mut [u8], most: usize) -> usize
     ensures count { result ≡ min (length to.old) (min most (length from.now)) }
     ensures front { take result to.new ++ drop result from.now ≡ from.now }

@@ -6,11 +6,11 @@ ghost use Rattle.std.specs.Io.KnownBytes.{Appends, Consumes, IsAtEnd, ReadConsum
 use std::io;
 use std::io::{ErrorKind, Read, Write};
 
-// How many signals may interrupt one read, or the writes of one call, before that counts as a fault.
+/// How many signals may interrupt one read, or the writes of one call, before that counts as a fault.
 const INTERRUPTIONS: u8 = 64;
 
 /// Writes all of the bytes, in order, a piece at a time. A write that takes nothing is an error; one
-/// that a signal interrupts is tried again.
+/// that a signal interrupts is tried again, up to 64 times in all.
 pub(crate) fn write_pieces<W: Write>(to: &mut W, bytes: &[u8]) -> io::Result<()>
     ensures { OnOk result (Appends (W.contents to.old) (W.contents to.new) bytes.now) }
 {
@@ -29,7 +29,7 @@ pub(crate) fn write_pieces<W: Write>(to: &mut W, bytes: &[u8]) -> io::Result<()>
     Ok(())
 }
 
-/// One read, tried again where a signal interrupts it.
+/// One read, tried again where a signal interrupts it, up to 64 times.
 #[tactic(auto, using(crate::proofs::Reading::read_after))]
 pub(crate) fn read_once<R: Read>(reader: &mut R, buf: &mut [u8]) -> io::Result<usize>
     ensures within { IfOk result (λ n. n ≤ length buf.old) }

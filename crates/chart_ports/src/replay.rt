@@ -12,7 +12,7 @@ use crate::log::{Deed, Logged};
 use crate::memory_files::MemoryFiles;
 use std::alloc::{AllocError, Global};
 
-// The files after a call.
+/// The files after a call.
 fn follow_files(files: &mut MemoryFiles, deed: Deed, bytes: &[u8]) -> Result<(), AllocError>
     ensures { OnOk result (files_in files.new ≡ files_after (files_in files.old) deed bytes.now) }
 {
@@ -30,7 +30,7 @@ fn follow_files(files: &mut MemoryFiles, deed: Deed, bytes: &[u8]) -> Result<(),
     }
 }
 
-// Fills the range of a write with ones, up to the length that the file has after it.
+/// Fills the range of a write with ones, up to the length that the file has after it.
 #[tactic(auto, using(crate::proofs::Files::with_image_twice))]
 fn fill_write(
     alloc: Global,
@@ -49,7 +49,7 @@ fn fill_write(
     Ok(())
 }
 
-// Fills what is behind a cut that was not done with ones.
+/// Fills what is behind a cut that was not done with ones.
 fn fill_cut(alloc: Global, kept: &mut MemoryFiles, file: u8, at: u64) -> Result<(), AllocError>
     ensures { OnOk result (files_in kept.new ≡ with_image (files_in kept.old) file
         (written at (ones (length (image_of (files_in kept.old) file) - at)) (image_of (files_in kept.old) file))) }
@@ -59,7 +59,7 @@ fn fill_cut(alloc: Global, kept: &mut MemoryFiles, file: u8, at: u64) -> Result<
     kept.put(file, at, &filling)
 }
 
-// What is kept of the files, with ones in the places that were touched since the last sync.
+/// What is kept of the files, with ones in the places that were touched since the last sync.
 fn follow_ones(
     alloc: Global,
     kept: &mut MemoryFiles,
@@ -93,7 +93,7 @@ fn follow_ones(
     }
 }
 
-// What is kept of the files, as the last sync left each.
+/// What is kept of the files, as the last sync left each.
 fn follow_synced(kept: &mut MemoryFiles, files: &MemoryFiles, deed: Deed) -> Result<(), AllocError>
     ensures old { (bytes : List ℕ) → OnOk result (files_in kept.new
         ≡ kept_after Fill.Old (files_in kept.old) (files_in files.now) deed bytes) }

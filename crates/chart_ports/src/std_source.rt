@@ -10,7 +10,7 @@ use std::io::{Input, Read};
 
 /// Standard input. It tells contracts nothing of its bytes.
 ///
-/// Each pull is one read, also from a pipe; one that a signal interrupts is tried again.
+/// Each pull is one read, also from a pipe; one that a signal interrupts is tried again, up to 64 times.
 #[derive(Drop)]
 pub struct StdSource<R> {
     reader: R,

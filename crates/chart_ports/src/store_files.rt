@@ -9,7 +9,7 @@ use std::os::unix::fs::MetadataExt;
 use std::rt::Files;
 use std::{fs, io};
 
-// The folder of the files, under the current folder, and the folder in which it stands.
+/// The folder of the files, under the current folder, and the folder in which it stands.
 const FOLDER: &str = "chart-store";
 
 const PARENT: &str = ".";
@@ -23,7 +23,7 @@ pub(crate) struct StoreFiles<F> {
     bank2: F,
 }
 
-// Where a file stands.
+/// Where a file stands.
 fn path_of(file: u8) -> io::Result<&'static str>
     ensures { OnOk result (file ≤ 2) }
 {
@@ -42,9 +42,9 @@ fn make_folder<R: Files>(rt: &R) -> io::Result<()> {
     }
 }
 
-// Opens a file, and makes it where it isn't there. What a file holds stays. A clone's descriptor is
-// above those of the standard streams: where one of these was closed, what is said doesn't land in
-// the file.
+/// Opens a file, and makes it where it isn't there. What a file holds stays. A clone's descriptor is
+/// above those of the standard streams: where one of these was closed, what is said doesn't land in
+/// the file.
 fn open_file<R: Files>(rt: &R, file: u8) -> io::Result<R::File> {
     let path = path_of(file)?;
     let opened = OpenOptions::new()
@@ -55,13 +55,13 @@ fn open_file<R: Files>(rt: &R, file: u8) -> io::Result<R::File> {
     opened.try_clone()
 }
 
-// What was made in the folder is found there after a crash.
+/// What was made in the folder is found there after a crash.
 fn sync_folder<R: Files>(rt: &R, path: &str) -> io::Result<()> {
     File::open(rt, path)?.sync_all()
 }
 
-// Whether an open file is the one that stands at the path. After its folder went it isn't, though a
-// write to it still succeeds.
+/// Whether an open file is the one that stands at the path. After its folder went it isn't, though a
+/// write to it still succeeds.
 fn stands_at<R: Files>(rt: &R, path: &str, file: &R::File) -> io::Result<bool> {
     let (named, held) = (fs::metadata(rt, path)?, file.metadata()?);
     Ok(named.dev() == held.dev() && named.ino() == held.ino())

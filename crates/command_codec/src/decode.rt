@@ -21,7 +21,7 @@ fn load_of(alloc: Global, rest: &[u8]) -> Result<Option<Command>, AllocError>
     if rest.len() > LONGEST_FILE {
         return Ok(None);
     }
-    let file = Octets::from_vec(Vec::from_slice(alloc, rest)?);
+    let file = Octets::from_slice(alloc, rest)?;
     Ok(Some(Command::Load(file)))
 }
 

@@ -17,7 +17,7 @@ pub fn is_drawn(pointer: &Pointer) -> bool
 }
 
 /// Adds an instruction on each edge of the feature that is drawn, in the order of its pointers: on an edge that is
-/// pointed to twice, twice.
+/// pointed to twice, twice. Where there is no memory, those on the first of the edges may have been added.
 pub fn push_on_edges(
     alloc: Global,
     items: &mut ItemList,

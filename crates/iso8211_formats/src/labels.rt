@@ -1,7 +1,7 @@
 //! The array descriptor: the labels of a field's subfields.
 //!
-//! A label is found by its place, so that it may hold any bytes, `!` and `*` too: without a mark
-//! there are five bytes a label but for the last, and with one five bytes each.
+//! A label is found by its place, so that it may hold any bytes but the unit terminator (0x1F), `!` and `*` too:
+//! without a mark there are five bytes a label but for the last, and with one five bytes each.
 
 ghost use Rattle.std.specs.Prelude.{◌≡◌, ◌++◌, ◌∷◌, ◌+◌, ◌*◌, ◌≤◌, List, ℕ, length, take, option_map, IfSome, IfNone};
 ghost use Rattle.std.specs.Prelude.{IsSome, is_some, Some, None};

@@ -67,7 +67,7 @@ impl DescriptorMap {
 
 /// Whether two tags are the same. They are compared as numbers, since the comparison of arrays looks at them byte by
 /// byte.
-fn is_same(tag: &[u8; 4], other: &[u8; 4]) -> bool
+pub(crate) fn is_same(tag: &[u8; 4], other: &[u8; 4]) -> bool
     ensures { result ≡ bytes_eq tag.now other.now }
 {
     u32::from_le_bytes(*tag) == u32::from_le_bytes(*other)

@@ -11,6 +11,7 @@ ghost use Rattle.iso8211_records.specs.Record.{IsInside, field_bytes};
 ghost use Rattle.iso8211_records.specs.Reading.{record_at, directory_at, spans_at, ends_at, is_inside, is_ended};
 ghost use Rattle.iso8211_records.specs.Reading.{has_closing, has_end};
 
+use crate::descriptors::is_same;
 use crate::fault::FileFault;
 use chart_model::codes::FIELD_TERMINATOR;
 use iso8211_leader::{Entry, Leader, read_entry, read_leader};
@@ -153,7 +154,7 @@ fn is_ended_in(tags: &[[u8; 4]], bytes: &[u8], leader: &Leader, entry: &Entry) -
 pub(crate) fn is_in_list(tags: &[[u8; 4]], tag: &[u8; 4]) -> bool
     ensures { result ≡ is_listed tags.now tag.now }
 {
-    tags.iter().any(|listed| listed == tag)
+    tags.iter().any(|listed| is_same(listed, tag))
 }
 
 /// Whether the bytes end with a field terminator.

@@ -1,4 +1,4 @@
-//! The bounds of positions.
+//! The bounds of positions, in degrees times 10,000,000, which is the factor of coordinates in an ENC.
 
 /// The greatest latitude, in degrees times 10,000,000.
 pub(crate) const LATITUDE: u32 = 900_000_000;

@@ -15,15 +15,15 @@ use std::alloc::Global;
 /// Data set parameters (DSPM).
 #[derive(Clone, Copy, Debug)]
 pub struct Dspm {
-    /// The denominator of the compilation scale.
+    /// The denominator of the compilation scale (CSCL).
     pub cscl: u32,
-    /// The units of depth.
+    /// The units of depth (DUNI): 1, metres, in an ENC.
     pub duni: u8,
-    /// The units of coordinates.
+    /// The units of coordinates (COUN): 1, latitude and longitude, in an ENC.
     pub coun: u8,
-    /// The factor of coordinates.
+    /// What a degree is multiplied by (COMF): 10,000,000 in an ENC.
     pub comf: u32,
-    /// The factor of soundings.
+    /// What a metre of depth is multiplied by (SOMF): 10 in an ENC, whose soundings are in decimetres.
     pub somf: u32,
 }
 

@@ -15,7 +15,7 @@ use std::alloc::Global;
 /// Data set structure information (DSSI).
 #[derive(Clone, Copy, Debug)]
 pub struct Dssi {
-    /// The lexical level of attributes in ATTF.
+    /// The lexical level of attributes in ATTF (AALL): 0 for ASCII, 1 for ISO/IEC 8859-1, 2 for UCS-2.
     pub aall: u8,
 }
 

@@ -62,7 +62,7 @@ impl FridRow {
         }
     }
 
-    /// Reads the identifier of a feature record. The update instruction is looked at where `update` is yes,
+    /// Reads the identifier of a feature record. The update instruction is looked at where `update` is true,
     /// and is 0 elsewhere.
     ///
     /// # Errors
@@ -97,7 +97,7 @@ impl FridRow {
 }
 
 /// Reads the identifier of a feature record: the row FRID of this data record, counted from 1. Its update
-/// instruction is looked at where `update` is yes, and is 0 elsewhere.
+/// instruction is looked at where `update` is true, and is 0 elsewhere.
 ///
 /// # Errors
 ///

@@ -34,14 +34,13 @@ struct FeaturePointerGroup {
 }
 
 impl Group for FeaturePointerGroup {
-    ghost use Rattle.chart_model.specs.Codes.{NULL};
     ghost use Rattle.s57_fields.specs.Behind.{feature_pointer_behind};
 
     type Output = Pointer;
 
     ghost reads = { λ group. feature_pointer_behind group.ornt group.usag group.mask };
 
-    ghost holds = { λ _ pointer. pointer.topi ≡ NULL };
+    ghost holds = { λ _ pointer. pointer.topi ≡ 255 };
 
     fn read(&self, alloc: Global, group: &[Value]) -> Result<Option<Pointer>, AllocError> {
         let Some(target) = read_behind(alloc, &RecordName, group, 0)? else {
@@ -75,7 +74,7 @@ fn feature_pointers(
     masks: Vec<u8>,
 ) -> Result<Pointers, AllocError>
     ensures joined { IfOk result (λ joined. joined ≡ feature_pointers names.items ornts.items usags.items masks.items) }
-    ensures topi { IfOk result (λ pointers. All (λ pointer. pointer.topi ≡ NULL) pointers) }
+    ensures topi { IfOk result (λ pointers. All (λ pointer. pointer.topi ≡ 255) pointers) }
 {
     let joined = names
         .into_iter()
@@ -117,7 +116,7 @@ impl FeaturePointerRow {
     #[tactic(auto, using(crate::proofs::Listed::listed_none, crate::proofs::Listed::listed_some))]
     pub fn read(&self, alloc: Global, values: &RowFields<'_>) -> Result<Pointers, FieldFault>
         ensures found { Gives result (feature_pointers_in self.now values.now) }
-        ensures topi { IfOk result (λ pointers. All (λ pointer. pointer.topi ≡ NULL) pointers) }
+        ensures topi { IfOk result (λ pointers. All (λ pointer. pointer.topi ≡ 255) pointers) }
     {
         if values.is_empty() {
             return Ok(Pointers::new(alloc));
@@ -136,7 +135,7 @@ impl FeaturePointerRow {
     ) -> Result<Option<Pointers>, AllocError>
         ensures found { IfOk result (λ read. IfSome read (λ pointers.
             feature_pointer_columns self.now values.now ≡ Ok pointers)) }
-        ensures topi { IfOk result (λ read. IfSome read (λ pointers. All (λ pointer. pointer.topi ≡ NULL) pointers)) }
+        ensures topi { IfOk result (λ read. IfSome read (λ pointers. All (λ pointer. pointer.topi ≡ 255) pointers)) }
     {
         let Some(groups) = self.name.groups() else {
             return Ok(None);
@@ -160,7 +159,7 @@ impl FeaturePointerRow {
     #[tactic(auto, unfolding(crate::specs::Fspt::feature_pointer_columns))]
     fn read_columns(&self, alloc: Global, values: &RowFields<'_>) -> Result<Pointers, FieldFault>
         ensures found { Gives result (feature_pointer_columns self.now values.now) }
-        ensures topi { IfOk result (λ pointers. All (λ pointer. pointer.topi ≡ NULL) pointers) }
+        ensures topi { IfOk result (λ pointers. All (λ pointer. pointer.topi ≡ 255) pointers) }
     {
         let names = self.name.column(alloc, values, &RecordName)?;
         let ornts = self.ornt.column(alloc, values, &OneByte)?;
@@ -178,7 +177,7 @@ impl FeaturePointerRow {
 /// The first `MissingField` or `Value` in the order of the row; `NoMemory`.
 pub fn read_fspt(alloc: Global, file: &RecordFile, number: usize) -> Result<Pointers, FieldFault>
     ensures found { Gives result (fspt_at file.now number) }
-    ensures topi { IfOk result (λ pointers. All (λ pointer. pointer.topi ≡ NULL) pointers) }
+    ensures topi { IfOk result (λ pointers. All (λ pointer. pointer.topi ≡ 255) pointers) }
 {
     let row = FeaturePointerRow::find(file.descriptors.get(&tags::FSPT));
     let values = RowFields::new(number, tags::FSPT, record_at(file, number));

@@ -1,4 +1,4 @@
-//! The fields of S-57, read by the labels of their subfields: a file a field.
+//! The fields of S-57, read by the labels of their subfields: one module for each field.
 //!
 //! A file describes its own fields: in which order their subfields stand, and which of them repeat. So
 //! a row of the standard's table is first found in the file's descriptor, once a file, and then read

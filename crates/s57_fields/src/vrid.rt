@@ -50,7 +50,7 @@ impl VridRow {
         }
     }
 
-    /// Reads the identifier of a vector record. The update instruction is looked at where `update` is yes,
+    /// Reads the identifier of a vector record. The update instruction is looked at where `update` is true,
     /// and is 0 elsewhere.
     ///
     /// # Errors
@@ -79,7 +79,7 @@ impl VridRow {
 }
 
 /// Reads the identifier of a vector record: the row VRID of this data record, counted from 1. Its update
-/// instruction is looked at where `update` is yes, and is 0 elsewhere.
+/// instruction is looked at where `update` is true, and is 0 elsewhere.
 ///
 /// # Errors
 ///

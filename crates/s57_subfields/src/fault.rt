@@ -8,8 +8,8 @@ use std::alloc::{AllocError, AllocFailed};
 /// Why a field was not read. Data records are counted from 1.
 #[derive(Clone, Copy, Debug, PartialEq, Eq)]
 pub enum FieldFault {
-    /// A subfield isn't in the descriptor of the record's field with this tag, or not on its side of the
-    /// repeated group.
+    /// A subfield isn't in the descriptor of the field with this tag, or stands on the wrong side of its repeated group;
+    /// or the record has no field with this tag.
     MissingField { record: usize, tag: [u8; 4] },
     /// A value under this label has the wrong kind, or is out of its width or range.
     Value { record: usize, label: [u8; 4] },

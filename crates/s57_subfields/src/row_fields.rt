@@ -98,7 +98,7 @@ impl<'a> RowFields<'a> {
         self.fields
     }
 
-    /// The fault of a subfield that isn't in the descriptor.
+    /// The fault of a subfield that the descriptor, or of a field that the record, doesn't have.
     pub fn missing(&self) -> FieldFault
         ensures { result ≡ missing self.now }
     {

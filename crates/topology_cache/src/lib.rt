@@ -1,4 +1,4 @@
-//! The features that point to each edge of a chart, found in one pass over its features.
+//! The users of each vector record of a chart: the features that point to it, found in one pass over the features.
 //!
 //! A depth area's boundary is a safety contour where the area on the other side of it is unsafe, and an edge
 //! doesn't name the areas that it bounds. So a drawing asks for the features that point to an edge, for many

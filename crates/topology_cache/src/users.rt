@@ -1,4 +1,4 @@
-//! The users of a chart's edges.
+//! The users of a chart's vector records.
 
 ghost use Rattle.std.specs.Prelude.{◌≡◌, ◌+◌, ◌-◌, ◌≤◌, OnOk, IfOk, length, map, take, drop};
 ghost use Rattle.std.specs.Prelude.{true, false};
@@ -66,7 +66,8 @@ fn part(names: &[Name], from: usize, to: usize) -> &[Name]
 }
 
 impl Users {
-    /// The features that point to an edge, in the order of their names, each once. It takes no memory.
+    /// The features that point to an edge, or to a node, in the order of their names, each once. It costs two binary
+    /// searches, and takes no memory.
     pub fn edge_users(&self, edge: Name) -> &[Name]
         ensures { result.now ≡ users_at self.now edge }
     {
@@ -97,7 +98,7 @@ fn in_order(alloc: Global, mut uses: Vec<Use>) -> Result<Users, AllocError>
     Ok(Users { uses, names })
 }
 
-/// The users of a chart's edges. It looks at each feature once, and counts it as a step before it does so;
+/// The users of a chart's vector records. It looks at each feature once, and counts it as a step before it does so;
 /// where there is no memory it may have counted fewer.
 pub fn users_of<C: Ledger>(
     alloc: Global,

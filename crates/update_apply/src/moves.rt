@@ -4,26 +4,36 @@
 //! edits a long list again and again, can ask for more work than there is time for. No file that was made from a
 //! chart comes near the budget.
 
+ghost use Rattle.std.specs.Prelude.{◌≡◌, ◌≤◌, OnOk, OnErr};
+
 use crate::judge::HeldRecord;
 use chart_model::codes::MODIFY;
-use chart_model::{Control, UpdateRecord};
+use chart_model::{Control, MOST_SET_IN_PLACE, UpdateRecord};
 use std::alloc::AllocError;
+use std::marker::Model;
 
-/// The items that are moved for any file.
+/// The most items that the changes of one file may move, so that a load ends within seconds.
 const BUDGET: usize = 268_435_456;
 
-/// So many settings at most are done in their places, where each may move all attributes. More are merged.
-const FEW: usize = 32;
-
-/// How many more items are moved for a file.
+/// How many more items are moved for a file. Contracts see the number.
 #[derive(Debug, Drop)]
 pub struct Moves {
     left: usize,
 }
 
+impl Model for Moves {
+    ghost use Rattle.std.specs.Prelude.{ℕ};
+
+    ghost Value = { ℕ };
+
+    ghost view = { λ moves. moves.left };
+}
+
 impl Moves {
     /// The budget of a file.
-    pub fn of_file() -> Moves {
+    pub fn of_file() -> Moves
+        ensures { result ≡ 268435456 }
+    {
         Moves { left: BUDGET }
     }
 
@@ -31,12 +41,15 @@ impl Moves {
     ///
     /// # Errors
     ///
-    /// `AllocError` where less is left.
+    /// `AllocError` where less is left, and then nothing is taken.
     pub(crate) fn take(
         &mut self,
         held: Option<HeldRecord>,
         change: &UpdateRecord,
-    ) -> Result<(), AllocError> {
+    ) -> Result<(), AllocError>
+        ensures ok { OnOk result (self.new ≤ self.old) }
+        ensures err { OnErr result (self.new ≡ self.old) }
+    {
         if let Some(held) = held
             && change.ruin == MODIFY
         {
@@ -61,7 +74,7 @@ fn shifted(edit: Option<Control>, length: usize) -> usize {
 /// The items that a modification may move: those of the lists that it shifts, and the attributes for each that it
 /// sets.
 fn moved(held: &HeldRecord, change: &UpdateRecord) -> usize {
-    let settings = change.attrs.as_slice().len().min(FEW);
+    let settings = change.attrs.as_slice().len().min(MOST_SET_IN_PLACE);
     held.attrs
         .saturating_mul(settings)
         .saturating_add(shifted(change.pointer_edit, held.pointers))

@@ -1,4 +1,3 @@
-use Rattle.std.proofs.Common.{◌∙◌}
 use Rattle.std.proofs.lemmas.Result.{err_from_is_err_and}
 use Rattle.bank_journal.proofs.Readings.{foreign_header}
 use Rattle.bank_journal.proofs.Walk.{bank_read, bank_foreign}
@@ -16,4 +15,4 @@ returns-in_err-bodies-clause-fault c =
 pub returns-clause-content : goal.returns-clause-content
 returns-clause-content c =
     bank_read c.args.bytes.now c.in-Some.first c.requires c.in-Some.ensures.some c.in-Some.ensures.place _ _
-    (c.from_vec-checkpoint.ensures ∙ c.in_ok-from_slice.ensures.items) c.in_ok-bodies.ensures.bodies
+    c.in_ok-checkpoint.ensures c.in_ok-bodies.ensures.bodies

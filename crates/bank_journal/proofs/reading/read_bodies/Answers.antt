@@ -19,8 +19,7 @@ loop-at-preserved c =
     let body : List ℕ = c.in-Some.body.now in
     let behind = take_rest c.args.bytes.now (c.loop-at.at + 1) in
     let pushed : c.push.new.self ≡ c.loop-at.bodies ++ body ∷ [] =
-    c.in_ok-push.ensures.ok ∙ ap (λ (b : List ℕ). c.loop-at.bodies ++ b ∷ []) (c.from_vec.ensures
-    ∙ c.in_ok-from_slice.ensures.items) in
+    c.in_ok-push.ensures.ok ∙ ap (λ (b : List ℕ). c.loop-at.bodies ++ b ∷ []) c.in_ok-from_slice.ensures in
     let size : List ℕ → ℕ = λ b. 5 + length b in
     record {
       inside = walk_inside _ _ _ _ _ walk.inside behind walk.joined body c.loop-at-test.true found.fits found.body
