@@ -1,5 +1,6 @@
 -- A page's entries, found and changed.
-use Rattle.std.proofs.Common.{◌≡◌, ℕ, ◌<◌, ◌≤◌, Bool, true, ◌&&◌, T, List, [], ◌∷◌, length, map, slice_index_or, slice_set, Some, None, refl, sym, ap, subst, ◌∙◌}
+use Rattle.std.proofs.Common.{◌≡◌, ℕ, ◌-◌, ◌<◌, ◌≤◌, Bool, true, ◌&&◌, T, List, [], ◌∷◌, length, map, slice_index_or, slice_set, Some, None, arith, refl, sym, ap, subst, ◌∙◌}
+use Rattle.std.specs.declared.cmp.Ordering.{Ordering}
 use Rattle.std.specs.declared.cmp.Ordering.TheVariants.{Less, Equal, Greater}
 use Rattle.std.specs.Ordering.{is_lt, ordering_index}
 use Rattle.std.specs.List.{HoldsAt, AllZip, insert, remove}
@@ -27,6 +28,11 @@ abbrev names_rise : List Name → Bool
 names_rise [] = true
 names_rise (n ∷ names) = below_names n names && names_rise names
 
+lowest : (o : Ordering) → ordering_index o ≤ 0 → o ≡ Less
+lowest Less h = refl
+lowest Equal h = absurd (omega (arith, h))
+lowest Greater h = absurd (omega (arith, h))
+
 module _ {X : Type 0} where
   abbrev pub IsRising : List (Name × X) → Type 0
   IsRising es = T (is_sorted name_cmp es)
@@ -39,6 +45,14 @@ module _ {X : Type 0} where
 
   pub searchable : (es : List (Name × X)) (name : Name) → IsRising es → IsNonDecreasingBy (λ e. ordering_index (name_cmp e.0 name)) es
   searchable es name rising = block.searchable name_cmp-total (λ e. e.0) (λ e. e.1) es name (in-block es rising)
+
+  -- a name behind the last one is behind them all
+  pub all-below : (es : List (Name × X)) (name : Name) → IsRising es → 0 < length es → HoldsAt (λ e. name_cmp e.0 name ≡ Less) es (length es - 1)
+      → IsPartitionPoint (λ e. name_cmp e.0 name ≡ Less) (λ e. name_cmp e.0 name ≡ Greater) es (length es)
+  all-below es name rising some last = (
+    λ k d low high. lowest _ (subst (λ (o : Ordering). ordering_index (name_cmp (slice_index_or es k d).0 name) ≤ ordering_index o) (last d) (searchable es name rising k (length es - 1) d (omega arith) (omega arith))),
+    λ k d low high. absurd (omega arith),
+  )
 
   module _ (es : List (Name × X)) (name : Name) (rising : IsRising es) where
     pub entry-present : (i : ℕ) (d : Name × X) → i < length es → HoldsAt (λ e. name_cmp e.0 name ≡ Equal) es i

@@ -1,6 +1,6 @@
 //! Pages: the few records whose names lie side by side, in one block.
 
-ghost use Rattle.std.specs.Prelude.{◌≡◌, T, IfOk, IfErr, OnOk, OnErr, IfSome, length};
+ghost use Rattle.std.specs.Prelude.{◌≡◌, ◌<◌, T, IfOk, IfErr, OnOk, OnErr, IfSome, IsTrue, length};
 ghost use Rattle.std.specs.Option.{option_copied};
 ghost use Rattle.std.specs.List.{HoldsAt};
 ghost use Rattle.std.specs.List.Sorted.{IsPartitionPoint, IsSearchInRange};
@@ -10,6 +10,7 @@ ghost use Rattle.chart_model.specs.Names.{name_cmp, edited_in};
 
 use crate::name::Name;
 use crate::name_map::Edit;
+use crate::page_map::NUMBERS;
 use std::alloc::{AllocError, Global};
 use std::marker::Model;
 
@@ -33,6 +34,30 @@ impl<V> Model for Page<V> {
     ghost invariant = { λ page. T (map.is_sorted name_cmp page.entries.items) };
 }
 
+/// Where the record with a name stands on a page that has one for each number before it, if it does stand there. Numbers
+/// mostly have no gaps, so this mostly spares the search.
+fn guess<V>(entries: &[(Name, V)], name: Name) -> Option<usize>
+    ensures bound { IfSome result (λ place. place < length entries.now) }
+    ensures found { IfSome result (HoldsAt (λ entry. name_cmp entry.0 name ≡ Equal) entries.now) }
+{
+    let place = (name.rcid % NUMBERS) as usize;
+    let entry = entries.get(place)?;
+    if entry.0 == name { Some(place) } else { None }
+}
+
+/// Whether a name is behind those of all records. They are mostly put in rising order, so this mostly spares the
+/// search too.
+fn is_behind<V>(entries: &[(Name, V)], name: Name) -> bool
+    requires { T (map.is_sorted name_cmp entries.now) }
+    ensures { IsTrue result → IsPartitionPoint (λ entry. name_cmp entry.0 name ≡ Less)
+        (λ entry. name_cmp entry.0 name ≡ Greater) entries.now (length entries.now) }
+{
+    match entries.last() {
+        Some(last) => last.0.cmp(&name).is_lt(),
+        None => false,
+    }
+}
+
 /// Where the record with a name stands, or where it would have to stand.
 fn place_of<V>(entries: &[(Name, V)], name: Name) -> Result<usize, usize>
     requires { T (map.is_sorted name_cmp entries.now) }
@@ -42,6 +67,12 @@ fn place_of<V>(entries: &[(Name, V)], name: Name) -> Result<usize, usize>
         (IsPartitionPoint (λ entry. name_cmp entry.0 name ≡ Less)
         (λ entry. name_cmp entry.0 name ≡ Greater) entries.now) }
 {
+    if let Some(place) = guess(entries, name) {
+        return Ok(place);
+    }
+    if is_behind(entries, name) {
+        return Err(entries.len());
+    }
     entries.binary_search_by_key(&name, |entry| entry.0)
 }
 
