@@ -21,13 +21,13 @@ page_cmp-IsAntisymmetric x y e =
     let numbers = nat_cmp-IsAntisymmetric x.number y.number ties.1 in
     λ i. record { rcnm = kinds i; number = numbers i }
 
-lower : (x y : ℕ) → x / 16 < y / 16 → x < y
+lower : (x y : ℕ) → x / 64 < y / 64 → x < y
 lower x y h = omega arith
 
 -- a page below another has the lower names
-in-order : (x y : Name) (o : Ordering) → nat_cmp x.rcnm y.rcnm ≡ o → ordering_then o (nat_cmp (x.rcid / 16) (y.rcid / 16)) ≡ Less → name_cmp x y ≡ Less
+in-order : (x y : Name) (o : Ordering) → nat_cmp x.rcnm y.rcnm ≡ o → ordering_then o (nat_cmp (x.rcid / 64) (y.rcid / 64)) ≡ Less → name_cmp x y ≡ Less
 in-order x y Less kinds e = ap (λ o. ordering_then o (nat_cmp x.rcid y.rcid)) kinds
-in-order x y Equal kinds e = ap (λ o. ordering_then o (nat_cmp x.rcid y.rcid)) kinds ∙ sym (nat_cmp_is x.rcid y.rcid Less (lower x.rcid y.rcid (ranked (x.rcid / 16) (y.rcid / 16) Less (sym e))))
+in-order x y Equal kinds e = ap (λ o. ordering_then o (nat_cmp x.rcid y.rcid)) kinds ∙ sym (nat_cmp_is x.rcid y.rcid Less (lower x.rcid y.rcid (ranked (x.rcid / 64) (y.rcid / 64) Less (sym e))))
 in-order x y Greater kinds e = absurd (subst (λ o. T (is_gt o)) e tt)
 
 pub name-below : (x y : Name) → page_cmp (page_of x) (page_of y) ≡ Less → name_cmp x y ≡ Less

@@ -1,4 +1,4 @@
--- Pages of names: on each stand the records of sixteen numbers of one kind.
+-- Pages of names: on each stand the records of 64 numbers of one kind.
 use Rattle.std.specs.Prelude.{◌≡◌, ◌≢◌, ℕ, ◌/◌, ◌==◌, Bool, false, Option, Some, None, List, [], ◌∷◌, ◌++◌, IfSome}
 use Rattle.std.specs.Prelude.{refl}
 use Rattle.std.specs.Coded.{Coded, code_by, coded×, coded_ℕ}
@@ -21,7 +21,7 @@ page_code =
 
 -- the page on which a record stands
 abbrev pub page_of : Name → PageName
-page_of name = record { rcnm = name.rcnm; number = name.rcid / 16 }
+page_of name = record { rcnm = name.rcnm; number = name.rcid / 64 }
 
 module _ {X : Type 0} where
   -- page by page

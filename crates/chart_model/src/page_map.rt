@@ -16,7 +16,7 @@ use std::marker::Model;
 use std::rc::Rc;
 
 /// How many numbers share a page.
-pub const NUMBERS: u32 = 16;
+pub const NUMBERS: u32 = 64;
 
 /// The name of a page: the kind of its records, and their numbers divided by [`NUMBERS`].
 #[derive(Clone, Copy, Debug, PartialEq, Eq, PartialOrd, Ord)]
