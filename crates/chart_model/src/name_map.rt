@@ -1,6 +1,6 @@
 //! Values by the names of records.
 
-ghost use Rattle.std.specs.Prelude.{◌≡◌, ◌+◌, if◌then◌else◌, IfOk, OnOk, OnErr, IfSome, IsSome};
+ghost use Rattle.std.specs.Prelude.{◌≡◌, ◌+◌, if◌then◌else◌, None, IfOk, OnOk, OnErr, IfSome, IsSome};
 ghost use Rattle.std.specs.Option.{option_copied};
 ghost use Rattle.std.specs.FinMap as map;
 ghost use Rattle.std.specs.Map.Iter.{ShowsInOrder, ShowsValuesInOrder, deref_pair};
@@ -153,8 +153,14 @@ impl<V: Drop> NameMap<V> {
         self.get(name).is_some()
     }
 
-    /// The number of entries with a value under that name too. One that doesn't fit is want of memory: there
-    /// are fewer names.
+    /// One more than there are entries. A number that doesn't fit is want of memory: there are fewer names.
+    fn one_more(&self) -> Result<usize, AllocError>
+        ensures { IfOk result (λ count. count ≡ map.len self.now + 1) }
+    {
+        self.count.checked_add(1).ok_or(AllocError)
+    }
+
+    /// The number of entries with a value under that name too.
     fn count_with(&self, name: Name) -> Result<usize, AllocError>
         ensures { IfOk result (λ count. count
             ≡ (if map.contains_key self.now name then map.len self.now else map.len self.now + 1)) }
@@ -162,7 +168,20 @@ impl<V: Drop> NameMap<V> {
         if self.contains(name) {
             return Ok(self.count);
         }
-        self.count.checked_add(1).ok_or(AllocError)
+        self.one_more()
+    }
+
+    /// Puts a value under a name, in place of what was there, with the number of entries that there are then. Where
+    /// there is no memory nothing changes.
+    fn put(&mut self, name: Name, value: V, count: usize) -> Result<(), AllocError>
+        requires { count ≡ map.len (map.insert self.old name value) }
+        ensures ok { OnOk result (self.new ≡ map.insert self.old name value) }
+        ensures err { OnErr result (self.new ≡ self.old) }
+    {
+        let value = Shared::of(self.pages.allocator(), value)?;
+        put_on_page(&mut self.pages, name, value)?;
+        self.count = count;
+        Ok(())
     }
 
     /// Puts a value under a name, in place of what was there. Where there is no memory nothing changes.
@@ -171,10 +190,17 @@ impl<V: Drop> NameMap<V> {
         ensures err { OnErr result (self.new ≡ self.old) }
     {
         let count = self.count_with(name)?;
-        let value = Shared::of(self.pages.allocator(), value)?;
-        put_on_page(&mut self.pages, name, value)?;
-        self.count = count;
-        Ok(())
+        self.put(name, value, count)
+    }
+
+    /// Puts a value under a name that has none, which spares a look-up. Where there is no memory nothing changes.
+    pub fn insert_new(&mut self, name: Name, value: V) -> Result<(), AllocError>
+        requires absent { map.get self.old name ≡ None }
+        ensures ok { OnOk result (self.new ≡ map.insert self.old name value) }
+        ensures err { OnErr result (self.new ≡ self.old) }
+    {
+        let count = self.one_more()?;
+        self.put(name, value, count)
     }
 
     /// Takes out the value under a name, where there is one. Where there is no memory nothing changes.

@@ -28,7 +28,7 @@ fn change_vectors(
     match change.ruin {
         INSERT => {
             let vector = inserted_vector(alloc, copy_of(change)?)?;
-            vectors.insert(change.target, vector)
+            vectors.insert_new(change.target, vector)
         }
         DELETE => vectors.remove(change.target),
         _ => vectors.edit(change.target, Modification { alloc, change }),
@@ -50,7 +50,7 @@ fn change_vectors_owned(
     }
     let name = change.target;
     let vector = inserted_vector(alloc, change)?;
-    vectors.insert(name, vector)
+    vectors.insert_new(name, vector)
 }
 
 /// Changes a feature record of a cell. Where there is no memory nothing changes.
@@ -66,7 +66,7 @@ fn change_features(
     match change.ruin {
         INSERT => {
             let feature = inserted_feature(alloc, copy_of(change)?)?;
-            features.insert(change.target, feature)
+            features.insert_new(change.target, feature)
         }
         DELETE => features.remove(change.target),
         _ => features.edit(change.target, Modification { alloc, change }),
@@ -88,7 +88,7 @@ fn change_features_owned(
     }
     let name = change.target;
     let feature = inserted_feature(alloc, change)?;
-    features.insert(name, feature)
+    features.insert_new(name, feature)
 }
 
 /// Judges a change of a cell, and takes what it may move from the budget of moves.
