@@ -4,10 +4,11 @@ use Rattle.std.proofs.Common.{Result, Ok, Err, OnOk, OnErr, append_assoc, length
 use Rattle.std.proofs.Common.{arith, length-append, length-take, length-drop}
 use Rattle.std.proofs.lemmas.List.{take_at, take-take}
 use Rattle.std.proofs.lemmas.Slice.{drop-append-drop}
+use Rattle.std.specs.Prelude.{vec_capacity, vec_len}
 use Rattle.chart_ports.specs.Disk.{CutShort, IsPlace, Only, Torn, written}
 use Rattle.chart_ports.specs.Log.{Event, Might, SaysInside, Settled, State, Touched, after, leaves_after, leaves_inside}
 use Rattle.chart_ports.specs.Log.{files_after, opened, said_after, stepped, with_image}
-use Rattle.chart_ports.specs.MemoryDisk.{Keeps, Logs, SaysOnly, Stays, Touches, clock_of, contents_of, events}
+use Rattle.chart_ports.specs.MemoryDisk.{HasRoom, Keeps, Logs, SaysOnly, Stays, Touches, clock_of, contents_of, events}
 use Rattle.chart_ports.specs.MemoryDisk.{leaves_of}
 use Rattle.chart_ports.specs.MemoryDisk.{might_of, said_of, state_of}
 use Rattle.chart_ports.specs.MemoryFiles.{HasFileRoom}
@@ -115,6 +116,19 @@ file_room_less files m n le room = record {
   head = omega (arith, le, room.head);
   bank1 = omega (arith, le, room.bank1);
   bank2 = omega (arith, le, room.bank2);
+}
+
+-- a call that is logged without bytes takes one place of the log, and no other room if the files take none
+pub room_logged : {old new : MemoryDisk}
+    → ((n : ℕ) → vec_len old.log + (n + 1) ≤ vec_capacity old.log → vec_len new.log + n ≤ vec_capacity new.log)
+    → ((n : ℕ) → vec_len old.bytes + (n + 0) ≤ vec_capacity old.bytes → vec_len new.bytes + n ≤ vec_capacity new.bytes)
+    → new.said ≡ old.said → ((n : ℕ) → HasFileRoom old.files n → HasFileRoom new.files n)
+    → (calls n : ℕ) → HasRoom old (calls + 1) n → HasRoom new calls n
+room_logged log pool said files calls n room = record {
+  log = log calls room.log;
+  pool = pool n (omega (arith, room.pool));
+  said = subst (λ v. vec_len v + n ≤ vec_capacity v) (sym said) room.said;
+  files = files n room.files;
 }
 
 module _ (old new : MemoryDisk) where

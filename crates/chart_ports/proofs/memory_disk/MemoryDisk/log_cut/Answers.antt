@@ -1,8 +1,8 @@
-use Rattle.std.proofs.Common.{rules, arith, refl, sym, ap, ◌∙◌, ◌≡◌, ◌++◌, [], ◌∷◌, true, false}
+use Rattle.std.proofs.Common.{rules, refl, sym, ap, ◌∙◌, ◌≡◌, ◌++◌, [], ◌∷◌, true, false}
 use Rattle.chart_ports.specs.Log.{events_of, files_after}
 use Rattle.chart_ports.specs.MemoryFiles.{files_in}
 use Rattle.chart_ports.specs.declared.log.Deed.TheVariants.{Cut}
-use Rattle.chart_ports.proofs.Logging.{files_step, said_step}
+use Rattle.chart_ports.proofs.Logging.{files_step, room_logged, said_step}
 use Rattle.chart_ports.proofs.memory_disk.MemoryDisk.log_cut.Goals as goal
 
 pub invariant_of-self-then-not-done-clause-files_in_step : goal.invariant_of-self-then-not-done-clause-files_in_step
@@ -23,12 +23,8 @@ invariant_of-self-then-not-done-clause-said_in_step c =
     said_step c.args.self.now.start _ _ _ _ _ _ c.args.self.now.said_in_step logged refl
 
 pub returns-then-not-done-clause-kept : goal.returns-then-not-done-clause-kept
-returns-then-not-done-clause-kept c = λ calls n room. record {
-  log = c.push_call.ensures.log_room calls room.log;
-  pool = c.push_call.ensures.pool_room n (omega (arith, room.pool));
-  said = omega (arith, room.said);
-  files = room.files;
-}
+returns-then-not-done-clause-kept c =
+    room_logged c.push_call.ensures.log_room c.push_call.ensures.pool_room refl (λ n room. room)
 
 pub invariant_of-self-2-clause-files_in_step : goal.invariant_of-self-2-clause-files_in_step
 invariant_of-self-2-clause-files_in_step c =
@@ -48,9 +44,4 @@ invariant_of-self-2-clause-said_in_step c =
     said_step c.args.self.now.start _ _ _ _ _ _ c.args.self.now.said_in_step logged refl
 
 pub returns-clause-kept : goal.returns-clause-kept
-returns-clause-kept c = λ calls n room. record {
-  log = c.push_call.ensures.log_room calls room.log;
-  pool = c.push_call.ensures.pool_room n (omega (arith, room.pool));
-  said = omega (arith, room.said);
-  files = c.cut.ensures.kept n room.files;
-}
+returns-clause-kept c = room_logged c.push_call.ensures.log_room c.push_call.ensures.pool_room refl c.cut.ensures.kept

@@ -1,5 +1,5 @@
-use Rattle.std.proofs.Common.{sym, arith}
-use Rattle.chart_ports.proofs.Logging.{files_same, said_same}
+use Rattle.std.proofs.Common.{refl, sym}
+use Rattle.chart_ports.proofs.Logging.{files_same, room_logged, said_same}
 use Rattle.chart_ports.proofs.memory_disk.MemoryDisk.log_still.Goals as goal
 
 pub invariant_of-self-clause-files_in_step : goal.invariant_of-self-clause-files_in_step
@@ -13,9 +13,4 @@ invariant_of-self-clause-said_in_step c =
     c.args.self.now.said_in_step (sym (c.requires.said _))
 
 pub returns-clause-kept : goal.returns-clause-kept
-returns-clause-kept c = λ calls n room. record {
-  log = c.push_call.ensures.log_room calls room.log;
-  pool = c.push_call.ensures.pool_room n (omega (arith, room.pool));
-  said = omega (arith, room.said);
-  files = room.files;
-}
+returns-clause-kept c = room_logged c.push_call.ensures.log_room c.push_call.ensures.pool_room refl (λ n room. room)
