@@ -115,10 +115,10 @@ file_then clock might old mid new file first then_may said then_said P Q so_far 
 
 -- ---- both writes
 
-module _ {D : Type 0} (clock : D → ℕ) (might : D → ℕ → Images → List ℕ
-    → Type 0) (old mid : D) (file : ℕ) (may_leave : Leaving) (said : List ℕ)
-    (bytes : List ℕ) (content : BankContent) (place : ℕ) (settled : List ℕ
-    → Type 0) (step : IsInStep bytes settled place content) (body framed : List ℕ)
+module _ {D : Type 0} {clock : D → ℕ} {might : D → ℕ → Images → List ℕ
+    → Type 0} {old mid : D} {file : ℕ} {may_leave : Leaving} {said : List ℕ}
+    {bytes : List ℕ} {content : BankContent} {place : ℕ} {settled : List ℕ
+    → Type 0} (step : IsInStep bytes settled place content) (body : List ℕ) {framed : List ℕ}
     (fits : IsBodyLength (length body)) (framed_is : framed ≡ frame_of body)
     (first : LeavesOnly clock might old mid (LeavesFile file may_leave said (Torn (place + 1) (length framed) bytes)))
   where
@@ -128,11 +128,11 @@ module _ {D : Type 0} (clock : D → ℕ) (might : D → ℕ → Images → List
         (IsBeforeOrAfter content body)
         (behind_gate bytes content step.has place step.gate body framed fits framed_is) first
 
-    pub both_writes : (new : D) (then_may : Leaving) (then_said between : List ℕ) → then_said ≡ said
+    pub both_writes : {new : D} {then_may : Leaving} {then_said between : List ℕ} → then_said ≡ said
         → LeavesNoMoreOfOthers file may_leave then_may → between ≡ written (place + 1) framed bytes
         → LeavesOnly clock might mid new (LeavesFile file then_may then_said (Torn place 1 between))
         → LeavesOnly clock might old new (LeavesFile file may_leave said (IsBeforeOrAfter content body))
-    both_writes new then_may then_said between silent others between_is second =
+    both_writes {new} {then_may} {then_said} {between} silent others between_is second =
         file_then clock might old mid new file may_leave then_may said then_said (Torn place 1 between)
         (IsBeforeOrAfter content body) first_write silent others
         (λ image torn. at_gate bytes content step.has place step.gate body framed fits framed_is image

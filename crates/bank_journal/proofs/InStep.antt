@@ -3,13 +3,16 @@ use Rattle.std.proofs.Common.{◌≡◌, inl, inr, ℕ, ◌<◌, ◌≤◌, List
 use Rattle.std.proofs.Common.{Err, IfOk, refl, sym, ◌∙◌, ap, subst, arith}
 use Rattle.std.proofs.lemmas.List.{drop_all}
 use Rattle.chart_ports.specs.Disk.{Only, Torn, written}
+use Rattle.chart_ports.specs.Moments.{LeavesOnly}
+use Rattle.chart_ports.specs.declared.images.Images.{Images}
 use Rattle.bank_journal.specs.declared.bank.Bank.{Bank}
 use Rattle.bank_journal.specs.declared.content.BankContent.{BankContent}
 use Rattle.bank_journal.specs.declared.fault.BankFault.{BankFault}
 use Rattle.bank_journal.specs.Bank.{nothing, HasContent, gate_of, ReadsAs}
 use Rattle.bank_journal.specs.Handle.{place_of}
-use Rattle.bank_journal.specs.Moments.{IsInStep, nine_zeros}
+use Rattle.bank_journal.specs.Moments.{IsInStep, LeavesFile, nine_zeros}
 use Rattle.bank_journal.specs.Reading.{bank_of}
+use Rattle.bank_journal.proofs.Appending.{file_weaker}
 use Rattle.bank_journal.proofs.Readings.{reading_tells, short_bank}
 
 -- ---- a bank of at most nine bytes
@@ -41,8 +44,17 @@ zeros_in_step old next may_leave short next_is settled =
     }
 
 -- whatever stands in them reads as nothing
-pub torn_zeros : (old image : List ℕ) → length old ≤ 9 → Torn 0 9 old image → bank_of image ≡ bank_of old
+torn_zeros : (old image : List ℕ) → length old ≤ 9 → Torn 0 9 old image → bank_of image ≡ bank_of old
 torn_zeros old image short torn = short_bank image (omega (arith, torn.no_longer)) ∙ sym (short_bank old short)
+
+-- while the empty bank is written over it, it reads at each moment as before
+pub zeros_at_each_moment : {D : Type 0} {clock : D → ℕ} {might : D → ℕ → Images → List ℕ → Type 0} {old new : D}
+    {file : ℕ} {may_leave : ℕ → List ℕ → Type 0} {said bytes : List ℕ} → length bytes ≤ 9
+    → LeavesOnly clock might old new (LeavesFile file may_leave said (Torn 0 9 bytes))
+    → LeavesOnly clock might old new (LeavesFile file may_leave said (λ image. bank_of image ≡ bank_of bytes))
+zeros_at_each_moment {clock = clock} {might = might} {bytes = bytes} short run =
+    file_weaker clock might _ _ _ _ _ (Torn 0 9 bytes) (λ image. bank_of image ≡ bank_of bytes)
+    (λ image torn. torn_zeros bytes image short torn) run
 
 -- ---- a longer one
 

@@ -1,25 +1,14 @@
-use Rattle.std.proofs.Common.{◌≡◌, ◌∙◌}
-use Rattle.chart_ports.specs.Disk.{Torn}
-use Rattle.bank_journal.specs.Reading.{bank_of}
-use Rattle.bank_journal.proofs.Appending.{file_weaker}
-use Rattle.bank_journal.proofs.InStep.{torn_zeros, zeros_opened}
+use Rattle.std.proofs.Common.{◌∙◌}
+use Rattle.bank_journal.proofs.InStep.{zeros_at_each_moment, zeros_opened}
 use Rattle.bank_journal.proofs.opening.write_empty.Goals as goal
 
 pub returns-in_err-write_through-clause-moments : goal.returns-in_err-write_through-clause-moments
 returns-in_err-write_through-clause-moments g c = λ tells.
-    let old = g.D.Desk.contents c.args.desk.now c.args.file in
-    file_weaker g.D.Desk.clock g.D.Desk.might c.args.desk.now c.write_through.new.desk c.args.file
-    (g.D.Desk.may_leave c.args.desk.now) (g.D.Desk.said c.args.desk.now)
-    (Torn 0 9 old) (λ image. bank_of image ≡ bank_of old)
-    (λ image torn. torn_zeros old image (c.requires.short tells) torn) (c.write_through.ensures.moments tells)
+    zeros_at_each_moment (c.requires.short tells) (c.write_through.ensures.moments tells)
 
 pub returns-clause-moments : goal.returns-clause-moments
 returns-clause-moments g c = λ tells.
-    let old = g.D.Desk.contents c.args.desk.now c.args.file in
-    file_weaker g.D.Desk.clock g.D.Desk.might c.args.desk.now c.write_through.new.desk c.args.file
-    (g.D.Desk.may_leave c.args.desk.now) (g.D.Desk.said c.args.desk.now)
-    (Torn 0 9 old) (λ image. bank_of image ≡ bank_of old)
-    (λ image torn. torn_zeros old image (c.requires.short tells) torn) (c.write_through.ensures.moments tells)
+    zeros_at_each_moment (c.requires.short tells) (c.write_through.ensures.moments tells)
 
 pub returns-clause-in_step : goal.returns-clause-in_step
 returns-clause-in_step g c = λ tells.

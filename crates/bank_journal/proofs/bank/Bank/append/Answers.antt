@@ -6,31 +6,20 @@ use Rattle.bank_journal.proofs.bank.Bank.append.Goals as goal
 -- the first write leaves the records as they were
 pub returns-in_err-write_through-clause-moments : goal.returns-in_err-write_through-clause-moments
 returns-in_err-write_through-clause-moments g c = λ tells content body step fits framed_is.
-    first_write g.D.Desk.clock g.D.Desk.might c.args.desk.now c.write_through.new.desk c.args.self.now.file
-    (g.D.Desk.may_leave c.args.desk.now) (g.D.Desk.said c.args.desk.now)
-    _ content c.args.self.now.gate _ step body c.as_slice-bytes.result.now fits (c.as_slice-bytes.ensures
-    ∙ framed_is) (c.write_through.ensures.moments tells)
+    first_write step body fits (c.as_slice-bytes.ensures ∙ framed_is) (c.write_through.ensures.moments tells)
 
 -- the second leaves them with the new one or without
 pub returns-in_err-write_through-2-clause-moments : goal.returns-in_err-write_through-2-clause-moments
 returns-in_err-write_through-2-clause-moments g c = λ tells content body step fits framed_is.
     let first = c.write_through.ensures in
-    both_writes g.D.Desk.clock g.D.Desk.might c.args.desk.now c.write_through.new.desk c.args.self.now.file
-    (g.D.Desk.may_leave c.args.desk.now) (g.D.Desk.said c.args.desk.now)
-    _ content c.args.self.now.gate _ step body c.as_slice-bytes.result.now fits (c.as_slice-bytes.ensures
-    ∙ framed_is) (first.moments tells)
-    c.write_through-2.new.desk _ _ _ (first.said tells) (first.crash_others tells)
-    (c.in_ok-write_through.ensures.done tells) (c.write_through-2.ensures.moments tells)
+    both_writes step body fits (c.as_slice-bytes.ensures ∙ framed_is) (first.moments tells) (first.said tells)
+    (first.crash_others tells) (c.in_ok-write_through.ensures.done tells) (c.write_through-2.ensures.moments tells)
 
 pub returns-clause-moments : goal.returns-clause-moments
 returns-clause-moments g c = λ tells content body step fits framed_is.
     let first = c.write_through.ensures in
-    both_writes g.D.Desk.clock g.D.Desk.might c.args.desk.now c.write_through.new.desk c.args.self.now.file
-    (g.D.Desk.may_leave c.args.desk.now) (g.D.Desk.said c.args.desk.now)
-    _ content c.args.self.now.gate _ step body c.as_slice-bytes.result.now fits (c.as_slice-bytes.ensures
-    ∙ framed_is) (first.moments tells)
-    c.write_through-2.new.desk _ _ _ (first.said tells) (first.crash_others tells)
-    (c.in_ok-write_through.ensures.done tells) (c.write_through-2.ensures.moments tells)
+    both_writes step body fits (c.as_slice-bytes.ensures ∙ framed_is) (first.moments tells) (first.said tells)
+    (first.crash_others tells) (c.in_ok-write_through.ensures.done tells) (c.write_through-2.ensures.moments tells)
 
 -- and then the gate is open, on the disk
 pub returns-clause-appended : goal.returns-clause-appended
