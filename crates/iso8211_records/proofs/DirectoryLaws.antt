@@ -6,7 +6,6 @@ use Rattle.std.specs.List.{slice_range}
 use Rattle.std.proofs.Math.Seq.{take-append_seam, drop-append_seam}
 use Rattle.std.proofs.lemmas.List.{append-nil, length-append, length-take, length-drop, take-take, drop-drop, take-append-drop, drop-take}
 use Rattle.std.proofs.lemmas.Bool.{cases_lt}
-use Rattle.std.proofs.lemmas.Bool.Decides.{nat_tests}
 use Rattle.std.proofs.lemmas.Option.{slice_get-get_or, slice_get_within, get_or_from_slice_get}
 use Rattle.iso8211_leader.specs.Leader.{Frame}
 use Rattle.iso8211_leader.specs.Entry.{IsEntry, HasEntry, entry_size, entry_of, entry_text}
@@ -17,7 +16,7 @@ use Rattle.iso8211_records.specs.Frames.{is_entry}
 use Rattle.iso8211_records.specs.Record.{IsDirectory}
 use Rattle.chart_model.specs.Answers.{◌>>=◌}
 use Rattle.iso8211_records.specs.Reading.{entries_at, has_closing}
-use Rattle.iso8211_records.proofs.PassedTests.{both, both_parts, eq-test}
+use Rattle.iso8211_records.proofs.PassedTests.{both, both_parts, lt-is, eq-test, eq-is}
 use Rattle.iso8211_records.proofs.Directory.{lt-test, entries_at-step, entries_at-stop, entries_at-closed, entries_at-open, entry-from-tests, entry-tests, behind, nothing-before}
 
 -- the text between two places: its front, and what stands behind that
@@ -44,12 +43,6 @@ pub has_closing-is : (bytes : List ℕ) (place : ℕ) → has_closing bytes plac
 has_closing-is bytes place h =
     let p = both_parts (ltb place (length bytes)) (eqb (get_or bytes place 0) 30) h in
     slice_get-get_or bytes place 0 (lt-is _ _ p.0) ∙ ap (λ byte. Some byte) (eq-is _ _ p.1)
-  where
-    lt-is : (a b : ℕ) → ltb a b ≡ true → a < b
-    lt-is a b h = grind (arith, nat_tests)
-
-    eq-is : (a b : ℕ) → eqb a b ≡ true → a ≡ b
-    eq-is a b h = grind (arith, nat_tests)
 
 pub has_closing-from : (bytes : List ℕ) (place : ℕ) → slice_get bytes place ≡ Some 30 → has_closing bytes place ≡ true
 has_closing-from bytes place h = both _ _ (lt-test _ _ (slice_get_within bytes place 30 h)) (eq-test _ _ (get_or_from_slice_get bytes place 30 0 h))

@@ -18,7 +18,7 @@ use Rattle.iso8211_records.specs.Frames.{is_leader}
 use Rattle.iso8211_records.specs.Record.{IsDirectory, IsRecord, IsInside, IsEnded, field_end, field_bytes}
 use Rattle.iso8211_records.specs.Reading.{unless_at, place_without, leader_at, directory_at, spans_at, ends_at, record_at, Framed, is_inside, is_ended, has_end}
 use Rattle.iso8211_records.specs.Fault.{IsFirstWithout, entry_place, HasDirectory, BreaksDirectory, BreaksSpan, BreaksEnd, HasFrameFault}
-use Rattle.iso8211_records.proofs.PassedTests.{both, both_parts, le-test, le-is, eq-test}
+use Rattle.iso8211_records.proofs.PassedTests.{both, both_parts, lt-is, le-test, le-is, eq-test, eq-is}
 use Rattle.iso8211_records.proofs.Results.{cond_ok, err_is}
 use Rattle.iso8211_records.proofs.FrameTests.{is_leader-is, is_leader-from}
 use Rattle.iso8211_records.proofs.Firsts.{IsTest, place_without-some, place_without-none, place_without-each, place_without-is}
@@ -43,12 +43,6 @@ last-byte bytes h =
     let none : drop (suc (length bytes - 1)) bytes ≡ [] = drop_of_length-le bytes {i = suc (length bytes - 1)} (omega arith) in
     let after : drop (length bytes - 1) bytes ≡ 30 ∷ [] = drop-cons bytes (length bytes - 1) 0 (omega arith) ∙ rw (ends, none) refl in
     (take (length bytes - 1) bytes, sym (take-append-drop (length bytes - 1) bytes) ∙ rw after refl)
-  where
-    lt-is : (a b : ℕ) → ltb a b ≡ true → a < b
-    lt-is a b h = grind (arith, nat_tests)
-
-    eq-is : (a b : ℕ) → eqb a b ≡ true → a ≡ b
-    eq-is a b h = grind (arith, nat_tests)
 
 pub has_end-from : (text : List ℕ) → has_end (text ++ 30 ∷ []) ≡ true
 has_end-from text =

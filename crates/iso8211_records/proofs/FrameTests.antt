@@ -9,10 +9,7 @@ use Rattle.iso8211_leader.specs.Digits.{AreDigits, number_of}
 use Rattle.iso8211_leader.specs.Leader.{Frame, HasLeader, identifier, length_digits, base_digits}
 use Rattle.iso8211_leader.specs.Entry.{IsEntry, entry_size, field_length, field_position}
 use Rattle.iso8211_records.specs.Frames.{is_leader, is_entry}
-use Rattle.iso8211_records.proofs.PassedTests.{both_parts, both, le-test, le-is, eq-test}
-
-eq-is : (a b : ℕ) → eqb a b ≡ true → a ≡ b
-eq-is a b h = grind (arith, nat_tests)
+use Rattle.iso8211_records.proofs.PassedTests.{both_parts, both, le-test, le-is, eq-test, eq-is}
 
 pub is_entry-is : (frame : Frame) (text : List ℕ) → is_entry frame text ≡ true → IsEntry frame text
 unfolding is_entry AreDigits

@@ -1,5 +1,5 @@
 -- What follows from a test that passed.
-use Rattle.std.proofs.Common.{◌≡◌, ℕ, ◌<◌, ◌≤◌, arith, Bool, true, false, leb, eqb, refl}
+use Rattle.std.proofs.Common.{◌≡◌, ℕ, ◌<◌, ◌≤◌, arith, Bool, true, false, leb, ltb, eqb, refl}
 use Rattle.std.specs.Prelude.{◌&&◌, ◌==◌}
 use Rattle.std.proofs.lemmas.Bool.Decides.{nat_tests}
 
@@ -19,6 +19,9 @@ pub empty-true : (n : ℕ) → true ≡ (n == 0) → n ≡ 0
 empty-true n h = grind (arith, nat_tests)
 
 -- what tests of numbers say
+pub lt-is : (a b : ℕ) → ltb a b ≡ true → a < b
+lt-is a b h = grind (arith, nat_tests)
+
 pub le-test : (a b : ℕ) → a ≤ b → leb a b ≡ true
 le-test a b h = grind (arith, nat_tests)
 
@@ -27,3 +30,6 @@ le-is a b h = grind (arith, nat_tests)
 
 pub eq-test : (a b : ℕ) → a ≡ b → eqb a b ≡ true
 eq-test a b h = grind (arith, nat_tests)
+
+pub eq-is : (a b : ℕ) → eqb a b ≡ true → a ≡ b
+eq-is a b h = grind (arith, nat_tests)
