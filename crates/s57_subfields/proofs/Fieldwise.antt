@@ -10,8 +10,9 @@ use Rattle.s57_subfields.specs.declared.subfield.Subfield.{Subfield}
 use Rattle.s57_subfields.specs.declared.subfield.Place.TheVariants.{Repeated}
 use Rattle.s57_subfields.specs.RowValues.{RowValues, fields_in}
 use Rattle.chart_model.specs.Answers.{◌>>=◌, or_fault}
+use Rattle.s57_subfields.specs.Answers.{Fails}
 use Rattle.s57_subfields.specs.Columns.{before, column, column_in, every, read_each}
-use Rattle.s57_subfields.proofs.Every.{before-none, before-nothing, before-before}
+use Rattle.s57_subfields.proofs.Every.{before-none, before-nothing, before-before, Fails-as}
 
 -- the values under the label in the fields of the tag
 abbrev pub under : List ℕ → ℕ → ℕ → List RawField → List Value
@@ -59,20 +60,33 @@ pub under-other : (tag : List ℕ) (at between : ℕ) (fields : List RawField) (
 under-other tag at between fields i field lt is other =
     ap (under tag at between) (drop-cons fields i field lt ∙ ap (λ f. f ∷ drop (suc i) fields) (sym is)) ∙ rw (other, add-one i) refl
 
-pub field_read : {A : Type 0} (read : Value → Option A) (fault : FieldFault) (front all : List A) (tag : List ℕ) (at between : ℕ) (fields : List RawField) (i : ℕ) (field : RawField) → i < length fields → field ≡ get_or fields i field → bytes_eq field.tag tag ≡ true → before front (read_each read fault (every between at field.values)) ≡ Ok all → before front (read_each read fault (under tag at between (drop i fields))) ≡ before all (read_each read fault (under tag at between (drop (i + 1) fields)))
-field_read read fault front all tag at between fields i field lt is same good =
-    ap (λ ys. before front (read_each read fault ys)) (under-same tag at between fields i field lt is same)
-    ∙ read_front read fault front all (every between at field.values) (under tag at between (drop (i + 1) fields)) good
+-- at a field of the tag, behind what was read of the fields before it
+module _ {A : Type 0} (read : Value → Option A) (fault : FieldFault) (front : List A) (tag : List ℕ) (at between : ℕ) (fields : List RawField) (i : ℕ) {field : RawField} {values : List Value} {whole : Result (List A) FieldFault}
+    (inside : i < length fields) (is : field ≡ get_or fields i field) (same : bytes_eq field.tag tag ≡ true) (values_are : values ≡ field.values)
+    (goes_on : before front (read_each read fault (under tag at between (drop i fields))) ≡ whole)
+  where
+  whole-is : whole ≡ before front (read_each read fault (every between at values ++ under tag at between (drop (i + 1) fields)))
+  whole-is =
+      sym goes_on
+      ∙ ap (λ ys. before front (read_each read fault ys)) (under-same tag at between fields i field inside is same ∙ ap (λ vs. every between at vs ++ under tag at between (drop (i + 1) fields)) (sym values_are))
 
-pub field_fails : {A : Type 0} (read : Value → Option A) (fault other : FieldFault) (front : List A) (tag : List ℕ) (at between : ℕ) (fields : List RawField) (i : ℕ) (field : RawField) → i < length fields → field ≡ get_or fields i field → bytes_eq field.tag tag ≡ true → before front (read_each read fault (every between at field.values)) ≡ Err other → before front (read_each read fault (under tag at between (drop i fields))) ≡ Err other
-field_fails read fault other front tag at between fields i field lt is same bad =
-    ap (λ ys. before front (read_each read fault ys)) (under-same tag at between fields i field lt is same)
-    ∙ read_front_fails read fault other front (every between at field.values) (under tag at between (drop (i + 1) fields)) bad
+  -- its values are read
+  pub column-goes_on : {all : List A} → before front (read_each read fault (every between at values)) ≡ Ok all → before all (read_each read fault (under tag at between (drop (i + 1) fields))) ≡ whole
+  column-goes_on {all} good =
+      sym (whole-is ∙ read_front read fault front all (every between at values) (under tag at between (drop (i + 1) fields)) good)
 
-pub fields_done : {A : Type 0} (read : Value → Option A) (fault : FieldFault) (front : List A) (tag : List ℕ) (at between : ℕ) (fields : List RawField) (i : ℕ) → length fields ≤ i → before front (read_each read fault (under tag at between (drop i fields))) ≡ Ok front
+  -- one of them isn't what it has to be
+  pub column-fails : (other : FieldFault) → Fails other (before front (read_each read fault (every between at values))) → Fails other whole
+  column-fails other fails =
+      Fails-as other (before front (read_each read fault (every between at values))) whole
+      (λ bad e. whole-is ∙ read_front_fails read fault bad front (every between at values) (under tag at between (drop (i + 1) fields)) e)
+      fails
+
+-- no field is left
+pub column-ends : {A : Type 0} (read : Value → Option A) (fault : FieldFault) (front : List A) (tag : List ℕ) (at between : ℕ) (fields : List RawField) (i : ℕ) {whole : Result (List A) FieldFault} → length fields ≤ i → before front (read_each read fault (under tag at between (drop i fields))) ≡ whole → whole ≡ Ok front
 unfolding read_each
-fields_done read fault front tag at between fields i done =
-    ap (λ fs. before front (read_each read fault (under tag at between fs))) (drop_of_length-le fields done) ∙ before-none front
+column-ends read fault front tag at between fields i done goes_on =
+    sym goes_on ∙ ap (λ fs. before front (read_each read fault (under tag at between fs))) (drop_of_length-le fields done) ∙ before-none front
 
 -- the column of a label in the repeated group is read from the record
 pub column_in-is : {A : Type 0} (read : Value → Option A) (row : RowValues) (subfield : Subfield) (at between number : ℕ) (tag : List ℕ) (fields : List RawField) → subfield.place ≡ Repeated at between → number ≡ row.number → tag ≡ row.tag → row ≡ fields_in row.number row.tag fields → read_each read (BadValue number subfield.label) (under tag at between fields) ≡ column_in read row subfield

@@ -1,4 +1,4 @@
--- A group that isn't read, among those before it and behind it.
+-- A group that isn't read, among those before it and behind it, and the fields of a record one by one.
 use Rattle.std.proofs.Common.{◌≡◌, ◌∙◌, ℕ, ◌+◌, ◌<◌, true, List, [], ◌∷◌, ◌++◌, length, get_or, drop, map, Option, Some, None}
 use Rattle.std.proofs.Common.{refl, sym, ap, subst}
 use Rattle.std.proofs.lemmas.List.{map-append}
@@ -6,7 +6,7 @@ use Rattle.std.specs.Str.{bytes_eq}
 use Rattle.iso8211_records.specs.declared.record.RawField.{RawField}
 use Rattle.iso8211_records.specs.declared.value.Value.{Value}
 use Rattle.s57_subfields.specs.Tails.{HasNone, tails}
-use Rattle.s57_subfields.proofs.Tails.{groups_under, groups_under-same, tails-step}
+use Rattle.s57_subfields.proofs.Tails.{field-read, groups_under, groups_under-same, tails-step}
 
 -- what was read before has none
 behind-read : {A : Type 0} (xs : List A) (answers : List (Option A)) → HasNone answers
@@ -39,7 +39,7 @@ group-unread {A = A} reads before xs between start at values d lt unread goes_on
     (subst HasNone goes_on (behind-read xs (map reads (tails between 0 (drop at values))) has))
 
 -- of the groups of a record's fields one isn't read
-pub field-unread : {A : Type 0} (reads : List Value → Option A) (xs : List A) (tag : List ℕ) (at between : ℕ)
+field-unread : {A : Type 0} (reads : List Value → Option A) (xs : List A) (tag : List ℕ) (at between : ℕ)
     (fields : List RawField) (i : ℕ) (field : RawField) → i < length fields
     → field ≡ get_or fields i field → bytes_eq field.tag tag ≡ true
     → HasNone (map reads (tails between at field.values))
@@ -54,3 +54,27 @@ field-unread reads xs tag at between fields i field lt is same has goes_on =
     subst HasNone goes_on
     (behind-read xs (map reads (groups_under tag at between (drop i fields)))
     (subst HasNone (sym parted) (in-front (map reads here) (map reads rest) has)))
+
+-- at a field of the tag, behind what was read of the fields before it
+module _ {A : Type 0} (reads : List Value → Option A) (front : List A) (tag : List ℕ) (at between : ℕ)
+    (fields : List RawField) (i : ℕ) {field : RawField} {values : List Value} (inside : i < length fields)
+    (is : field ≡ get_or fields i field) (same : bytes_eq field.tag tag ≡ true) (values_are : values ≡ field.values)
+    (goes_on : map (λ x. Some x) front ++ map reads (groups_under tag at between (drop i fields))
+    ≡ map reads (groups_under tag at between fields))
+  where
+  -- its groups are read
+  pub groups-go_on : (all : List A)
+      → map (λ x. Some x) all ≡ map (λ x. Some x) front ++ map reads (tails between at values)
+      → map (λ x. Some x) all ++ map reads (groups_under tag at between (drop (i + 1) fields))
+      ≡ map reads (groups_under tag at between fields)
+  groups-go_on all found =
+      field-read reads front all tag at between fields i field inside is same
+      (found ∙ ap (λ (vs : List Value). map (λ x. Some x) front ++ map reads (tails between at vs)) values_are)
+      ∙ goes_on
+
+  -- one of them isn't what it has to be
+  pub groups-have_none : HasNone (map reads (tails between at values))
+      → HasNone (map reads (groups_under tag at between fields))
+  groups-have_none none =
+      field-unread reads front tag at between fields i field inside is same
+      (subst (λ (vs : List Value). HasNone (map reads (tails between at vs))) values_are none) goes_on
