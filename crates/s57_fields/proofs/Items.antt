@@ -1,8 +1,8 @@
 -- Each list of a record by its groups.
-use Rattle.std.proofs.Common.{◌≡◌, ◌∙◌, ℕ, List, map, Option, Some, None, Result, Err, refl, ap}
+use Rattle.std.proofs.Common.{◌≡◌, ◌∙◌, ℕ, List, ◌∷◌, map, Option, Some, None, Result, Err, refl, ap}
 use Rattle.std.specs.Prelude.{ℤ, option_map}
 use Rattle.std.specs.List.{zip}
-use Rattle.chart_model.specs.Answers.{first_of}
+use Rattle.chart_model.specs.Answers.{◌>>=◌, first_of}
 use Rattle.chart_model.specs.Codes.{NULL}
 use Rattle.chart_model.specs.declared.name.Name.{Name}
 use Rattle.chart_model.specs.declared.name.Foid.{Foid}
@@ -16,7 +16,7 @@ use Rattle.s57_subfields.specs.declared.fault.FieldFault.{FieldFault}
 use Rattle.s57_subfields.specs.Answers.{missing}
 use Rattle.s57_subfields.specs.Columns.{column_in}
 use Rattle.s57_subfields.specs.Groups.{GroupedField, AreGrouped, ItemsAreGroups, FaultIsFirst, groups_in, in_group}
-use Rattle.s57_subfields.specs.Groups.{fault_in}
+use Rattle.s57_subfields.specs.Groups.{fault_in, fault_under}
 use Rattle.s57_fields.specs.Items.{attribute_of, attribute_faults, vector_pointer_of, vector_pointer_faults}
 use Rattle.s57_fields.specs.Items.{feature_pointer_of, feature_pointer_faults, coordinate_of, coordinate_faults}
 use Rattle.s57_fields.specs.Items.{sounding_of, sounding_faults, related_of, related_faults}
@@ -53,6 +53,17 @@ a_longitude = number_within LONGITUDE
 -- the column of a label
 abbrev read_of : {A : Type 0} → (Value → Option A) → RowValues → Layout → List ℕ → Result (List A) FieldFault
 read_of read row layout label = column_in read row (subfield_of (Some layout) label)
+
+-- the first fault of what is read of a column and of what follows it
+column-first :
+    {A B : Type 0} (read : Value → Option A) (label : List ℕ) (layout : Layout) (row : RowValues)
+    (parts : List GroupedField) → AreGrouped layout parts row.fields →
+    (next : List A → Result B FieldFault) (rest : List (Option FieldFault)) →
+    ((xs : List A) → fault_in (next xs) ≡ first_of rest) →
+    fault_in (read_of read row layout label >>= next)
+    ≡ first_of (fault_under read label layout row (groups_in parts) ∷ rest)
+column-first read label layout row parts grouped next rest following =
+    bind_fault (read_of read row layout label) next _ rest (column-is read label layout row parts grouped).fault following
 
 -- ---- attributes
 
@@ -102,10 +113,8 @@ attributes-first :
     ≡ first_of (attribute_faults layout row (groups_in parts))
 unfolding attribute_columns
 attributes-first layout row parts grouped =
-    bind_fault (read_of two_bytes row layout labels.ATTL) _ _ _
-    (column-is two_bytes labels.ATTL layout row parts grouped).fault (λ attl.
-    bind_fault (read_of plain_text row layout labels.ATVL) _ _ _
-    (column-is plain_text labels.ATVL layout row parts grouped).fault (λ atvl.
+    column-first two_bytes labels.ATTL layout row parts grouped _ _ (λ attl.
+    column-first plain_text labels.ATVL layout row parts grouped _ _ (λ atvl.
     refl))
 
 pub attributes-faults : FaultIsFirst attribute_faults (λ layout. attributes_in (attribute_row layout))
@@ -185,16 +194,11 @@ vector_pointers-first :
     ≡ first_of (vector_pointer_faults layout row (groups_in parts))
 unfolding vector_pointer_columns
 vector_pointers-first layout row parts grouped =
-    bind_fault (read_of record_name row layout labels.NAME) _ _ _
-    (column-is record_name labels.NAME layout row parts grouped).fault (λ name.
-    bind_fault (read_of a_byte row layout labels.ORNT) _ _ _
-    (column-is a_byte labels.ORNT layout row parts grouped).fault (λ ornt.
-    bind_fault (read_of a_byte row layout labels.USAG) _ _ _
-    (column-is a_byte labels.USAG layout row parts grouped).fault (λ usag.
-    bind_fault (read_of a_byte row layout labels.TOPI) _ _ _
-    (column-is a_byte labels.TOPI layout row parts grouped).fault (λ topi.
-    bind_fault (read_of a_byte row layout labels.MASK) _ _ _
-    (column-is a_byte labels.MASK layout row parts grouped).fault (λ mask.
+    column-first record_name labels.NAME layout row parts grouped _ _ (λ name.
+    column-first a_byte labels.ORNT layout row parts grouped _ _ (λ ornt.
+    column-first a_byte labels.USAG layout row parts grouped _ _ (λ usag.
+    column-first a_byte labels.TOPI layout row parts grouped _ _ (λ topi.
+    column-first a_byte labels.MASK layout row parts grouped _ _ (λ mask.
     refl)))))
 
 pub vector_pointers-faults : FaultIsFirst vector_pointer_faults (λ layout. vector_pointers_in (vrpt_row layout))
@@ -267,14 +271,10 @@ feature_pointers-first :
     ≡ first_of (feature_pointer_faults layout row (groups_in parts))
 unfolding feature_pointer_columns
 feature_pointers-first layout row parts grouped =
-    bind_fault (read_of record_name row layout labels.NAME) _ _ _
-    (column-is record_name labels.NAME layout row parts grouped).fault (λ name.
-    bind_fault (read_of a_byte row layout labels.ORNT) _ _ _
-    (column-is a_byte labels.ORNT layout row parts grouped).fault (λ ornt.
-    bind_fault (read_of a_byte row layout labels.USAG) _ _ _
-    (column-is a_byte labels.USAG layout row parts grouped).fault (λ usag.
-    bind_fault (read_of a_byte row layout labels.MASK) _ _ _
-    (column-is a_byte labels.MASK layout row parts grouped).fault (λ mask.
+    column-first record_name labels.NAME layout row parts grouped _ _ (λ name.
+    column-first a_byte labels.ORNT layout row parts grouped _ _ (λ ornt.
+    column-first a_byte labels.USAG layout row parts grouped _ _ (λ usag.
+    column-first a_byte labels.MASK layout row parts grouped _ _ (λ mask.
     refl))))
 
 pub feature_pointers-faults : FaultIsFirst feature_pointer_faults (λ layout. feature_pointers_in (fspt_row layout))
@@ -333,10 +333,8 @@ coordinates-first :
     ≡ first_of (coordinate_faults layout row (groups_in parts))
 unfolding coordinate_columns
 coordinates-first layout row parts grouped =
-    bind_fault (read_of a_latitude row layout labels.YCOO) _ _ _
-    (column-is a_latitude labels.YCOO layout row parts grouped).fault (λ ycoo.
-    bind_fault (read_of a_longitude row layout labels.XCOO) _ _ _
-    (column-is a_longitude labels.XCOO layout row parts grouped).fault (λ xcoo.
+    column-first a_latitude labels.YCOO layout row parts grouped _ _ (λ ycoo.
+    column-first a_longitude labels.XCOO layout row parts grouped _ _ (λ xcoo.
     refl))
 
 pub coordinates-faults : FaultIsFirst coordinate_faults (λ layout. coordinates_in (sg2d_row layout))
@@ -402,12 +400,9 @@ soundings-first :
     ≡ first_of (sounding_faults layout row (groups_in parts))
 unfolding sounding_columns
 soundings-first layout row parts grouped =
-    bind_fault (read_of a_latitude row layout labels.YCOO) _ _ _
-    (column-is a_latitude labels.YCOO layout row parts grouped).fault (λ ycoo.
-    bind_fault (read_of a_longitude row layout labels.XCOO) _ _ _
-    (column-is a_longitude labels.XCOO layout row parts grouped).fault (λ xcoo.
-    bind_fault (read_of depth_in row layout labels.VE3D) _ _ _
-    (column-is depth_in labels.VE3D layout row parts grouped).fault (λ ve3d.
+    column-first a_latitude labels.YCOO layout row parts grouped _ _ (λ ycoo.
+    column-first a_longitude labels.XCOO layout row parts grouped _ _ (λ xcoo.
+    column-first depth_in labels.VE3D layout row parts grouped _ _ (λ ve3d.
     refl)))
 
 pub soundings-faults : FaultIsFirst sounding_faults (λ layout. soundings_in (sg3d_row layout))
@@ -466,10 +461,8 @@ related-first :
     ≡ first_of (related_faults layout row (groups_in parts))
 unfolding related_columns
 related-first layout row parts grouped =
-    bind_fault (read_of object_name row layout labels.LNAM) _ _ _
-    (column-is object_name labels.LNAM layout row parts grouped).fault (λ lnam.
-    bind_fault (read_of a_byte row layout labels.RIND) _ _ _
-    (column-is a_byte labels.RIND layout row parts grouped).fault (λ rind.
+    column-first object_name labels.LNAM layout row parts grouped _ _ (λ lnam.
+    column-first a_byte labels.RIND layout row parts grouped _ _ (λ rind.
     refl))
 
 pub related-faults : FaultIsFirst related_faults (λ layout. related_in (ffpt_row layout))

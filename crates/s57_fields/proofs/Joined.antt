@@ -1,7 +1,14 @@
 -- What holds of lists that are joined of columns.
-use Rattle.std.proofs.Common.{◌≡◌, ℕ, suc, List, [], ◌∷◌, None, Some, refl, inl, inr, arith}
+use Rattle.std.proofs.Common.{◌≡◌, ℕ, suc, List, [], ◌∷◌, Option, None, Some, refl, inl, inr, arith, length}
 use Rattle.std.specs.Prelude.{ℤ, All, IsSome, IsNone}
 use Rattle.std.specs.List.{zip}
+use Rattle.std.specs.Vec.Iter.{into_iter_items, into_iter_len, into_iter_steps}
+use Rattle.std.specs.Iterator.Adapters.{zip_first, zip_second}
+use Rattle.std.specs.declared.iter.Zip.{Zip}
+use Rattle.std.specs.declared.vec.IntoIter.{IntoIter}
+use Rattle.std.proofs.lemmas.Iterator.{YieldsList, YieldsList-from_zip, zips}
+use Rattle.std.proofs.lemmas.Iterator.Adapters.{YieldsList-from_vec}
+use Rattle.std.proofs.lemmas.Iterator.Consumers.{YieldsList-at}
 use Rattle.std.proofs.lemmas.List.Elements.{All-cons, All-map}
 use Rattle.chart_model.specs.Codes.{NULL}
 use Rattle.chart_model.specs.Record.{IsWithin, IsDepth, IsCoord, AreCoords}
@@ -47,3 +54,9 @@ soundings-are ys xs depths lat lon deep =
 pub feature_pointers-topi : (names : List Name) (ornts usags masks : List ℕ) → All (λ pointer. pointer.topi ≡ NULL) (feature_pointers names ornts usags masks)
 feature_pointers-topi names ornts usags masks =
     All-map (λ pointer. pointer.topi ≡ NULL) (λ it. record { target = it.0.0.0; ornt = it.0.0.1; usag = it.0.1; topi = NULL; mask = it.1 }) (zip (zip (zip names ornts) usags) masks) (λ k d lt. refl)
+
+-- what an iterator yields, with the elements of a vector beside it
+pub beside : {S A B C Z : Type 0} {steps : S → Option A → S → Type 0} {v : A → C} {xs : List C} {s : S} {pairs : Zip S (IntoIter B Z)} (ys : List B)
+    → zip_first pairs ≡ s → into_iter_items (zip_second pairs) ≡ ys → into_iter_len (zip_second pairs) ≡ length ys → YieldsList steps v s xs
+    → YieldsList (zips steps (into_iter_steps {X = B} {Z = Z})) (λ p. (v p.0, p.1)) pairs (zip xs ys)
+beside ys first items len run = YieldsList-from_zip (YieldsList-at first run) (YieldsList-from_vec ys items len)

@@ -1,10 +1,10 @@
 use Rattle.std.proofs.Common.{◌∙◌, sym, subst, rules, tests, IfOk, ◌≡◌}
-use Rattle.std.proofs.lemmas.Iterator.{YieldsList-from_map, YieldsList-from_zip, items_from_collect}
+use Rattle.std.proofs.lemmas.Iterator.{YieldsList-from_map, items_from_collect}
 use Rattle.std.proofs.lemmas.Iterator.Adapters.{YieldsList-from_vec}
 use Rattle.std.proofs.lemmas.Iterator.Consumers.{YieldsList-at}
 use Rattle.std.specs.Prelude.{All}
 use Rattle.chart_model.specs.Codes.{NULL}
-use Rattle.s57_fields.proofs.Joined.{feature_pointers-topi}
+use Rattle.s57_fields.proofs.Joined.{beside, feature_pointers-topi}
 use Rattle.s57_fields.specs.Fspt.{feature_pointers}
 use Rattle.s57_fields.proofs.fspt.feature_pointers.Goals as goal
 
@@ -15,13 +15,10 @@ returns-clause-joined c =
     (items_from_collect c.collect.result c.collect.ensures.ran
     (YieldsList-from_map _ (λ it. record { target = it.0.0.0; ornt = it.0.0.1; usag = it.0.1; topi = NULL; mask = it.1 })
     (YieldsList-at c.map.ensures.source
-    (YieldsList-from_zip
-    (YieldsList-at c.zip-3.ensures.first (YieldsList-from_zip
-    (YieldsList-at c.zip-2.ensures.first (YieldsList-from_zip
-    (YieldsList-at c.zip.ensures.first (YieldsList-from_vec c.args.names.items c.into_iter.ensures.rest (c.into_iter.ensures.len ∙ c.args.names.ok.0)))
-    (YieldsList-from_vec c.args.ornts.items c.zip.ensures.second.0 (c.zip.ensures.second.1 ∙ c.args.ornts.ok.0))))
-    (YieldsList-from_vec c.args.usags.items c.zip-2.ensures.second.0 (c.zip-2.ensures.second.1 ∙ c.args.usags.ok.0))))
-    (YieldsList-from_vec c.args.masks.items c.zip-3.ensures.second.0 (c.zip-3.ensures.second.1 ∙ c.args.masks.ok.0))))
+    (beside c.args.masks.items c.zip-3.ensures.first c.zip-3.ensures.second.0 (c.zip-3.ensures.second.1 ∙ c.args.masks.ok.0)
+    (beside c.args.usags.items c.zip-2.ensures.first c.zip-2.ensures.second.0 (c.zip-2.ensures.second.1 ∙ c.args.usags.ok.0)
+    (beside c.args.ornts.items c.zip.ensures.first c.zip.ensures.second.0 (c.zip.ensures.second.1 ∙ c.args.ornts.ok.0)
+    (YieldsList-from_vec c.args.names.items c.into_iter.ensures.rest (c.into_iter.ensures.len ∙ c.args.names.ok.0))))))
     c.map.ensures.closure
     (λ x r q k. search (rules, tests))))
 

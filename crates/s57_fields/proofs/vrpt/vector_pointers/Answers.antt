@@ -1,7 +1,8 @@
 use Rattle.std.proofs.Common.{◌∙◌, subst, rules, tests, IfOk, ◌≡◌}
-use Rattle.std.proofs.lemmas.Iterator.{YieldsList-from_map, YieldsList-from_zip, items_from_collect}
+use Rattle.std.proofs.lemmas.Iterator.{YieldsList-from_map, items_from_collect}
 use Rattle.std.proofs.lemmas.Iterator.Adapters.{YieldsList-from_vec}
 use Rattle.std.proofs.lemmas.Iterator.Consumers.{YieldsList-at}
+use Rattle.s57_fields.proofs.Joined.{beside}
 use Rattle.s57_fields.specs.Vrpt.{vector_pointers}
 use Rattle.s57_fields.proofs.vrpt.vector_pointers.Goals as goal
 
@@ -12,14 +13,10 @@ returns c =
     (items_from_collect c.collect.result c.collect.ensures.ran
     (YieldsList-from_map _ (λ it. record { target = it.0.0.0.0; ornt = it.0.0.0.1; usag = it.0.0.1; topi = it.0.1; mask = it.1 })
     (YieldsList-at c.map.ensures.source
-    (YieldsList-from_zip
-    (YieldsList-at c.zip-4.ensures.first (YieldsList-from_zip
-    (YieldsList-at c.zip-3.ensures.first (YieldsList-from_zip
-    (YieldsList-at c.zip-2.ensures.first (YieldsList-from_zip
-    (YieldsList-at c.zip.ensures.first (YieldsList-from_vec c.args.names.items c.into_iter.ensures.rest (c.into_iter.ensures.len ∙ c.args.names.ok.0)))
-    (YieldsList-from_vec c.args.ornts.items c.zip.ensures.second.0 (c.zip.ensures.second.1 ∙ c.args.ornts.ok.0))))
-    (YieldsList-from_vec c.args.usags.items c.zip-2.ensures.second.0 (c.zip-2.ensures.second.1 ∙ c.args.usags.ok.0))))
-    (YieldsList-from_vec c.args.topis.items c.zip-3.ensures.second.0 (c.zip-3.ensures.second.1 ∙ c.args.topis.ok.0))))
-    (YieldsList-from_vec c.args.masks.items c.zip-4.ensures.second.0 (c.zip-4.ensures.second.1 ∙ c.args.masks.ok.0))))
+    (beside c.args.masks.items c.zip-4.ensures.first c.zip-4.ensures.second.0 (c.zip-4.ensures.second.1 ∙ c.args.masks.ok.0)
+    (beside c.args.topis.items c.zip-3.ensures.first c.zip-3.ensures.second.0 (c.zip-3.ensures.second.1 ∙ c.args.topis.ok.0)
+    (beside c.args.usags.items c.zip-2.ensures.first c.zip-2.ensures.second.0 (c.zip-2.ensures.second.1 ∙ c.args.usags.ok.0)
+    (beside c.args.ornts.items c.zip.ensures.first c.zip.ensures.second.0 (c.zip.ensures.second.1 ∙ c.args.ornts.ok.0)
+    (YieldsList-from_vec c.args.names.items c.into_iter.ensures.rest (c.into_iter.ensures.len ∙ c.args.names.ok.0)))))))
     c.map.ensures.closure
     (λ x r q k. search (rules, tests))))
