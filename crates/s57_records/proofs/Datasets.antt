@@ -32,10 +32,16 @@ base_edition s edition prof test prof_e base none =
     let both : (eqb edition 0 && reads_as (s.number (codes "DSID") (codes "PROF") ONE_BYTE) 1) ≡ true = and_from _ _ (eq-eqb edition 0 none) reads in
     true≢false (sym test ∙ ap not both)
 
-pub general_is :
-    (s : Subfields) (g : General) → AreSound s → IsKey g.key → general_of s ≡ Ok g → IsGeneral g
+-- the subfields that it is read from
+record IsReadFrom (s : Subfields) (g : General) : Type 0 where
+  key : s.key (codes "DSID") (codes "DSNM") ≡ Ok g.key
+  edition : s.digits (codes "DSID") (codes "EDTN") ≡ Ok g.edition
+  update : s.digits (codes "DSID") (codes "UPDN") ≡ Ok g.update
+  base : g.base ≡ true → g.edition ≡ 0 → ⊥
+
+general_from : (s : Subfields) (g : General) → general_of s ≡ Ok g → IsReadFrom s g
 unfolding general_of
-general_is s g sound keyed e =
+general_from s g e =
     bind_then (s.key (codes "DSID") (codes "DSNM")) _ g e (λ key key_e after_key.
     bind_then (s.digits (codes "DSID") (codes "EDTN")) _ g after_key (λ edition edition_e after_edition.
     bind_then (checked_edition s edition) _ g after_edition (λ _ test_e after_test.
@@ -44,26 +50,23 @@ general_is s g sound keyed e =
     bind_then (s.number (codes "DSID") (codes "PROF") ONE_BYTE) _ g after_issued (λ prof prof_e after_prof.
     bind_then (ensure (eqb prof 1 || eqb prof 2) (Profile (codes "PROF"))) _ g after_prof (λ _ listed_e after_listed.
     bind_then (s.number (codes "DSID") (codes "AGEN") TWO_BYTES) _ g after_listed (λ agency agency_e made.
-    subst IsGeneral (ok_is _ g made) (record {
-      key = subst (λ (h : General). IsKey h.key) (sym (ok_is _ g made)) keyed;
-      edition = sound.digits _ _ edition edition_e;
-      update = sound.digits _ _ update update_e;
+    subst (λ (h : General). IsReadFrom s h) (ok_is _ g made) (record {
+      key = key_e;
+      edition = edition_e;
+      update = update_e;
       base = base_edition s edition prof (ensure_ok _ _ _ test_e) prof_e;
     })))))))))
 
--- its key is that of the name of the data set
-general_key : (s : Subfields) (g : General) → general_of s ≡ Ok g → s.key (codes "DSID") (codes "DSNM") ≡ Ok g.key
-unfolding general_of
-general_key s g e =
-    bind_then (s.key (codes "DSID") (codes "DSNM")) _ g e (λ key key_e after_key.
-    bind_then (s.digits (codes "DSID") (codes "EDTN")) _ g after_key (λ edition edition_e after_edition.
-    bind_then (checked_edition s edition) _ g after_edition (λ _ test_e after_test.
-    bind_then (s.digits (codes "DSID") (codes "UPDN")) _ g after_test (λ update update_e after_update.
-    bind_then (s.date (codes "DSID") (codes "ISDT")) _ g after_update (λ issued issued_e after_issued.
-    bind_then (s.number (codes "DSID") (codes "PROF") ONE_BYTE) _ g after_issued (λ prof prof_e after_prof.
-    bind_then (ensure (eqb prof 1 || eqb prof 2) (Profile (codes "PROF"))) _ g after_prof (λ _ listed_e after_listed.
-    bind_then (s.number (codes "DSID") (codes "AGEN") TWO_BYTES) _ g after_listed (λ agency agency_e made.
-    key_e ∙ ap (λ (h : General). Ok h.key) (ok_is _ g made)))))))))
+pub general_is :
+    (s : Subfields) (g : General) → AreSound s → IsKey g.key → general_of s ≡ Ok g → IsGeneral g
+general_is s g sound keyed e =
+    let from = general_from s g e in
+    record {
+      key = keyed;
+      edition = sound.digits _ _ g.edition from.edition;
+      update = sound.digits _ _ g.update from.update;
+      base = from.base;
+    }
 
 -- ---- what the records after the first say
 
@@ -157,6 +160,6 @@ unfolding dataset_of
 dataset_is [] value sound keyed e = absurd cc
 dataset_is (first ∷ rest) value sound keyed e =
     elim (chosen (first.has (codes "DSID")) (general_of first >>= λ g. dataset_after g first rest) (Err NoGeneral) (Ok value) e) [
-      | inl h ↦ bind_then (general_of first) _ value h.1 (λ g g_e after_g. after_is_dataset g first rest value (general_is first g sound.0 (keyed.0 _ _ g.key (general_key first g g_e)) g_e) after_g)
+      | inl h ↦ bind_then (general_of first) _ value h.1 (λ g g_e after_g. after_is_dataset g first rest value (general_is first g sound.0 (keyed.0 _ _ g.key (general_from first g g_e).key) g_e) after_g)
       | inr h ↦ absurd (let none = h.1 in cc)
     ]

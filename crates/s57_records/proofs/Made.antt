@@ -1,5 +1,5 @@
 -- The change made of what was read keeps what every change keeps.
-use Rattle.std.proofs.Common.{◌≡◌, Bool, List, [], Option, None, Ok}
+use Rattle.std.proofs.Common.{◌≡◌, Bool, List, Option, Ok}
 use Rattle.std.specs.Prelude.{codes}
 use Rattle.chart_model.specs.declared.name.Foid.{Foid}
 use Rattle.chart_model.specs.declared.record.Attr.{Attr}
