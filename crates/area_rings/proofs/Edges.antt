@@ -22,6 +22,10 @@ pub coordinate : (cell : CellValue) (name : Name) (node : Vector) (coord : Coord
 unfolding place_of
 coordinate cell name node coord e f = rw (e, f) refl
 
+-- what stands past the end of a list of pointers
+abbrev pub blank : Pointer
+blank = record { target = record { rcnm = 0; rcid = 0 }; ornt = 0; usag = 0; topi = 0; mask = 0 }
+
 -- one pointer, or none
 pub too_few : (pointers : List Pointer) → length pointers < 2 → ends_of pointers ≡ None
 unfolding ends_of

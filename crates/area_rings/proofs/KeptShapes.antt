@@ -18,7 +18,7 @@ use Rattle.area_rings.specs.Shape.{shape_of}
 use Rattle.area_rings.specs.KeptEdges.{StandsFor, KeepsVectors}
 use Rattle.area_rings.proofs.Edges.{no_edge_name, no_edge, no_ends, no_begin, no_end, whole_edge}
 use Rattle.area_rings.proofs.Traces.{chains_at, no_line, broken, goes_on, at_end, is_some-option_map, has_rings, no_pointers}
-use Rattle.area_rings.proofs.Shapes.{point_shape, line_shape, area_shape, bare_shape}
+use Rattle.area_rings.proofs.Shapes.{IsNoPlace, point_shape, line_shape, area_shape, bare_shape}
 
 value : {A : Type 0} (o : Option A) → IsSome o → (x : A) × (o ≡ Some x)
 value None h = absurd (false≢true h)
@@ -169,8 +169,8 @@ shape_kept before after feature keeps h = of_point (eqb feature.prim 1) refl
         let node = value (node_of before name) some in
         ap is_some (kept_node before after name node.0 keeps node.1).1
 
-    bare : feature.prim ≢ 1 → feature.prim ≢ 2 → feature.prim ≢ 3 → IsSome (shape_of after feature)
-    bare no_point no_line no_area = sym (bare_shape after feature no_point no_line no_area) ∙ bare_shape before feature no_point no_line no_area ∙ h
+    bare : IsNoPlace feature → IsSome (shape_of after feature)
+    bare none = sym (bare_shape after feature none) ∙ bare_shape before feature none ∙ h
 
     area : feature.prim ≡ 3 → IsSome (shape_of after feature)
     area is = sym (area_shape after feature is) ∙ rings_kept before after feature.pointers keeps (area_shape before feature is ∙ h)
@@ -187,7 +187,7 @@ shape_kept before after feature keeps h = of_point (eqb feature.prim 1) refl
 
     of_area : feature.prim ≢ 1 → feature.prim ≢ 2 → (b : Bool) → eqb feature.prim 3 ≡ b → IsSome (shape_of after feature)
     of_area no_point no_line true e = area (eqb-true _ _ e)
-    of_area no_point no_line false e = bare no_point no_line (eqb-false _ _ e)
+    of_area no_point no_line false e = bare (record { no_point = no_point; no_line = no_line; no_area = eqb-false _ _ e })
 
     of_line : feature.prim ≢ 1 → (b : Bool) → eqb feature.prim 2 ≡ b → IsSome (shape_of after feature)
     of_line no_point true e = line (eqb-true _ _ e)

@@ -10,7 +10,7 @@ use Rattle.area_rings.specs.declared.trace.OpenRing.{OpenRing}
 use Rattle.area_rings.specs.Choice.{◌>>=◌, each}
 use Rattle.area_rings.specs.Edge.{EdgeValue, edge_along}
 use Rattle.area_rings.specs.Rings.{but_last, ring_points, followed, before_rings, chains_of, rings_of}
-use Rattle.area_rings.proofs.Traces.{chains_at, at_pointer, no_line, broken, goes_on}
+use Rattle.area_rings.proofs.Traces.{chains_at, at_pointer, no_line, broken, Adds, added_at}
 
 -- points before those of the first ring
 abbrev pub begun_by : List Pt → List (List Pt) → List (List Pt)
@@ -69,11 +69,11 @@ after_edge cell ring (Some open_ring) closed closed' points points' edge o e f =
     option_map-map (with_rest closed points) (before_rings edge (Some open_ring)) o
     ∙ option_map-same _ (with_rest closed' points') o (λ rest. rw (e, f) (stays_open closed points edge open_ring rest))
 
-pub one_more : (cell : CellValue) (ring next : Option OpenRing) (closed closed' : List (List Pt)) (points points' : List Pt) (pointers : List Pointer) (i : ℕ) (d : Pointer) (all : List Pointer) (edge : EdgeValue) → Rounds cell ring closed points (drop i pointers) all → i < length pointers → edge_along cell (get_or pointers i d) ≡ Some edge → followed ring edge.from edge.to ≡ Some next → closed' ≡ (if is_none next then closed ++ (points ++ but_last edge.points) ∷ [] else closed) → points' ≡ (if is_none next then [] else points ++ but_last edge.points) → Rounds cell next closed' points' (drop (i + 1) pointers) all
-one_more cell ring next closed closed' points points' pointers i d all edge r lt e f g h = record {
+pub one_more : (cell : CellValue) (ring next : Option OpenRing) (closed closed' : List (List Pt)) (points points' : List Pt) (pointers : List Pointer) (i : ℕ) (d : Pointer) (all : List Pointer) (edge : EdgeValue) → Rounds cell ring closed points (drop i pointers) all → i < length pointers → Adds cell ring next (get_or pointers i d) edge → closed' ≡ (if is_none next then closed ++ (points ++ but_last edge.points) ∷ [] else closed) → points' ≡ (if is_none next then [] else points ++ but_last edge.points) → Rounds cell next closed' points' (drop (i + 1) pointers) all
+one_more cell ring next closed closed' points points' pointers i d all edge r lt added g h = record {
   same =
       r.same
-      ∙ ap (option_map (with_rest closed points)) (at_pointer cell ring pointers i d lt ∙ goes_on cell ring next (get_or pointers i d) (drop (i + 1) pointers) edge e f)
+      ∙ ap (option_map (with_rest closed points)) (added_at cell ring next pointers i d edge lt added)
       ∙ after_edge cell ring next closed closed' points points' edge (chains_at cell next (drop (i + 1) pointers)) g h;
 }
 

@@ -62,9 +62,15 @@ pub area_shape : (cell : CellValue) (feature : Feature) → feature.prim ≡ 3 �
 unfolding shape_of
 area_shape cell feature e = rw e (sym (is_some-option_map _ (rings_of cell feature.pointers)))
 
-pub bare_shape : (cell : CellValue) (feature : Feature) → feature.prim ≢ 1 → feature.prim ≢ 2 → feature.prim ≢ 3 → eqb feature.prim 255 ≡ is_some (shape_of cell feature)
+-- a feature is no point, no line and no area
+pub record IsNoPlace (feature : Feature) : Type 0 where
+  pub no_point : feature.prim ≢ 1
+  pub no_line : feature.prim ≢ 2
+  pub no_area : feature.prim ≢ 3
+
+pub bare_shape : (cell : CellValue) (feature : Feature) → IsNoPlace feature → eqb feature.prim 255 ≡ is_some (shape_of cell feature)
 unfolding shape_of
-bare_shape cell feature f g h = rw (ne_eqb feature.prim 1 f, ne_eqb feature.prim 2 g, ne_eqb feature.prim 3 h) (some_where (eqb feature.prim 255))
+bare_shape cell feature h = rw (ne_eqb feature.prim 1 h.no_point, ne_eqb feature.prim 2 h.no_line, ne_eqb feature.prim 3 h.no_area) (some_where (eqb feature.prim 255))
   where
     some_where : (b : Bool) → b ≡ is_some (if b then Some Bare else None)
     some_where true = refl
@@ -92,6 +98,6 @@ pub bare_shape_is : (cell : CellValue) (feature : Feature) → feature.prim ≡ 
 unfolding shape_of
 bare_shape_is cell feature e = rw e refl
 
-pub no_shape : (cell : CellValue) (feature : Feature) → feature.prim ≢ 1 → feature.prim ≢ 2 → feature.prim ≢ 3 → feature.prim ≢ 255 → shape_of cell feature ≡ None
+pub no_shape : (cell : CellValue) (feature : Feature) → IsNoPlace feature → feature.prim ≢ 255 → shape_of cell feature ≡ None
 unfolding shape_of
-no_shape cell feature f g h i = rw (ne_eqb feature.prim 1 f, ne_eqb feature.prim 2 g, ne_eqb feature.prim 3 h, ne_eqb feature.prim 255 i) refl
+no_shape cell feature h i = rw (ne_eqb feature.prim 1 h.no_point, ne_eqb feature.prim 2 h.no_line, ne_eqb feature.prim 3 h.no_area, ne_eqb feature.prim 255 i) refl

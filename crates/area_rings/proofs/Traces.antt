@@ -4,8 +4,10 @@ use Rattle.std.proofs.lemmas.Bool.{false≢true}
 use Rattle.std.proofs.Math.ListN.{drop_of_length-le}
 use Rattle.chart_model.specs.declared.record.Pointer.{Pointer}
 use Rattle.chart_model.specs.Cell.{CellValue}
+use Rattle.area_rings.specs.declared.edge.DirectedEdge.{DirectedEdge}
 use Rattle.area_rings.specs.declared.trace.OpenRing.{OpenRing}
 use Rattle.area_rings.specs.Choice.{◌>>=◌, each}
+use Rattle.area_rings.specs.Direction.{value_of}
 use Rattle.area_rings.specs.Edge.{EdgeValue, edge_along}
 use Rattle.area_rings.specs.Rings.{followed, before_rings, chains_of, ring_points, rings_of}
 
@@ -53,6 +55,24 @@ pub record Remains (cell : CellValue) (ring : Option OpenRing) (rest all : List 
 pub at_pointer : (cell : CellValue) (ring : Option OpenRing) (pointers : List Pointer) (i : ℕ) (d : Pointer) → i < length pointers → chains_at cell ring (drop i pointers) ≡ chains_at cell ring (get_or pointers i d ∷ drop (i + 1) pointers)
 at_pointer cell ring pointers i d h = rw (add-one, drop-cons pointers i d) refl
 
+-- a pointer adds this edge to the ring, which then stands so
+pub record Adds (cell : CellValue) (ring next : Option OpenRing) (p : Pointer) (edge : EdgeValue) : Type 0 where
+  pub line : edge_along cell p ≡ Some edge
+  pub follows : followed ring edge.from edge.to ≡ Some next
+
+-- an edge that was found, and that the ring goes on with, is what the pointer adds
+pub adds_found : (cell : CellValue) (ring next : Option OpenRing) (p : Pointer) (found : Option DirectedEdge) (edge : DirectedEdge) (after : Option (Option OpenRing)) → option_map value_of found ≡ edge_along cell p → found ≡ Some edge → after ≡ followed ring edge.from edge.to → after ≡ Some next → Adds cell ring next p (value_of edge)
+adds_found cell ring next p found edge after is there follows so = record {
+  line = sym is ∙ ap (option_map value_of) there;
+  follows = sym follows ∙ so;
+}
+
+-- the rings from a pointer on are those behind it, with the edge that it adds
+pub added_at : (cell : CellValue) (ring next : Option OpenRing) (pointers : List Pointer) (i : ℕ) (d : Pointer) (edge : EdgeValue) → i < length pointers → Adds cell ring next (get_or pointers i d) edge → chains_at cell ring (drop i pointers) ≡ option_map (before_rings edge next) (chains_at cell next (drop (i + 1) pointers))
+added_at cell ring next pointers i d edge lt added =
+    at_pointer cell ring pointers i d lt
+    ∙ goes_on cell ring next (get_or pointers i d) (drop (i + 1) pointers) edge added.line added.follows
+
 none_left : (cell : CellValue) (ring : Option OpenRing) (pointers : List Pointer) (i : ℕ) (all : List Pointer) → Remains cell ring (drop i pointers) all → chains_at cell ring (drop i pointers) ≡ None → ¬ IsSome (chains_at cell None all)
 none_left cell ring pointers i all r e h = absurd (false≢true (ap is_some (sym e) ∙ r.same ∙ h))
 
@@ -64,11 +84,11 @@ pub broken_left : (cell : CellValue) (ring : Option OpenRing) (pointers : List P
 broken_left cell ring pointers i d all edge r lt e f =
     none_left cell ring pointers i all r (at_pointer cell ring pointers i d lt ∙ broken cell ring (get_or pointers i d) (drop (i + 1) pointers) edge e f)
 
-pub remains_more : (cell : CellValue) (ring next : Option OpenRing) (pointers : List Pointer) (i : ℕ) (d : Pointer) (all : List Pointer) (edge : EdgeValue) → Remains cell ring (drop i pointers) all → i < length pointers → edge_along cell (get_or pointers i d) ≡ Some edge → followed ring edge.from edge.to ≡ Some next → Remains cell next (drop (i + 1) pointers) all
-remains_more cell ring next pointers i d all edge r lt e f = record {
+pub remains_more : (cell : CellValue) (ring next : Option OpenRing) (pointers : List Pointer) (i : ℕ) (d : Pointer) (all : List Pointer) (edge : EdgeValue) → Remains cell ring (drop i pointers) all → i < length pointers → Adds cell ring next (get_or pointers i d) edge → Remains cell next (drop (i + 1) pointers) all
+remains_more cell ring next pointers i d all edge r lt added = record {
   same =
       sym (is_some-option_map (before_rings edge next) (chains_at cell next (drop (i + 1) pointers)))
-      ∙ ap is_some (sym (at_pointer cell ring pointers i d lt ∙ goes_on cell ring next (get_or pointers i d) (drop (i + 1) pointers) edge e f))
+      ∙ ap is_some (sym (added_at cell ring next pointers i d edge lt added))
       ∙ r.same;
 }
 

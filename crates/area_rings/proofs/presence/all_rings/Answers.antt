@@ -3,12 +3,9 @@ use Rattle.std.specs.Option.{option_map}
 use Rattle.std.proofs.lemmas.Bool.{false≢true, eqb-true, eqb-false}
 use Rattle.chart_model.specs.declared.record.Pointer.{Pointer}
 use Rattle.area_rings.specs.Direction.{value_of}
-use Rattle.area_rings.proofs.Traces.{no_line_left, broken_left, remains_more, has_rings, ends_closed, no_pointers}
+use Rattle.area_rings.proofs.Edges.{blank}
+use Rattle.area_rings.proofs.Traces.{adds_found, no_line_left, broken_left, remains_more, has_rings, ends_closed, no_pointers}
 use Rattle.area_rings.proofs.presence.all_rings.Goals as goal
-
--- what stands past the end of a list of pointers
-blank : Pointer
-blank = record { target = record { rcnm = 0; rcid = 0 }; ornt = 0; usag = 0; topi = 0; mask = 0 }
 
 pub returns-then-is_empty : goal.returns-then-is_empty
 returns-then-is_empty c =
@@ -19,7 +16,6 @@ pub loop-pointer-init : goal.loop-pointer-init
 loop-pointer-init c = record { same = refl }
 
 pub returns-in_default : goal.returns-in_default
-unfolding blank
 returns-in_default c =
     let some : 0 < length c.args.pointers.now = omega arith in
     let line = sym c.edge.ensures ∙ ap (option_map value_of) c.in_default.is in
@@ -27,7 +23,6 @@ returns-in_default c =
     (λ e. absurd (false≢true e), λ h. absurd (none (sym (has_rings c.args.cell.now c.args.pointers.now some) ∙ h)))
 
 pub returns-in_default-follow : goal.returns-in_default-follow
-unfolding blank
 returns-in_default-follow c =
     let some : 0 < length c.args.pointers.now = omega arith in
     let line = sym c.edge.ensures ∙ ap (option_map value_of) c.in-Some.is in
@@ -36,11 +31,9 @@ returns-in_default-follow c =
     (λ e. absurd (false≢true e), λ h. absurd (none (sym (has_rings c.args.cell.now c.args.pointers.now some) ∙ h)))
 
 pub loop-pointer-preserved : goal.loop-pointer-preserved
-unfolding blank
 loop-pointer-preserved c =
-    let line = sym c.edge.ensures ∙ ap (option_map value_of) c.in-Some.is in
-    let next = sym c.follow.ensures ∙ c.in-Some-follow.is in
-    remains_more c.args.cell.now c.loop-pointer.open c.in-Some-follow.next c.args.pointers.now c.loop-pointer.pointer-index blank c.args.pointers.now _ c.loop-pointer.invariant c.loop-pointer-test.true line next
+    remains_more c.args.cell.now c.loop-pointer.open c.in-Some-follow.next c.args.pointers.now c.loop-pointer.pointer-index blank c.args.pointers.now _ c.loop-pointer.invariant c.loop-pointer-test.true
+    (adds_found _ _ _ _ _ _ _ c.edge.ensures c.in-Some.is c.follow.ensures c.in-Some-follow.is)
 
 pub returns : goal.returns
 returns c =

@@ -1,4 +1,4 @@
-use Rattle.std.proofs.Common.{◌≢◌, sym, ◌∙◌, arith}
+use Rattle.std.proofs.Common.{sym, ◌∙◌, arith}
 use Rattle.area_rings.proofs.Shapes.{point_shape, line_shape, area_shape, bare_shape}
 use Rattle.area_rings.proofs.presence.has_shape.Goals as goal
 
@@ -22,8 +22,5 @@ returns-in-3 c =
 
 pub returns-in_default : goal.returns-in_default
 returns-in_default c =
-    let no_point : c.args.feature.now.prim ≢ 1 = omega arith in
-    let no_line : c.args.feature.now.prim ≢ 2 = omega arith in
-    let no_area : c.args.feature.now.prim ≢ 3 = omega arith in
-    let bare = bare_shape c.args.cell.now c.args.feature.now no_point no_line no_area in
+    let bare = bare_shape c.args.cell.now c.args.feature.now (record { no_point = omega arith; no_line = omega arith; no_area = omega arith }) in
     (λ h. sym bare ∙ h, λ h. bare ∙ h)

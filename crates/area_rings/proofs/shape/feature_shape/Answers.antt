@@ -1,4 +1,4 @@
-use Rattle.std.proofs.Common.{◌≢◌, sym, ◌∙◌, ap, arith}
+use Rattle.std.proofs.Common.{sym, ◌∙◌, ap, arith}
 use Rattle.std.specs.Option.{option_map}
 use Rattle.area_rings.specs.declared.shape.Shape.TheVariants.{Points, Lines, Rings}
 use Rattle.area_rings.specs.Shape.{points_of, lines_of}
@@ -28,8 +28,4 @@ returns-in-255 c = sym (bare_shape_is c.args.cell.now c.args.feature.now c.in-25
 
 pub returns-in_default : goal.returns-in_default
 returns-in_default c =
-    let no_point : c.args.feature.now.prim ≢ 1 = omega arith in
-    let no_line : c.args.feature.now.prim ≢ 2 = omega arith in
-    let no_area : c.args.feature.now.prim ≢ 3 = omega arith in
-    let not_bare : c.args.feature.now.prim ≢ 255 = omega arith in
-    sym (no_shape c.args.cell.now c.args.feature.now no_point no_line no_area not_bare)
+    sym (no_shape c.args.cell.now c.args.feature.now (record { no_point = omega arith; no_line = omega arith; no_area = omega arith }) (omega arith))
