@@ -1,6 +1,9 @@
 -- The parts of a text, split and joined.
-use Rattle.std.proofs.Common.{◌≡◌, ◌≢◌, ℕ, ◌+◌, ◌-◌, ◌<◌, ◌≤◌, Bool, true, false, cond, ltb, eqb, List, [], ◌∷◌, ◌++◌, length, take, drop, position, Some, None, refl, sym, ap, ◌∙◌, arith}
+use Rattle.std.proofs.Common.{◌≡◌, ◌≢◌, ℕ, ◌+◌, ◌-◌, ◌<◌, ◌≤◌, Bool, true, false, cond, ltb, eqb, List, [], ◌∷◌, ◌++◌, length, take, drop, position, Bor, Option, Some, None, refl, sym, ap, subst, ◌∙◌, arith}
+use Rattle.std.specs.Prelude.{IfSome}
 use Rattle.std.specs.List.{All, onto_first, position_or_len, join_with_byte}
+use Rattle.std.specs.Char.{digit_value}
+use Rattle.std.specs.Str.Parse.{AllDigits}
 use Rattle.std.specs.Str.Lines.{lines, lines_of_parts, strip_carriage_return}
 use Rattle.std.proofs.lemmas.Bool.{ltb-true, ltb-false}
 use Rattle.std.proofs.lemmas.Bool.Decides.{nat_tests}
@@ -8,6 +11,7 @@ use Rattle.std.proofs.lemmas.List.{take_rest}
 use Rattle.std.proofs.lemmas.List.Elements.{All-nil, All-cons, All-weaker, All-head, All-tail}
 use Rattle.std.proofs.lemmas.List.Splits.{slice_split_at, slice_split_none, slice_split_first, length-slice_split}
 use Rattle.std.proofs.lemmas.List.Sums.{fails_before_first}
+use Rattle.std.proofs.lemmas.Str.Parse.{digit_from_value}
 use Rattle.text_lines.specs.Lines.{parts_at, Lacks}
 
 abbrev pub parts_by : ℕ → ℕ → Bool
@@ -48,6 +52,16 @@ lacking_parts parting (byte ∷ text) =
       | false ↦ λ h. onto_lacking parting byte (parts_at parting text) (no_byte parting byte h) (lacking_parts parting text)
     ] refl
 
+-- ---- numbers
+
+digit_no_space : (byte : ℕ) → digit_value byte < 10 → byte ≢ 32
+digit_no_space byte h = let r = digit_from_value byte h in omega arith
+
+-- digits have no space among them
+pub digits_lack : (text : List ℕ) → AllDigits 10 text → Lacks 32 text
+digits_lack [] h = All-nil (λ b. b ≢ 32)
+digits_lack (c ∷ cs) h = All-cons (λ b. b ≢ 32) c cs (digit_no_space c h.0) (digits_lack cs h.1)
+
 -- ---- cuts
 
 place : (p : ℕ → Bool) (text : List ℕ) (at : ℕ) → position p text ≡ Some at → (position_or_len p text < length text) × (position_or_len p text ≡ at)
@@ -79,6 +93,11 @@ cut_none parting text e =
 
 pub place_within : (p : ℕ → Bool) (text : List ℕ) (at : ℕ) → position p text ≡ Some at → at < length text
 place_within p text at e = let h = place p text at e in omega (arith, h.0, h.1)
+
+-- what a cut says where there is a rest
+pub cut_gives : (parting : ℕ) (o : Option (Bor (List ℕ))) (rest : Bor (List ℕ)) (text first : List ℕ) → o ≡ Some rest
+    → IfSome o (λ r. parts_at parting text ≡ first ∷ parts_at parting r.now) → parts_at parting text ≡ first ∷ parts_at parting rest.now
+cut_gives parting o rest text first e h = subst (λ (x : Option (Bor (List ℕ))). IfSome x (λ r. parts_at parting text ≡ first ∷ parts_at parting r.now)) e h
 
 -- ---- lines
 
