@@ -1,17 +1,14 @@
 -- A line is an entry as it is spelled.
-use Rattle.std.proofs.Common.{◌≡◌, ◌≢◌, ℕ, ◌<◌, ◌≤◌, Bool, true, false, cond, ◌&&◌, eqb, Bor, List, [], ◌∷◌, length, Option, Some, None, refl, sym, ap, ◌∙◌, subst, arith, ◌↔◌}
+use Rattle.std.proofs.Common.{◌≡◌, ◌≢◌, ℕ, ◌≤◌, Bool, true, false, cond, ◌&&◌, eqb, List, [], ◌∷◌, length, Option, Some, None, refl, sym, ap, ◌∙◌, subst, arith}
 use Rattle.std.specs.Bool.{Decides}
-use Rattle.std.specs.Prelude.{codes, nat_le, IsTrue, IfSome, option_and_then, is_none, not}
-use Rattle.std.specs.List.{All, join_with_byte}
+use Rattle.std.specs.Prelude.{codes, nat_le, IsTrue, option_and_then, is_none, not}
+use Rattle.std.specs.List.{join_with_byte}
 use Rattle.std.specs.Str.{bytes_eq}
-use Rattle.std.specs.Char.{digit_value}
-use Rattle.std.specs.Str.Parse.{AllDigits}
 use Rattle.std.proofs.lemmas.Bool.{leb-true, and_parts, true≢false, false_from_ne_true}
 use Rattle.std.proofs.lemmas.Bool.Decides.{nat_tests}
 use Rattle.std.proofs.lemmas.List.Elements.{All-nil, All-cons}
 use Rattle.std.proofs.lemmas.List.Splits.{length-slice_split}
 use Rattle.std.proofs.lemmas.Slice.Eq.{bytes_eq-Decides}
-use Rattle.std.proofs.lemmas.Str.Parse.{digit_from_value}
 use Rattle.common_lemmas.proofs.Choices.{some_is}
 use Rattle.text_scan.specs.Number.{IsNumber, value_of, number_of}
 use Rattle.text_lines.specs.Lines.{IsSilent, is_silent, parts_at, Lacks}
@@ -23,7 +20,7 @@ use Rattle.object_catalogue.specs.Entry.{letter_of, Spells, IsBad, kind_of, in_r
 use Rattle.object_catalogue.specs.Reading.{is_bad}
 use Rattle.object_catalogue.proofs.Acronyms.{Decides-acronym, acronym_some, acronym_lacks}
 use Rattle.text_scan.proofs.Numbers.{NumbersAreSpelled}
-use Rattle.text_lines.proofs.Parting.{PartsAreFound, PartsAreJoined}
+use Rattle.text_lines.proofs.Parting.{PartsAreFound, PartsAreJoined, digits_lack}
 
 -- ---- kinds
 
@@ -47,13 +44,6 @@ letter_lacks Class = All-cons (λ b. b ≢ 32) 79 [] (omega arith) (All-nil (λ 
 letter_lacks Attribute = All-cons (λ b. b ≢ 32) 65 [] (omega arith) (All-nil (λ b. b ≢ 32))
 
 -- ---- codes
-
-digit_no_space : (byte : ℕ) → digit_value byte < 10 → byte ≢ 32
-digit_no_space byte h = let r = digit_from_value byte h in omega arith
-
-pub digits_lack : (word : List ℕ) → AllDigits 10 word → Lacks 32 word
-digits_lack [] h = All-nil (λ b. b ≢ 32)
-digits_lack (c ∷ cs) h = All-cons (λ b. b ≢ 32) c cs (digit_no_space c h.0) (digits_lack cs h.1)
 
 range_is : (n code : ℕ) → in_range n ≡ Some code → (n ≡ code) × (1 ≤ code) × (code ≤ 65535)
 range_is n code e =
@@ -193,11 +183,6 @@ bad-from spelled joined line h =
     (none_told (entry_of line) (λ entry e. h.no_entry entry (entry_spelled spelled joined line entry e)))
 
 -- ---- a line, word by word
-
--- what a cut says where there is a rest
-pub cut_gives : (o : Option (Bor (List ℕ))) (rest : Bor (List ℕ)) (text first : List ℕ) → o ≡ Some rest
-    → IfSome o (λ r. parts_at 32 text ≡ first ∷ parts_at 32 r.now) → parts_at 32 text ≡ first ∷ parts_at 32 rest.now
-cut_gives o rest text first e h = subst (λ (x : Option (Bor (List ℕ))). IfSome x (λ r. parts_at 32 text ≡ first ∷ parts_at 32 r.now)) e h
 
 too_many : (word digits acronym : List ℕ) (more : List (List ℕ)) → 1 ≤ length more → entry_in (word ∷ digits ∷ acronym ∷ more) ≡ None
 unfolding entry_in

@@ -1,10 +1,9 @@
 -- How far a catalogue is read.
-use Rattle.std.proofs.Common.{◌≡◌, ℕ, ◌+◌, ◌≤◌, List, [], ◌∷◌, ◌++◌, length, Option, None, refl, sym, ap, ◌∙◌, subst, append_assoc, append-nil, length-append, arith}
+use Rattle.std.proofs.Common.{◌≡◌, ℕ, ◌+◌, ◌≤◌, List, [], ◌∷◌, ◌++◌, Option, sym, ap, ◌∙◌, subst, arith}
 use Rattle.std.specs.Prelude.{Result, Ok, Err}
 use Rattle.std.specs.Str.Lines.{lines}
 use Rattle.chart_model.specs.Answers.{unless, FailsBy}
-use Rattle.text_lines.specs.Reading.{first_fault}
-use Rattle.text_lines.proofs.FirstFaults.{sound_more, faulty, no_lines}
+use Rattle.text_lines.proofs.LinesSoFar.{ArePassed, none_passed, one_passed, fault_found, all_passed}
 use Rattle.object_catalogue.specs.Answers.{told, Answers}
 use Rattle.object_catalogue.specs.Codes.{CatalogueValue, empty_catalogue}
 use Rattle.object_catalogue.specs.Reading.{catalogue_on, catalogue_in, fault_at, line_in}
@@ -15,41 +14,34 @@ use Rattle.object_catalogue.proofs.Lines.{line_taken, line_refused, no_lines as 
 -- the lines before the rest have no fault, and say what the catalogue has
 pub record IsReadSoFar (bytes : List ℕ) (catalogue : CatalogueValue) (number : ℕ) (rest : List ℕ) : Type 0 where
   pub before : List (List ℕ)
-  pub whole : lines bytes ≡ before ++ lines rest
-  pub counted : number ≡ length before
+  pub passed : ArePassed fault_at bytes number rest before
   pub few : number ≤ 10000
   pub said : catalogue ≡ catalogue_on before
-  pub sound : first_fault fault_at [] before ≡ None
 
 pub read_none : (bytes : List ℕ) (catalogue : CatalogueValue) → catalogue ≡ empty_catalogue → IsReadSoFar bytes catalogue 0 bytes
 read_none bytes catalogue e = record {
   before = [];
-  whole = refl;
-  counted = refl;
+  passed = none_passed fault_at bytes;
   few = omega arith;
   said = e ∙ sym nothing_said;
-  sound = no_lines fault_at [];
 }
 
 pub read_more : (bytes rest others line : List ℕ) (catalogue next : CatalogueValue) (number : ℕ) → IsReadSoFar bytes catalogue number rest
     → lines rest ≡ line ∷ lines others → number + 1 ≤ 10000 → line_in catalogue (number + 1) line ≡ Ok next → IsReadSoFar bytes next (number + 1) others
 read_more bytes rest others line catalogue next number so_far cut few e =
-    let taken = line_taken so_far.before line next ((λ i. line_in (sym so_far.said i) (sym so_far.counted i + 1) line) ∙ e) in
+    let taken = line_taken so_far.before line next ((λ i. line_in (sym so_far.said i) (sym so_far.passed.counted i + 1) line) ∙ e) in
     record {
       before = so_far.before ++ line ∷ [];
-      whole = so_far.whole ∙ ap (λ (l : List (List ℕ)). so_far.before ++ l) cut ∙ sym (append_assoc so_far.before (line ∷ []) (lines others));
-      counted = omega (arith, so_far.counted, length-append so_far.before (line ∷ []));
+      passed = one_passed fault_at bytes rest others line number so_far.before so_far.passed cut taken.0;
       few = few;
       said = taken.1;
-      sound = sound_more fault_at so_far.before line so_far.sound taken.0;
     }
 
 fails : (bytes rest others line : List ℕ) (catalogue : CatalogueValue) (number : ℕ) (f : CatalogueFault) → IsReadSoFar bytes catalogue number rest
     → lines rest ≡ line ∷ lines others → line_in catalogue (number + 1) line ≡ Err f → catalogue_in bytes ≡ Err f
 fails bytes rest others line catalogue number f so_far cut e =
-    let refused = line_refused so_far.before line f ((λ i. line_in (sym so_far.said i) (sym so_far.counted i + 1) line) ∙ e) in
-    let whole = so_far.whole ∙ ap (λ (l : List (List ℕ)). so_far.before ++ l) cut in
-    ap (λ (o : Option CatalogueFault). unless o (catalogue_on (lines bytes))) (ap (first_fault fault_at []) whole ∙ faulty fault_at so_far.before (lines others) line f so_far.sound refused)
+    let refused = line_refused so_far.before line f ((λ i. line_in (sym so_far.said i) (sym so_far.passed.counted i + 1) line) ∙ e) in
+    ap (λ (o : Option CatalogueFault). unless o (catalogue_on (lines bytes))) (fault_found fault_at bytes rest others line number so_far.before f so_far.passed cut refused)
 
 abbrev ok : CatalogueValue → Result CatalogueValue CatalogueFault
 ok c = Ok c
@@ -63,9 +55,9 @@ read_fault bytes rest others line catalogue number NoMemory so_far cut h = h
 
 pub read_all : (bytes rest : List ℕ) (catalogue : CatalogueValue) (number : ℕ) → IsReadSoFar bytes catalogue number rest → lines rest ≡ [] → catalogue_in bytes ≡ Ok catalogue
 read_all bytes rest catalogue number so_far end =
-    let whole = so_far.whole ∙ ap (λ (l : List (List ℕ)). so_far.before ++ l) end ∙ append-nil so_far.before in
-    ap (λ (o : Option CatalogueFault). unless o (catalogue_on (lines bytes))) (ap (first_fault fault_at []) whole ∙ so_far.sound)
-    ∙ ap (λ (c : CatalogueValue). ok c) (ap catalogue_on whole ∙ sym so_far.said)
+    let all = all_passed fault_at bytes rest number so_far.before so_far.passed end in
+    ap (λ (o : Option CatalogueFault). unless o (catalogue_on (lines bytes))) all.1
+    ∙ ap (λ (c : CatalogueValue). ok c) (ap catalogue_on all.0 ∙ sym so_far.said)
 
 -- a fault that is passed on
 pub failed : (answer : Result CatalogueValue CatalogueFault) (f g : CatalogueFault) (wanted : Result CatalogueValue CatalogueFault)
