@@ -12,7 +12,7 @@ use Rattle.route_geometry.specs.declared.leg.Leg.{Leg}
 use Rattle.route_geometry.specs.Leg.{apart, MeetsSegment}
 use Rattle.route_geometry.specs.Area.{MeetsSome, MeetsArea}
 use Rattle.route_geometry.specs.Parted.{ahead, reach, is_beyond, is_parted, meets_segment, meets_area}
-use Rattle.route_geometry.proofs.Near.{near_between}
+use Rattle.route_geometry.proofs.Near.{near_between, met_at}
 use Rattle.route_geometry.proofs.Between.{Form, IsOpposed, InBoth, in_all}
 use Rattle.route_geometry.proofs.Open.{met_of_open}
 use Rattle.route_geometry.proofs.Directions.{Beyond, Along, NotParted, flip_x, flip_y, leg_x, leg_y, not_parted_x, not_parted_y, upper_open}
@@ -131,16 +131,9 @@ tested_is_met leg c e h =
     let low_low : InBoth lx ly = moved x_is y_is (upper_met (leg_y (leg_x leg)) (flip_y (flip_x c)) (flip_y (flip_x e)) (not_parted_y (leg_x leg) (flip_x c) (flip_x e) (not_parted_x leg c e n))) in
     let all = in_all lx hx ly hy (opposed_of leg.w leg.a.x leg.b.x c.x e.x) (opposed_of leg.h leg.a.y leg.b.y c.y e.y) low_low low_high high_low high_high in
     let p = all.p in
-    record {
-      d = p.d;
-      t = p.t;
-      s = p.s;
-      parts = p.parts;
-      on_leg = p.on_leg;
-      on_segment = p.on_segment;
-      near_x = (near_between p.d p.t p.s leg.w leg.a.x leg.b.x c.x e.x _ _ _ _ _ _ refl refl refl refl refl refl).1 (all.f_in, all.g_in);
-      near_y = (near_between p.d p.t p.s leg.h leg.a.y leg.b.y c.y e.y _ _ _ _ _ _ refl refl refl refl refl refl).1 (all.h_in, all.k_in);
-    }
+    met_at leg c e p
+    ((near_between p.d p.t p.s leg.w leg.a.x leg.b.x c.x e.x _ _ _ _ _ _ refl refl refl refl refl refl).1 (all.f_in, all.g_in))
+    ((near_between p.d p.t p.s leg.h leg.a.y leg.b.y c.y e.y _ _ _ _ _ _ refl refl refl refl refl refl).1 (all.h_in, all.k_in))
   where
     moved : {f f' g g' : Form} → f ≡ f' → g ≡ g' → InBoth f g → InBoth f' g'
     moved e k h = rw (e, k) at h

@@ -1,5 +1,6 @@
 use Rattle.route_geometry.specs.Side.{Place}
 use Rattle.route_geometry.specs.Leg.{MeetsSegment}
+use Rattle.route_geometry.proofs.Near.{met_at}
 use Rattle.route_geometry.proofs.leg.leg_meets_segment.Goals as goal
 
 pub returns : goal.returns
@@ -10,16 +11,6 @@ returns c =
     let p : Place = record { d = m.d; t = m.t; s = m.s; parts = m.parts; on_leg = m.on_leg; on_segment = m.on_segment } in p in (
       λ h.
           let met = c.bands_meet.ensures.0 h in
-          let p = met.0 in
-          record {
-            d = p.d;
-            t = p.t;
-            s = p.s;
-            parts = p.parts;
-            on_leg = p.on_leg;
-            on_segment = p.on_segment;
-            near_x = (x p).1 met.1;
-            near_y = (y p).1 met.2;
-          },
+          met_at c.args.leg.now c.args.c c.args.e met.0 ((x met.0).1 met.1) ((y met.0).1 met.2),
       λ m. c.bands_meet.ensures.1 (place m, (x (place m)).0 m.near_x, (y (place m)).0 m.near_y),
     )
