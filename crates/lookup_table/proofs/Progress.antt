@@ -1,13 +1,12 @@
 -- How far a table is read.
-use Rattle.std.proofs.Common.{◌≡◌, ℕ, ◌+◌, ◌≤◌, List, [], ◌∷◌, ◌++◌, length, Option, Some, None, refl, sym, ap, ◌∙◌, subst, append_assoc, append-nil, length-append, arith}
+use Rattle.std.proofs.Common.{◌≡◌, ℕ, ◌+◌, ◌≤◌, List, [], ◌∷◌, ◌++◌, length, Option, Some, None, refl, sym, ap, ◌∙◌, subst, append-nil, arith}
 use Rattle.std.specs.Prelude.{Result, Ok, Err}
 use Rattle.std.specs.Option.{option_to_list}
 use Rattle.std.specs.List.{flat_map}
 use Rattle.std.specs.Str.Lines.{lines}
 use Rattle.std.proofs.lemmas.List.Concat.{flat_map-append}
 use Rattle.chart_model.specs.Answers.{unless, FailsBy}
-use Rattle.text_lines.specs.Reading.{first_fault}
-use Rattle.text_lines.proofs.FirstFaults.{sound_more, faulty, no_lines}
+use Rattle.text_lines.proofs.LinesSoFar.{ArePassed, none_passed, one_passed, fault_found, all_passed}
 use Rattle.object_catalogue.specs.Codes.{CatalogueValue}
 use Rattle.lookup_table.specs.Answers.{told, Answers, AnswersLine}
 use Rattle.lookup_table.specs.Lines.{said, table_in, fault_at, line_fault, line_in}
@@ -18,11 +17,9 @@ use Rattle.lookup_table.specs.declared.line.TableLine.{TableLine}
 -- the lines before the rest have no fault, and say what the table has
 pub record IsReadSoFar (catalogue : CatalogueValue) (bytes : List ℕ) (table : List TableLine) (number : ℕ) (rest : List ℕ) : Type 0 where
   pub before : List (List ℕ)
-  pub whole : lines bytes ≡ before ++ lines rest
-  pub counted : number ≡ length before
+  pub passed : ArePassed (fault_at catalogue) bytes number rest before
   pub few : number ≤ 10000
   pub has : table ≡ flat_map (said catalogue) before
-  pub sound : first_fault (fault_at catalogue) [] before ≡ None
 
 module _ (catalogue : CatalogueValue) where
   by_fault : (o : Option TableFault) (x y : List TableLine) → unless o x ≡ Ok y → (o ≡ None) × (x ≡ y)
@@ -45,11 +42,9 @@ module _ (catalogue : CatalogueValue) where
   pub read_none : (bytes : List ℕ) (table : List TableLine) → table ≡ [] → IsReadSoFar catalogue bytes table 0 bytes
   read_none bytes table e = record {
     before = [];
-    whole = refl;
-    counted = refl;
+    passed = none_passed (fault_at catalogue) bytes;
     few = omega arith;
     has = e;
-    sound = no_lines (fault_at catalogue) [];
   }
 
   one_more : (before : List (List ℕ)) (line : List ℕ) → flat_map (said catalogue) (before ++ line ∷ []) ≡ flat_map (said catalogue) before ++ said catalogue line
@@ -60,23 +55,20 @@ module _ (catalogue : CatalogueValue) where
       → lines rest ≡ line ∷ lines others → number + 1 ≤ 10000 → line_in catalogue (number + 1) line ≡ Ok (option_to_list more)
       → next ≡ table ++ option_to_list more → IsReadSoFar catalogue bytes next (number + 1) others
   read_more bytes rest others line table next more number so_far cut few e grown =
-      let taken = line_taken so_far.before line (option_to_list more) (ap (λ (n : ℕ). line_in catalogue (n + 1) line) (sym so_far.counted) ∙ e) in
+      let taken = line_taken so_far.before line (option_to_list more) (ap (λ (n : ℕ). line_in catalogue (n + 1) line) (sym so_far.passed.counted) ∙ e) in
       record {
         before = so_far.before ++ line ∷ [];
-        whole = so_far.whole ∙ ap (λ (l : List (List ℕ)). so_far.before ++ l) cut ∙ sym (append_assoc so_far.before (line ∷ []) (lines others));
-        counted = omega (arith, so_far.counted, length-append so_far.before (line ∷ []));
+        passed = one_passed (fault_at catalogue) bytes rest others line number so_far.before so_far.passed cut taken.0;
         few = few;
         has = grown ∙ (λ i. so_far.has i ++ sym taken.1 i) ∙ sym (one_more so_far.before line);
-        sound = sound_more (fault_at catalogue) so_far.before line so_far.sound taken.0;
       }
 
   fails : (bytes rest others line : List ℕ) (table : List TableLine) (number : ℕ) (f : TableFault) → IsReadSoFar catalogue bytes table number rest
       → lines rest ≡ line ∷ lines others → line_in catalogue (number + 1) line ≡ Err f → table_in catalogue bytes ≡ Err f
   fails bytes rest others line table number f so_far cut e =
-      let refused = line_refused so_far.before line f (ap (λ (n : ℕ). line_in catalogue (n + 1) line) (sym so_far.counted) ∙ e) in
-      let whole = so_far.whole ∙ ap (λ (l : List (List ℕ)). so_far.before ++ l) cut in
+      let refused = line_refused so_far.before line f (ap (λ (n : ℕ). line_in catalogue (n + 1) line) (sym so_far.passed.counted) ∙ e) in
       ap (λ (o : Option TableFault). unless o (flat_map (said catalogue) (lines bytes)))
-      (ap (first_fault (fault_at catalogue) []) whole ∙ faulty (fault_at catalogue) so_far.before (lines others) line f so_far.sound refused)
+      (fault_found (fault_at catalogue) bytes rest others line number so_far.before f so_far.passed cut refused)
 
   -- a line's fault is that of the file
   pub read_fault : (bytes rest others line : List ℕ) (table : List TableLine) (number : ℕ) (f : TableFault) → IsReadSoFar catalogue bytes table number rest
@@ -91,9 +83,9 @@ module _ (catalogue : CatalogueValue) where
 
   pub read_all : (bytes rest : List ℕ) (table : List TableLine) (number : ℕ) → IsReadSoFar catalogue bytes table number rest → lines rest ≡ [] → table_in catalogue bytes ≡ Ok table
   read_all bytes rest table number so_far end =
-      let whole = so_far.whole ∙ ap (λ (l : List (List ℕ)). so_far.before ++ l) end ∙ append-nil so_far.before in
-      ap (λ (o : Option TableFault). unless o (flat_map (said catalogue) (lines bytes))) (ap (first_fault (fault_at catalogue) []) whole ∙ so_far.sound)
-      ∙ ap (λ (l : List TableLine). ok l) (ap (flat_map (said catalogue)) whole ∙ sym so_far.has)
+      let all = all_passed (fault_at catalogue) bytes rest number so_far.before so_far.passed end in
+      ap (λ (o : Option TableFault). unless o (flat_map (said catalogue) (lines bytes))) all.1
+      ∙ ap (λ (l : List TableLine). ok l) (ap (flat_map (said catalogue)) all.0 ∙ sym so_far.has)
 
 -- a fault that is passed on
 pub failed : (answer : Result (List TableLine) TableFault) (f g : TableFault) (wanted : Result (List TableLine) TableFault)

@@ -1,8 +1,8 @@
 -- The first line that passes, by the places of its class and geometry.
-use Rattle.std.proofs.Common.{◌≡◌, ℕ, ◌+◌, Bool, true, false, cond, ◌&&◌, List, [], ◌∷◌, ◌++◌, length, Option, Some, None, refl, sym, ap, ◌∙◌, arith, append_assoc, length-append, position, drop, get_or, suc, ◌<◌, ◌≤◌, drop-cons}
+use Rattle.std.proofs.Common.{◌≡◌, ℕ, ◌+◌, Bool, true, false, cond, ◌&&◌, List, [], ◌∷◌, ◌++◌, length, Bor, Option, Some, None, refl, sym, ap, ◌∙◌, arith, append_assoc, length-append, position, drop, get_or, suc, ◌<◌, ◌≤◌, drop-cons}
 use Rattle.std.specs.Prelude.{slice_get}
 use Rattle.std.specs.List.{position_from}
-use Rattle.std.specs.Option.{option_or}
+use Rattle.std.specs.Option.{option_or, option_copied}
 use Rattle.chart_model.specs.Attrs.{Attrs}
 use Rattle.std.proofs.lemmas.List.{drop_all}
 use Rattle.std.proofs.lemmas.Iterator.Adapters.{position_from-zero}
@@ -62,20 +62,30 @@ module _ (test : TableLine → Bool) (lines : List TableLine) (places : List ℕ
       next : suc i ≡ i + 1
       next = omega arith
 
-  pub place_passes : (line : TableLine) → i < length places → slice_get lines (get_or places i 0) ≡ Some line → test line ≡ true
-      → first_place test lines (drop i places) ≡ Some (get_or places i 0)
-  place_passes line h there passes =
+  -- a line that is looked up at the place and tested decides whether the place is the first
+  tested_here : (looked : Option (Bor TableLine)) (line : Bor TableLine) (passed : Bool) → i < length places → option_copied looked ≡ slice_get lines (get_or places i 0)
+      → looked ≡ Some line → passed ≡ test line.now
+      → first_place test lines (drop i places) ≡ cond passed (Some (get_or places i 0)) (first_place test lines (drop (i + 1) places))
+  tested_here looked line passed h is there tested =
       at_place h
-      ∙ ap (λ (o : Option TableLine). cond (passes_at test o) (Some (get_or places i 0)) (first_place test lines (drop (i + 1) places))) there
+      ∙ ap (λ (o : Option TableLine). cond (passes_at test o) (Some (get_or places i 0)) (first_place test lines (drop (i + 1) places))) (sym is ∙ ap option_copied there)
+      ∙ ap (λ (b : Bool). cond b (Some (get_or places i 0)) (first_place test lines (drop (i + 1) places))) (sym tested)
+
+  -- the line at the place passes, and so the place is the first
+  pub place_passes : (looked : Option (Bor TableLine)) (line : Bor TableLine) (passed : Bool) → i < length places → option_copied looked ≡ slice_get lines (get_or places i 0)
+      → looked ≡ Some line → passed ≡ test line.now → passed ≡ true → first_place test lines (drop i places) ≡ Some (get_or places i 0)
+  place_passes looked line passed h is there tested passes =
+      tested_here looked line passed h is there tested
       ∙ ap (λ (b : Bool). cond b (Some (get_or places i 0)) (first_place test lines (drop (i + 1) places))) passes
 
-  pub place_fails : (line : TableLine) → i < length places → slice_get lines (get_or places i 0) ≡ Some line → test line ≡ false
-      → first_place test lines (drop (i + 1) places) ≡ first_place test lines (drop i places)
-  place_fails line h there fails =
-      sym (at_place h
-      ∙ ap (λ (o : Option TableLine). cond (passes_at test o) (Some (get_or places i 0)) (first_place test lines (drop (i + 1) places))) there
+  -- it fails, and so the first is among the places behind
+  pub place_fails : (looked : Option (Bor TableLine)) (line : Bor TableLine) (passed : Bool) → i < length places → option_copied looked ≡ slice_get lines (get_or places i 0)
+      → looked ≡ Some line → passed ≡ test line.now → passed ≡ false → first_place test lines (drop (i + 1) places) ≡ first_place test lines (drop i places)
+  place_fails looked line passed h is there tested fails =
+      sym (tested_here looked line passed h is there tested
       ∙ ap (λ (b : Bool). cond b (Some (get_or places i 0)) (first_place test lines (drop (i + 1) places))) fails)
 
+  -- no line is at the place, and so the first is among the places behind
   pub place_without_line : i < length places → slice_get lines (get_or places i 0) ≡ None
       → first_place test lines (drop (i + 1) places) ≡ first_place test lines (drop i places)
   place_without_line h absent =

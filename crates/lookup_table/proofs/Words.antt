@@ -9,11 +9,6 @@ use Rattle.object_catalogue.specs.Acronym.{acronym_of}
 use Rattle.lookup_table.specs.declared.written.WrittenCondition.{WrittenCondition}
 use Rattle.lookup_table.specs.Reading.{each, instruction_of, test_of, condition_with, condition_in, condition_of, conditions_of, instructions_of, geom_of, priority_of, written_with, written_in, written_of}
 
--- what a cut says where there is a rest
-pub cut_gives : (c : ℕ) (o : Option (Bor (List ℕ))) (rest : Bor (List ℕ)) (text first : List ℕ) → o ≡ Some rest
-    → IfSome o (λ r. parts_at c text ≡ first ∷ parts_at c r.now) → parts_at c text ≡ first ∷ parts_at c rest.now
-cut_gives c o rest text first e h = subst (λ (x : Option (Bor (List ℕ))). IfSome x (λ r. parts_at c text ≡ first ∷ parts_at c r.now)) e h
-
 -- all that stands behind
 two_sides : (acronym : List ℕ) (parts : List (List ℕ)) → 1 ≤ length parts → condition_in (acronym ∷ parts) ≡ condition_with (acronym_of acronym) (test_of (join_with_byte 61 parts))
 unfolding condition_in

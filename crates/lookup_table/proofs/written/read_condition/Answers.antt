@@ -1,7 +1,8 @@
 use Rattle.std.proofs.Common.{Option, sym, subst, ◌≡◌}
 use Rattle.std.specs.Prelude.{IfOk}
 use Rattle.lookup_table.specs.declared.written.WrittenCondition.{WrittenCondition}
-use Rattle.lookup_table.proofs.Words.{cut_gives, condition_cut}
+use Rattle.text_lines.proofs.Parting.{cut_gives}
+use Rattle.lookup_table.proofs.Words.{condition_cut}
 use Rattle.lookup_table.proofs.written.read_condition.Goals as goal
 
 pub returns-in-Some : goal.returns-in-Some

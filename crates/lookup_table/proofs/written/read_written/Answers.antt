@@ -1,7 +1,8 @@
 use Rattle.std.proofs.Common.{◌≡◌, ℕ, List, ◌∷◌, Option, ap, sym, ◌∙◌, subst}
 use Rattle.std.specs.Prelude.{IfOk}
 use Rattle.lookup_table.specs.declared.written.WrittenLine.{WrittenLine}
-use Rattle.lookup_table.proofs.Words.{cut_gives, line_cut}
+use Rattle.text_lines.proofs.Parting.{cut_gives}
+use Rattle.lookup_table.proofs.Words.{line_cut}
 use Rattle.lookup_table.proofs.written.read_written.Goals as goal
 
 pub returns-in-Some-rest-3 : goal.returns-in-Some-rest-3
