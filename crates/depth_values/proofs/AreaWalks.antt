@@ -1,5 +1,5 @@
 -- A walk over depth areas of which some hold a point.
-use Rattle.std.proofs.Common.{◌≡◌, ℕ, suc, ◌+◌, ◌<◌, ℤ, Bool, true, false, cond, List, [], ◌∷◌, ◌++◌, map, drop, length, get_or, Option, sym, ap, ◌∙◌, append_assoc, add-one, drop-cons}
+use Rattle.std.proofs.Common.{◌≡◌, ℕ, suc, ◌+◌, ◌<◌, ℤ, Bool, true, false, cond, List, [], ◌∷◌, ◌++◌, map, drop, length, get_or, Option, refl, sym, ap, ◌∙◌, append_assoc, add-one, drop-cons}
 use Rattle.std.specs.List.{list_any, fold}
 use Rattle.chart_model.specs.declared.name.Name.{Name}
 use Rattle.plane_geometry.specs.declared.point.Pt.{Pt}
@@ -16,23 +16,66 @@ next_area points areas i area h e =
     rw (add-one, drop-cons areas i area)
     (ap (λ (a : AreaValue). cond (holds points a) (a ∷ holding points (drop (suc i) areas)) (holding points (drop (suc i) areas))) (sym e))
 
-module _ (points : List Pt) (areas : List AreaValue) (i : ℕ) (area : AreaValue) (lt : i < length areas) (is : area ≡ get_or areas i area) where
-  pub name_in : (before all : List Name) → holds points area ≡ true
-      → before ++ map (λ (a : AreaValue). a.name) (holding points (drop i areas)) ≡ all
-      → (before ++ area.name ∷ []) ++ map (λ (a : AreaValue). a.name) (holding points (drop (i + 1) areas)) ≡ all
-  name_in before all t e =
-      append_assoc before (area.name ∷ []) (map (λ (a : AreaValue). a.name) (holding points (drop (i + 1) areas)))
-      ∙ ap (λ (l : List AreaValue). before ++ map (λ (a : AreaValue). a.name) l)
-      (sym (next_area points areas i area lt is ∙ ap (λ (b : Bool). cond b (area ∷ holding points (drop (i + 1) areas)) (holding points (drop (i + 1) areas))) t))
-      ∙ e
+-- whether the area at a place of a list holds one of the points, as it was told
+pub record IsTold (points : List Pt) (areas : List AreaValue) (i : ℕ) (area : AreaValue) (told : Bool) : Type 0 where
+  pub within : i < length areas
+  pub is : area ≡ get_or areas i area
+  pub answer : told ≡ holds points area
 
-  pub left_out : holds points area ≡ false → holding points (drop (i + 1) areas) ≡ holding points (drop i areas)
-  left_out t =
-      sym (next_area points areas i area lt is ∙ ap (λ (b : Bool). cond b (area ∷ holding points (drop (i + 1) areas)) (holding points (drop (i + 1) areas))) t)
+-- an area that was asked for points equal to these
+pub is_told : (points asked : List Pt) (areas : List AreaValue) (i : ℕ) (area : AreaValue) (told : Bool) → i < length areas → area ≡ get_or areas i area
+    → told ≡ holds asked area → asked ≡ points → IsTold points areas i area told
+is_told points asked areas i area told within is answer same = record {
+  within = within;
+  is = is;
+  answer = answer ∙ ap (λ (ps : List Pt). holds ps area) same;
+}
 
-  pub depth_in : (least : Option ℤ) → holds points area ≡ true
-      → fold lesser (lesser least area.d1) (map (λ (a : AreaValue). a.d1) (holding points (drop (i + 1) areas)))
-      ≡ fold lesser least (map (λ (a : AreaValue). a.d1) (holding points (drop i areas)))
-  depth_in least t =
-      ap (λ (l : List AreaValue). fold lesser least (map (λ (a : AreaValue). a.d1) l))
-      (sym (next_area points areas i area lt is ∙ ap (λ (b : Bool). cond b (area ∷ holding points (drop (i + 1) areas)) (holding points (drop (i + 1) areas))) t))
+-- the areas from a place on that hold a point: that area too where this was told, and those behind it
+holding_from : {points : List Pt} {areas : List AreaValue} {i : ℕ} {area : AreaValue} {told : Bool} → IsTold points areas i area told
+    → cond told (area ∷ holding points (drop (i + 1) areas)) (holding points (drop (i + 1) areas)) ≡ holding points (drop i areas)
+holding_from {points} {areas} {i} {area} {told} t =
+    ap (λ (b : Bool). cond b (area ∷ holding points (drop (i + 1) areas)) (holding points (drop (i + 1) areas))) t.answer
+    ∙ sym (next_area points areas i area t.within t.is)
+
+-- what is gathered of areas, where one area more adds to what was gathered before
+module _ {S R : Type 0} (gathered : S → List AreaValue → R) (add : S → AreaValue → S)
+    (adds : (before : S) (area : AreaValue) (rest : List AreaValue) → gathered (add before area) rest ≡ gathered before (area ∷ rest)) where
+  -- an area that holds a point adds to it
+  pub taken_in : {points : List Pt} {areas : List AreaValue} {i : ℕ} {area : AreaValue} {told : Bool} → IsTold points areas i area told → told ≡ true
+      → (before next : S) → next ≡ add before area → gathered next (holding points (drop (i + 1) areas)) ≡ gathered before (holding points (drop i areas))
+  taken_in {points} {areas} {i} {area} {told} t holding_one before next added =
+      ap (λ (s : S). gathered s (holding points (drop (i + 1) areas))) added
+      ∙ adds before area (holding points (drop (i + 1) areas))
+      ∙ ap (gathered before) (ap (λ (b : Bool). cond b (area ∷ holding points (drop (i + 1) areas)) (holding points (drop (i + 1) areas))) (sym holding_one) ∙ holding_from t)
+
+  -- another area leaves it
+  pub left_out : {points : List Pt} {areas : List AreaValue} {i : ℕ} {area : AreaValue} {told : Bool} → IsTold points areas i area told → told ≡ false
+      → (before next : S) → next ≡ before → gathered next (holding points (drop (i + 1) areas)) ≡ gathered before (holding points (drop i areas))
+  left_out {points} {areas} {i} {area} {told} t holding_none before next kept =
+      ap (λ (s : S). gathered s (holding points (drop (i + 1) areas))) kept
+      ∙ ap (gathered before) (ap (λ (b : Bool). cond b (area ∷ holding points (drop (i + 1) areas)) (holding points (drop (i + 1) areas))) (sym holding_none) ∙ holding_from t)
+
+-- names, with those of areas that follow
+abbrev pub with_names : List Name → List AreaValue → List Name
+with_names names areas = names ++ map (λ (a : AreaValue). a.name) areas
+
+-- names with that of one area more
+abbrev pub add_name : List Name → AreaValue → List Name
+add_name names area = names ++ area.name ∷ []
+
+-- the name of an area may be added before those that follow
+pub adds_name : (names : List Name) (area : AreaValue) (rest : List AreaValue) → with_names (add_name names area) rest ≡ with_names names (area ∷ rest)
+adds_name names area rest = append_assoc names (area.name ∷ []) (map (λ (a : AreaValue). a.name) rest)
+
+-- the lesser of a depth and of the least depths of areas that follow
+abbrev pub with_depths : Option ℤ → List AreaValue → Option ℤ
+with_depths least areas = fold lesser least (map (λ (a : AreaValue). a.d1) areas)
+
+-- the lesser of a depth and of the least depth of one area more
+abbrev pub add_depth : Option ℤ → AreaValue → Option ℤ
+add_depth least area = lesser least area.d1
+
+-- the least depth of an area may be taken before those that follow
+pub adds_depth : (least : Option ℤ) (area : AreaValue) (rest : List AreaValue) → with_depths (add_depth least area) rest ≡ with_depths least (area ∷ rest)
+adds_depth least area rest = refl
