@@ -1,11 +1,11 @@
 -- How far a route is read.
-use Rattle.std.proofs.Common.{◌≡◌, ℕ, ◌+◌, ◌<◌, ◌≤◌, Bool, true, false, cond, List, [], ◌∷◌, ◌++◌, length, Option, None, Some, refl, sym, ap, ◌∙◌, subst, append_assoc, append-nil, length-append, arith}
+use Rattle.std.proofs.Common.{◌≡◌, ℕ, ◌+◌, ◌<◌, ◌≤◌, Bool, true, false, cond, List, [], ◌∷◌, ◌++◌, length, Option, None, Some, refl, sym, ap, ◌∙◌, subst, arith}
 use Rattle.std.specs.Prelude.{Result, Ok, Err, filter}
 use Rattle.std.specs.List.{filter_map, cons_option}
 use Rattle.std.specs.Str.Lines.{lines}
 use Rattle.chart_model.specs.Answers.{◌>>=◌, unless, FailsBy}
 use Rattle.text_lines.specs.Reading.{first_fault}
-use Rattle.text_lines.proofs.FirstFaults.{sound_more, faulty, no_lines}
+use Rattle.text_lines.proofs.LinesSoFar.{ArePassed, none_passed, one_passed, fault_found, all_passed}
 use Rattle.route_check.specs.declared.route.Route.{Route}
 use Rattle.route_check.specs.declared.draft.Draft.{Draft}
 use Rattle.route_check.specs.declared.fault.RouteFault.{RouteFault}
@@ -19,22 +19,18 @@ use Rattle.route_check.proofs.Drafts.{HasBox, kept, line_taken, line_refused, fi
 -- the lines before the rest are sound, and say what the draft has
 pub record IsReadSoFar (bytes : List ℕ) (draft : Draft) (number : ℕ) (rest : List ℕ) : Type 0 where
   pub before : List (List ℕ)
-  pub whole : lines bytes ≡ before ++ lines rest
-  pub counted : number ≡ length before
+  pub passed : ArePassed fault_at bytes number rest before
   pub room : number + length rest ≤ length bytes
   pub drafted : draft ≡ draft_of (saying before)
   pub boxed : HasBox (saying before)
-  pub sound : first_fault fault_at [] before ≡ None
 
 pub read_none : (bytes : List ℕ) (draft : Draft) → draft ≡ draft_of [] → IsReadSoFar bytes draft 0 bytes
 read_none bytes draft e = record {
   before = [];
-  whole = refl;
-  counted = refl;
+  passed = none_passed fault_at bytes;
   room = omega arith;
   drafted = e;
   boxed = tt;
-  sound = no_lines fault_at [];
 }
 
 pub is_kept : (bytes rest : List ℕ) (draft : Draft) (number : ℕ) → IsReadSoFar bytes draft number rest → KeepsFirstPoints draft
@@ -66,14 +62,14 @@ pub is_counted : (bytes rest : List ℕ) (draft : Draft) (number : ℕ) → IsRe
 is_counted bytes rest draft number so_far =
     let count : draft.count ≡ length (points_on (saying so_far.before)) = ap (λ (d : Draft). d.count) so_far.drafted in
     let said : length (saying so_far.before) ≤ length so_far.before = length-filter-le _ so_far.before in
-    omega (arith, count, said, length-points_on (saying so_far.before), so_far.counted)
+    omega (arith, count, said, length-points_on (saying so_far.before), so_far.passed.counted)
 
 -- ---- one more line
 
 -- a line that was taken, as the draft has it
 on_draft : (bytes rest line : List ℕ) (draft : Draft) (number : ℕ) (so_far : IsReadSoFar bytes draft number rest)
     → line_in (draft_of (saying so_far.before)) (length so_far.before + 1) line ≡ line_in draft (number + 1) line
-on_draft bytes rest line draft number so_far = λ i. line_in (sym so_far.drafted i) (sym so_far.counted i + 1) line
+on_draft bytes rest line draft number so_far = λ i. line_in (sym so_far.drafted i) (sym so_far.passed.counted i + 1) line
 
 pub read_more : (bytes rest others line : List ℕ) (draft next : Draft) (number : ℕ) → IsReadSoFar bytes draft number rest
     → lines rest ≡ line ∷ lines others → length others < length rest → line_in draft (number + 1) line ≡ Ok next → IsReadSoFar bytes next (number + 1) others
@@ -81,12 +77,10 @@ read_more bytes rest others line draft next number so_far cut shorter e =
     let taken = line_taken so_far.before line next so_far.boxed (on_draft bytes rest line draft number so_far ∙ e) in
     record {
       before = so_far.before ++ line ∷ [];
-      whole = so_far.whole ∙ ap (λ (l : List (List ℕ)). so_far.before ++ l) cut ∙ sym (append_assoc so_far.before (line ∷ []) (lines others));
-      counted = omega (arith, so_far.counted, length-append so_far.before (line ∷ []));
+      passed = one_passed fault_at bytes rest others line number so_far.before so_far.passed cut taken.sound;
       room = omega (arith, so_far.room, shorter);
       drafted = taken.drafted;
       boxed = taken.boxed;
-      sound = sound_more fault_at so_far.before line so_far.sound taken.sound;
     }
 
 -- ---- the whole file
@@ -99,9 +93,8 @@ fails : (bytes rest others line : List ℕ) (draft : Draft) (number : ℕ) (f : 
     → lines rest ≡ line ∷ lines others → line_in draft (number + 1) line ≡ Err f → route_in bytes ≡ Err f
 fails bytes rest others line draft number f so_far cut e =
     let refused = line_refused so_far.before line f so_far.boxed (on_draft bytes rest line draft number so_far ∙ e) in
-    let whole = so_far.whole ∙ ap (λ (l : List (List ℕ)). so_far.before ++ l) cut in
     in_parts bytes (Some f) (lines bytes)
-    (ap (first_fault fault_at []) whole ∙ faulty fault_at so_far.before (lines others) line f so_far.sound refused) refl
+    (fault_found fault_at bytes rest others line number so_far.before f so_far.passed cut refused) refl
 
 -- a line's fault is that of the file
 pub read_fault : (bytes rest others line : List ℕ) (draft : Draft) (number : ℕ) (f : RouteFault) → IsReadSoFar bytes draft number rest
@@ -113,9 +106,9 @@ read_fault bytes rest others line draft number NoMemory so_far cut h = h
 
 read_all : (bytes rest : List ℕ) (draft : Draft) (number : ℕ) → IsReadSoFar bytes draft number rest → lines rest ≡ [] → finished draft ≡ route_in bytes
 read_all bytes rest draft number so_far end =
-    let whole = so_far.whole ∙ ap (λ (l : List (List ℕ)). so_far.before ++ l) end ∙ append-nil so_far.before in
+    let all = all_passed fault_at bytes rest number so_far.before so_far.passed end in
     ap finished so_far.drafted ∙ finished-draft_of (saying so_far.before)
-    ∙ sym (in_parts bytes None so_far.before (ap (first_fault fault_at []) whole ∙ so_far.sound) whole)
+    ∙ sym (in_parts bytes None so_far.before all.1 all.0)
 
 -- an answer without want of memory
 answers : (answer : Result Route RouteFault) → Answers answer answer

@@ -1,24 +1,21 @@
 -- A line is a box or a point as it is spelled.
-use Rattle.std.proofs.Common.{◌≡◌, ◌≢◌, ℕ, ◌<◌, ◌≤◌, Bool, true, false, cond, eqb, Bor, List, [], ◌∷◌, length, Option, Some, None, refl, sym, ap, ◌∙◌, subst, arith, ◌↔◌, inl, inr}
-use Rattle.std.specs.Prelude.{codes, nat_le, IfSome, option_and_then, ℤ, pos, neg_ℤ, ◌≤ℤ◌, unsigned_abs}
-use Rattle.std.specs.List.{All, join_with_byte}
+use Rattle.std.proofs.Common.{◌≡◌, ◌≢◌, ℕ, ◌≤◌, Bool, true, false, cond, eqb, List, [], ◌∷◌, length, Option, Some, None, refl, sym, ap, ◌∙◌, subst, arith, ◌↔◌, inl, inr}
+use Rattle.std.specs.Prelude.{codes, nat_le, option_and_then, ℤ, pos, neg_ℤ, ◌≤ℤ◌, unsigned_abs}
+use Rattle.std.specs.List.{join_with_byte}
 use Rattle.std.specs.Str.{bytes_eq}
-use Rattle.std.specs.Char.{digit_value}
-use Rattle.std.specs.Str.Parse.{AllDigits}
 use Rattle.std.proofs.lemmas.Bool.{leb-true, le-leb}
 use Rattle.std.proofs.lemmas.Int.{ints}
 use Rattle.std.proofs.lemmas.List.Elements.{All-nil, All-cons}
 use Rattle.std.proofs.lemmas.List.Splits.{length-slice_split}
 use Rattle.std.proofs.lemmas.Slice.Eq.{bytes_eq-Decides}
-use Rattle.std.proofs.lemmas.Str.Parse.{digit_from_value}
 use Rattle.common_lemmas.proofs.Choices.{some_is}
-use Rattle.text_scan.specs.Number.{IsNumber, value_of, number_of, SpellsSigned, signed_of}
+use Rattle.text_scan.specs.Number.{number_of, SpellsSigned, signed_of}
 use Rattle.text_lines.specs.Lines.{parts_at, Lacks}
 use Rattle.plane_geometry.specs.declared.point.Pt.{Pt}
 use Rattle.route_check.specs.declared.line.HalfWidths.{HalfWidths}
 use Rattle.route_check.specs.RouteLine.{SpellsHalfWidth, SpellsBox, SpellsCoordinate, SpellsPoint, half_width_of, coordinate_of, widths_with, box_with, box_in, box_of, point_with, point_in, point_of}
 use Rattle.text_scan.proofs.Numbers.{NumbersAreSpelled}
-use Rattle.text_lines.proofs.Parting.{PartsAreFound, PartsAreJoined}
+use Rattle.text_lines.proofs.Parting.{PartsAreFound, PartsAreJoined, digits_lack}
 
 -- what the laws of the crates below say of numbers and of parts
 abbrev pub SignedAreSpelled : Type 0
@@ -77,13 +74,6 @@ coordinate_told spelled most text z s =
     ∙ ap (λ (b : Bool). cond b (Some z) None) (le-leb (unsigned_abs z) most (near-to z most s.low s.high))
 
 -- ---- texts without a space
-
-digit_no_space : (byte : ℕ) → digit_value byte < 10 → byte ≢ 32
-digit_no_space byte h = let r = digit_from_value byte h in omega arith
-
-digits_lack : (text : List ℕ) → AllDigits 10 text → Lacks 32 text
-digits_lack [] h = All-nil (λ b. b ≢ 32)
-digits_lack (c ∷ cs) h = All-cons (λ b. b ≢ 32) c cs (digit_no_space c h.0) (digits_lack cs h.1)
 
 signed_lacks : (text : List ℕ) (z : ℤ) → SpellsSigned text z → Lacks 32 text
 signed_lacks text z (inl s) = digits_lack text s.0.0.1
@@ -198,11 +188,6 @@ spelled_point spelled found line p s =
     ∙ two s.x_text s.y_text p.x p.y (coordinate_told spelled 1800000000 s.x_text p.x s.x_spelled) (coordinate_told spelled 900000000 s.y_text p.y s.y_spelled)
 
 -- ---- a line, word by word
-
--- what a cut says where there is a rest
-pub cut_gives : (o : Option (Bor (List ℕ))) (rest : Bor (List ℕ)) (text first : List ℕ) → o ≡ Some rest
-    → IfSome o (λ r. parts_at 32 text ≡ first ∷ parts_at 32 r.now) → parts_at 32 text ≡ first ∷ parts_at 32 rest.now
-cut_gives o rest text first e h = subst (λ (x : Option (Bor (List ℕ))). IfSome x (λ r. parts_at 32 text ≡ first ∷ parts_at 32 r.now)) e h
 
 some_part : (text : List ℕ) → 1 ≤ length (parts_at 32 text)
 some_part text = omega (arith, length-slice_split (λ b. eqb b 32) text)
