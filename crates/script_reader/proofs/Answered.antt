@@ -8,8 +8,9 @@ use Rattle.script_reader.specs.declared.event.Event.{Event}
 use Rattle.script_reader.specs.declared.event.Event.TheVariants.{Info, Load, Rollback, Drop, Cells, Draw, Route, Make, Reissue}
 use Rattle.script_reader.specs.declared.fault.LineFault.{LineFault}
 use Rattle.script_reader.specs.declared.fault.LineFault.TheVariants.{BadLine, NoMemory}
-use Rattle.script_reader.specs.Line.{AskFor, NamesFile, Spells, IsSilent, IsBad}
-use Rattle.script_reader.specs.Reading.{words_of, event_of, is_silent, event_or_bad, event_in, Answers}
+use Rattle.script_reader.specs.Line.{AskFor, NamesFile, Spells, IsBad}
+use Rattle.script_reader.specs.Reading.{words_of, event_of, event_or_bad, event_in, Answers}
+use Rattle.text_lines.specs.Lines.{IsSilent, is_silent}
 use Rattle.script_reader.proofs.WordTests.{KeysAreTested}
 use Rattle.script_reader.proofs.Events.{found, given, spelled_short}
 

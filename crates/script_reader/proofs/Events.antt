@@ -18,7 +18,8 @@ use Rattle.script_reader.specs.declared.event.Event.TheVariants.{Info, Load, Rol
 use Rattle.script_reader.specs.Line.{AreInRange, AskFor, CanBeMade, NamesFile, Spells}
 use Rattle.script_reader.specs.Reading.{words_of, info_in, load_in, rollback_in, drop_in, draw_in, route_in, can_be_made, make_with, make_in, reissue_in, event_alone, event_with_one, event_with_two, event_of}
 use Rattle.script_reader.proofs.WordTests.{KeysAreTested, Decides-word, Decides-short, Decides-made, no_short}
-use Rattle.script_reader.proofs.Parting.{visible_unparted, digits_unparted, tested_unparted, split_one, split_two, split_three}
+use Rattle.text_lines.proofs.Parting.{digits_lack, one_part}
+use Rattle.script_reader.proofs.Parting.{visible_lack, tested_lack, split_two, split_three}
 
 -- ---- from words to what they ask for
 
@@ -171,32 +172,32 @@ asked_again tested Cells words a = ap event_of a
 pub split_again : (event : Event) (words : List (List ℕ)) → AskFor event words → words_of (join_with_byte 32 words) ≡ words
 split_again (Info name) words a =
     ap (λ (w : List (List ℕ)). words_of (join_with_byte 32 w)) a.0
-    ∙ split_two (codes "info") name (tested_unparted (codes "info") refl) (visible_unparted name a.1.visible) ∙ sym a.0
+    ∙ split_two (codes "info") name (tested_lack (codes "info") refl) (visible_lack name a.1.visible) ∙ sym a.0
 split_again (Load name) words a =
     ap (λ (w : List (List ℕ)). words_of (join_with_byte 32 w)) a.0
-    ∙ split_two (codes "load") name (tested_unparted (codes "load") refl) (visible_unparted name a.1.visible) ∙ sym a.0
+    ∙ split_two (codes "load") name (tested_lack (codes "load") refl) (visible_lack name a.1.visible) ∙ sym a.0
 split_again (Rollback cell update) words a =
     ap (λ (w : List (List ℕ)). words_of (join_with_byte 32 w)) a.spoken
-    ∙ split_three (codes "rollback") cell a.digits (tested_unparted (codes "rollback") refl) (visible_unparted cell a.key.visible) (digits_unparted a.digits a.short.0.1)
+    ∙ split_three (codes "rollback") cell a.digits (tested_lack (codes "rollback") refl) (visible_lack cell a.key.visible) (digits_lack a.digits a.short.0.1)
     ∙ sym a.spoken
 split_again (Drop cell) words a =
     ap (λ (w : List (List ℕ)). words_of (join_with_byte 32 w)) a.0
-    ∙ split_two (codes "drop") cell (tested_unparted (codes "drop") refl) (visible_unparted cell a.1.visible) ∙ sym a.0
+    ∙ split_two (codes "drop") cell (tested_lack (codes "drop") refl) (visible_lack cell a.1.visible) ∙ sym a.0
 split_again (Draw cell) words a =
     ap (λ (w : List (List ℕ)). words_of (join_with_byte 32 w)) a.0
-    ∙ split_two (codes "draw") cell (tested_unparted (codes "draw") refl) (visible_unparted cell a.1.visible) ∙ sym a.0
+    ∙ split_two (codes "draw") cell (tested_lack (codes "draw") refl) (visible_lack cell a.1.visible) ∙ sym a.0
 split_again (Route name) words a =
     ap (λ (w : List (List ℕ)). words_of (join_with_byte 32 w)) a.0
-    ∙ split_two (codes "route") name (tested_unparted (codes "route") refl) (visible_unparted name a.1.visible) ∙ sym a.0
+    ∙ split_two (codes "route") name (tested_lack (codes "route") refl) (visible_lack name a.1.visible) ∙ sym a.0
 split_again (Make areas update) words a =
     ap (λ (w : List (List ℕ)). words_of (join_with_byte 32 w)) a.spoken
-    ∙ split_three (codes "make") a.area_digits a.update_digits (tested_unparted (codes "make") refl) (digits_unparted a.area_digits a.areas_short.0.1) (digits_unparted a.update_digits a.update_short.0.1)
+    ∙ split_three (codes "make") a.area_digits a.update_digits (tested_lack (codes "make") refl) (digits_lack a.area_digits a.areas_short.0.1) (digits_lack a.update_digits a.update_short.0.1)
     ∙ sym a.spoken
 split_again (Reissue cell) words a =
     ap (λ (w : List (List ℕ)). words_of (join_with_byte 32 w)) a.0
-    ∙ split_two (codes "reissue") cell (tested_unparted (codes "reissue") refl) (visible_unparted cell a.1.visible) ∙ sym a.0
+    ∙ split_two (codes "reissue") cell (tested_lack (codes "reissue") refl) (visible_lack cell a.1.visible) ∙ sym a.0
 split_again Cells words a =
-    ap (λ (w : List (List ℕ)). words_of (join_with_byte 32 w)) a ∙ split_one (codes "cells") (tested_unparted (codes "cells") refl) ∙ sym a
+    ap (λ (w : List (List ℕ)). words_of (join_with_byte 32 w)) a ∙ one_part 32 (codes "cells") (tested_lack (codes "cells") refl) ∙ sym a
 
 pub given : KeysAreTested → (line : List ℕ) (event : Event) → Spells line event → event_of (words_of line) ≡ Some event
 given tested line event s =

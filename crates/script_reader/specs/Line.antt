@@ -3,6 +3,7 @@ use Rattle.std.specs.Prelude.{◌≡◌, ◌≤◌, ℕ, List, [], ◌∷◌, co
 use Rattle.std.specs.Int.{IsInRange}
 use Rattle.std.specs.List.{join_with_byte}
 use Rattle.chart_model.specs.Key.{IsKey}
+use Rattle.text_lines.specs.Lines.{IsSilent}
 use Rattle.text_scan.specs.Number.{value_of}
 use Rattle.script_reader.specs.Word.{IsWord}
 use Rattle.script_reader.specs.Number.{IsShortNumber}
@@ -76,12 +77,7 @@ pub record Spells (line : List ℕ) (event : Event) : Type 0 where
   pub asking : AskFor event words
   pub parted : line ≡ join_with_byte 32 words
 
--- a line to which nothing is replied: an empty one, or a remark, which begins with `#`
-abbrev pub IsSilent : List ℕ → Type 0
-IsSilent [] = ⊤
-IsSilent (first ∷ rest) = first ≡ 35
-
--- a line with a reply, that asks for nothing
+-- A line with a reply, that asks for nothing. To a silent one, which is empty or begins with `#`, nothing is replied.
 pub record IsBad (line : List ℕ) : Type 0 where
   pub speaks : ¬ IsSilent line
   pub asks_nothing : (event : Event) → ¬ Spells line event

@@ -1,9 +1,9 @@
 -- What a line asks for, as a function.
-use Rattle.std.specs.Prelude.{◌≡◌, ℕ, nat_le, Bool, true, ◌&&◌, ◌==◌, if◌then◌else◌, List, [], ◌∷◌, codes}
+use Rattle.std.specs.Prelude.{◌≡◌, ℕ, nat_le, Bool, ◌&&◌, if◌then◌else◌, List, [], ◌∷◌, codes}
 use Rattle.std.specs.Prelude.{Option, Some, None, Result, Ok, Err}
-use Rattle.std.specs.List.{slice_split}
 use Rattle.std.specs.Str.{bytes_eq}
 use Rattle.chart_model.specs.Key.{is_key}
+use Rattle.text_lines.specs.Lines.{is_silent, parts_at}
 use Rattle.text_scan.specs.Number.{value_of}
 use Rattle.script_reader.specs.Word.{is_word}
 use Rattle.script_reader.specs.Number.{is_short_number}
@@ -16,7 +16,7 @@ use Rattle.script_reader.specs.declared.fault.LineFault.TheVariants.{BadLine, No
 
 -- what is between the spaces of a line
 abbrev pub words_of : List ℕ → List (List ℕ)
-words_of line = slice_split (λ byte. byte == 32) line
+words_of line = parts_at 32 line
 
 -- each verb's event, by the words that it takes
 abbrev pub info_in : List ℕ → Option Event
@@ -78,11 +78,6 @@ event_of (verb ∷ []) = event_alone verb
 event_of (verb ∷ word ∷ []) = event_with_one verb word
 event_of (verb ∷ first ∷ second ∷ []) = event_with_two verb first second
 event_of (verb ∷ first ∷ second ∷ third ∷ more) = None
-
--- an empty line and a remark say nothing
-abbrev pub is_silent : List ℕ → Bool
-is_silent [] = true
-is_silent (first ∷ rest) = first == 35
 
 -- any other line asks for an event, or is the bad line of this number
 abbrev pub event_or_bad : ℕ → Option Event → Result (Option Event) LineFault

@@ -9,15 +9,19 @@ ghost use Rattle.script_reader.specs.Reading.{make_in, make_with, reissue_in};
 ghost use Rattle.script_reader.specs.Reading.{words_of, event_alone, event_with_one, event_with_two, event_of};
 
 use crate::word::Word;
-use crate::words::{cut_word, read_short};
+use crate::words::read_short;
 use chart_model::{Key, keys_are_tested};
 use std::alloc::{AllocError, Global};
+use text_lines::cut_part;
 
 /// The most areas of a cell that is made.
 const MOST_AREAS: u32 = 20_000;
 
 /// The last update of such a cell.
 const LAST_UPDATE: u32 = 999;
+
+/// What parts the words of a line.
+const SPACE: u8 = b' ';
 
 /// What a line of the script asks for.
 #[derive(Debug, Drop)]
@@ -187,15 +191,15 @@ pub fn event_on(alloc: Global, text: &[u8]) -> Result<Option<Event>, AllocError>
     ensures memory { OnErr result ((event : EventValue) ×
         (event_of (words_of text.now) ≡ Some event) × NamesFile event) }
 {
-    let (verb, rest) = cut_word(text);
+    let (verb, rest) = cut_part(text, SPACE);
     let Some(rest) = rest else {
         return Ok(event_alone(verb));
     };
-    let (first, rest) = cut_word(rest);
+    let (first, rest) = cut_part(rest, SPACE);
     let Some(rest) = rest else {
         return event_with_one(alloc, verb, first);
     };
-    let (second, rest) = cut_word(rest);
+    let (second, rest) = cut_part(rest, SPACE);
     match rest {
         Some(_) => Ok(None),
         None => Ok(event_with_two(verb, first, second)),

@@ -4,7 +4,8 @@ ghost use Rattle.std.specs.Prelude.{◌≡◌, ◌↔◌, ◌<◌, ◌≤◌, �
 ghost use Rattle.script_reader.specs.declared.event.Event.{Event};
 ghost use Rattle.script_reader.specs.declared.fault.LineFault.{LineFault};
 ghost use Rattle.script_reader.specs.declared.fault.LineFault.TheVariants.{BadLine};
-ghost use Rattle.script_reader.specs.Line.{AreInRange, Spells, IsSilent, IsBad};
+ghost use Rattle.script_reader.specs.Line.{AreInRange, Spells, IsBad};
+ghost use Rattle.text_lines.specs.Lines.{IsSilent};
 ghost use Rattle.script_reader.specs.Reading.{event_in};
 ghost use Rattle.script_reader.specs.Reply.{printed};
 ghost use Rattle.script_reader.specs.declared.reply.Reply.{Reply};

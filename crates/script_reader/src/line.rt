@@ -3,20 +3,15 @@
 ghost use Rattle.std.specs.Prelude.{◌≡◌, ◌↔◌, ◌<◌, ◌≢◌, length, Some, None, Ok, Err};
 ghost use Rattle.script_reader.specs.declared.event.Event.{Event as EventValue};
 ghost use Rattle.script_reader.specs.declared.fault.LineFault.TheVariants.{BadLine, NoMemory};
-ghost use Rattle.script_reader.specs.Line.{AreInRange, Spells, IsSilent, IsBad, NamesFile};
-ghost use Rattle.script_reader.specs.Reading.{is_silent, event_in, Answers};
+ghost use Rattle.script_reader.specs.Line.{AreInRange, Spells, IsBad, NamesFile};
+ghost use Rattle.script_reader.specs.Reading.{event_in, Answers};
+ghost use Rattle.text_lines.specs.Lines.{IsSilent};
 
 use crate::event::{Event, event_on};
 use crate::fault::LineFault;
 use crate::laws::{lines_are_read, long_lines_are_read_by_their_front};
 use std::alloc::Global;
-
-/// Whether nothing is replied to the line: it is empty, or a remark, which begins with `#`.
-fn is_silent(line: &[u8]) -> bool
-    ensures { result ≡ is_silent line.now }
-{
-    line.is_empty() || line[0] == b'#'
-}
+use text_lines::is_silent;
 
 /// What the line asks for, as the function on lists has it.
 fn read(alloc: Global, line: &[u8], number: u64) -> Result<Option<Event>, LineFault>
