@@ -173,7 +173,7 @@ impl<V: Drop> NameMap<V> {
 
     /// Puts a value under a name, in place of what was there, with the number of entries that there are then. Where
     /// there is no memory nothing changes.
-    fn put(&mut self, name: Name, value: V, count: usize) -> Result<(), AllocError>
+    fn insert_counted(&mut self, name: Name, value: V, count: usize) -> Result<(), AllocError>
         requires { count ≡ map.len (map.insert self.old name value) }
         ensures ok { OnOk result (self.new ≡ map.insert self.old name value) }
         ensures err { OnErr result (self.new ≡ self.old) }
@@ -190,7 +190,7 @@ impl<V: Drop> NameMap<V> {
         ensures err { OnErr result (self.new ≡ self.old) }
     {
         let count = self.count_with(name)?;
-        self.put(name, value, count)
+        self.insert_counted(name, value, count)
     }
 
     /// Puts a value under a name that has none, which spares a look-up. Where there is no memory nothing changes.
@@ -200,7 +200,7 @@ impl<V: Drop> NameMap<V> {
         ensures err { OnErr result (self.new ≡ self.old) }
     {
         let count = self.one_more()?;
-        self.put(name, value, count)
+        self.insert_counted(name, value, count)
     }
 
     /// Takes out the value under a name, where there is one. Where there is no memory nothing changes.

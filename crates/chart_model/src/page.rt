@@ -10,7 +10,7 @@ ghost use Rattle.chart_model.specs.Names.{name_cmp, edited_in};
 
 use crate::name::Name;
 use crate::name_map::Edit;
-use crate::page_map::NUMBERS;
+use crate::page_map::NUMBERS_PER_PAGE;
 use std::alloc::{AllocError, Global};
 use std::marker::Model;
 
@@ -40,7 +40,7 @@ fn guess<V>(entries: &[(Name, V)], name: Name) -> Option<usize>
     ensures bound { IfSome result (λ place. place < length entries.now) }
     ensures found { IfSome result (HoldsAt (λ entry. name_cmp entry.0 name ≡ Equal) entries.now) }
 {
-    let place = (name.rcid % NUMBERS) as usize;
+    let place = (name.rcid % NUMBERS_PER_PAGE) as usize;
     let entry = entries.get(place)?;
     if entry.0 == name { Some(place) } else { None }
 }

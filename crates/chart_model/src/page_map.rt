@@ -16,9 +16,9 @@ use std::marker::Model;
 use std::rc::Rc;
 
 /// How many numbers share a page.
-pub const NUMBERS: u32 = 64;
+pub const NUMBERS_PER_PAGE: u32 = 64;
 
-/// The name of a page: the kind of its records, and their numbers divided by [`NUMBERS`].
+/// The name of a page: the kind of its records, and their numbers divided by [`NUMBERS_PER_PAGE`].
 #[derive(Clone, Copy, Debug, PartialEq, Eq, PartialOrd, Ord)]
 pub struct PageName {
     rcnm: u8,
@@ -32,7 +32,7 @@ impl PageName {
     {
         PageName {
             rcnm: name.rcnm,
-            number: name.rcid / NUMBERS,
+            number: name.rcid / NUMBERS_PER_PAGE,
         }
     }
 }

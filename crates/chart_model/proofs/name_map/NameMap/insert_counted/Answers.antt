@@ -1,6 +1,6 @@
 use Rattle.std.proofs.Common.{ap, sym, ◌∙◌}
 use Rattle.std.specs.FinMap as map
-use Rattle.chart_model.proofs.name_map.NameMap.put.Goals as goal
+use Rattle.chart_model.proofs.name_map.NameMap.insert_counted.Goals as goal
 
 pub invariant_of-self-2 : goal.invariant_of-self-2
 invariant_of-self-2 g c = record {
