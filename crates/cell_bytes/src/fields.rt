@@ -11,7 +11,8 @@ use std::mem;
 /// What the leader of a record says beside lengths.
 #[derive(Clone, Copy, Debug)]
 pub(crate) struct Kind {
-    /// The interchange level, the leader identifier, and what stands up to the base address.
+    /// Leader bytes 5 to 11 (ISO/IEC 8211): interchange level, leader identifier, in-line code extension indicator,
+    /// version number, application indicator, field control length.
     pub(crate) identification: [u8; 7],
     /// The indicator of the extended character set.
     pub(crate) character_set: [u8; 3],

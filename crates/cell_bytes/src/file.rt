@@ -21,7 +21,7 @@ use crate::records::{draft_feature, draft_general, draft_parameters, draft_vecto
 use chart_model::{Cell, Feature, Name, Octets, Vector};
 use std::alloc::{AllocError, Global};
 
-/// The most bytes of a record.
+/// The most bytes of a record: its length has five digits in the leader (ISO/IEC 8211).
 const RECORD_LIMIT: usize = 99_999;
 
 /// A file in the making: its bytes so far, and the number of the data record that comes next, modulo 65,536.

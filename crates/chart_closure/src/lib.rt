@@ -1,4 +1,7 @@
-//! Whether a chart is closed: its records point to each other as they must, and its areas have rings.
+//! Whether a chart is closed (S-57 Part 3, chain-node topology).
+//!
+//! Each spatial pointer (VRPT, FSPT) names a record of the cell of a kind that may stand there; each edge has one begin
+//! node and one end node, with coordinates; each area has rings. References between features (FFPT) aren't looked at.
 #![tactic(auto)]
 
 mod closure;

@@ -16,7 +16,7 @@ use update_sequence::{BuildFault, ReadFault, SequenceFault};
 pub enum TakeFault {
     /// It is refused.
     Refused(Refusal),
-    /// There was no memory.
+    /// There was no memory, or a limit on the work for one file was passed.
     NoMemory,
 }
 

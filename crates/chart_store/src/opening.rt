@@ -25,9 +25,10 @@ use command_codec::commands_are_spelled;
 use std::alloc::Global;
 use std::sync::ledger::Ledger;
 
-/// The number of the head's file, and that of bank 1.
+/// The number of the head's file.
 const HEAD: u8 = 0;
 
+/// The number of the file that bank 1 is.
 const BANK: u8 = 1;
 
 /// Brings each file to the disk: a crash then leaves what a read gives.
@@ -69,7 +70,7 @@ fn open_head<D: Desk>(desk: &mut D) -> Result<(), OpenFault>
     Ok(())
 }
 
-/// Opens bank 1, where the head names it.
+/// Opens bank 1, which an empty head names; no other head is written.
 fn open_current<D: Desk>(alloc: Global, desk: &mut D) -> Result<(Bank, BankContent), OpenFault>
     ensures head { IsTrue D.tells → OnOk result (D.contents desk.old 0 ≡ []) }
     ensures content { IsTrue D.tells → IfOk result (λ opened. bank_of (D.contents desk.old 1) ≡ Ok opened.1) }

@@ -16,7 +16,7 @@ pub enum SubmitFault {
     /// A call of the desk failed. The store is used no more, and has to be opened again: it then holds what was held
     /// before the command, or what the command leaves.
     DeskFault,
-    /// There was no memory.
+    /// There was no memory, or a limit on the work for one file was passed.
     NoMemory,
 }
 

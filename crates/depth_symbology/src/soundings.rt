@@ -73,7 +73,8 @@ pub fn push_soundg02(
 ) -> Result<(), AllocError>
     ensures { OnOk result (items.new ≡ items.old ++ soundg02_of cell.now settings.now feature.now) }
 {
-    // The depths of a cell's records are those that a sounding can have.
+    // A cell is known to be one where a field of it is read: its depths are then within 9,999,999 cm, as `push_digits`
+    // needs.
     let _ = &cell.vectors;
     let shape = feature_shape(alloc, cell, feature)?;
     push_shape(alloc, items, settings, shape)

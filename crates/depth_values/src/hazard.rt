@@ -15,7 +15,7 @@ use area_rings::{Shape, feature_shape};
 use chart_model::{Cell, Feature};
 use std::alloc::{AllocError, Global};
 
-/// The greatest depth that a sounding can have, in centimetres, and the least above the water.
+/// The most that a sounding may lie below or above the datum, in centimetres: five digits of metres are drawn.
 const DEEPEST: u32 = 9_999_999;
 
 /// The depth of a hazard of which nothing is known: it dries 15 metres.

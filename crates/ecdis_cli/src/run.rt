@@ -42,7 +42,7 @@ use std::sync::ledger::Ledger;
 /// the script line by line. Each reply is said before the next line is run.
 ///
 /// `words` are those of the command line, the program's name first. The files that words and lines name are those of
-/// the shelf. `steps` counts the data records that are decoded.
+/// the shelf. `steps` counts the data records that are come to, and the features of each chart that is drawn.
 pub fn run_ecdis<S: Source, L: Shelf, D: Desk, C: Ledger>(
     alloc: Global,
     words: &[String],

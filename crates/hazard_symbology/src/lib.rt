@@ -1,4 +1,4 @@
-//! Conditional procedures of hazards: obstructions, underwater rocks and wrecks.
+//! Conditional symbology procedures (IHO S-52, `CS`) of hazards: obstructions, underwater rocks and wrecks.
 //!
 //! The rules, and the names of colours, patterns, styles and symbols, are this project's own, in the manner of IHO
 //! S-52; they are those of no edition of it. Depths are whole centimetres.

@@ -5,7 +5,7 @@ ghost use Rattle.lookup_table.specs.Named.{procedure_of, instruction_in};
 
 use chart_model::{Octets, Sequence};
 
-/// A conditional procedure: what it draws depends on the object and on what lies around it.
+/// A conditional symbology procedure (IHO S-52, `CS`): what it draws depends on the object and on what lies around it.
 #[derive(Clone, Copy, Debug, PartialEq, Eq)]
 pub enum Procedure {
     /// Depth areas.

@@ -22,7 +22,7 @@ pub enum Kind {
 #[derive(Clone, Copy, Debug, PartialEq, Eq)]
 pub struct Entry {
     pub kind: Kind,
-    /// 1 to 65,535.
+    /// The code in OBJL or ATTL: 1 to 65,535 (S-57 Appendix A).
     pub code: u16,
     pub acronym: Acronym,
 }

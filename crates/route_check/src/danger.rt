@@ -9,7 +9,7 @@ pub struct Danger {
     pub leg: u32,
     /// The key of the chart.
     pub key: Key,
-    /// The number of the feature.
+    /// The record identification number (RCID) of the feature.
     pub rcid: u32,
     /// Of a sounding its place among the coordinates of its feature, counted from 1; of a whole feature 0.
     pub place: u64,

@@ -7,13 +7,13 @@ use plane_geometry::Pt;
 use text_lines::cut_part;
 use text_scan::{read_number, read_signed};
 
-/// The largest half-width.
+/// The largest half-width, in degrees times 10,000,000: 10 degrees.
 const MOST_HALF_WIDTH: u64 = 100_000_000;
 
-/// The longitude that lies farthest from 0.
+/// The longitude that lies farthest from 0, in degrees times 10,000,000: 180 degrees.
 const MOST_LONGITUDE: u64 = 1_800_000_000;
 
-/// The latitude that lies farthest from 0.
+/// The latitude that lies farthest from 0, in degrees times 10,000,000: 90 degrees.
 const MOST_LATITUDE: u64 = 900_000_000;
 
 /// The half-widths of the box that legs are widened by: `w` in longitude and `h` in latitude, in degrees times

@@ -9,6 +9,9 @@ use plane_geometry::Pt;
 
 /// A leg of a route from `a` to `b`, widened by `w` in x and by `h` in y, in degrees times 10,000,000: all
 /// that differs by at most so much from a point of the segment from `a` to `b`.
+///
+/// A leg is straight in longitude and latitude, neither a rhumb line nor a great circle, and doesn't cross the meridian
+/// of 180 degrees.
 #[derive(Clone, Copy, Debug, PartialEq, Eq)]
 pub struct Leg {
     pub a: Pt,

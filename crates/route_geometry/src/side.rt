@@ -5,8 +5,8 @@ ghost use Rattle.route_geometry.specs.Bound.{IsBoundedSide};
 
 use crate::slope::Slope;
 
-/// A linear form of two ways: where a part of the leg and a part of the segment are gone, it is `start`
-/// and these parts of `leg` and of `segment`. The two places are within the side where it isn't negative.
+/// A linear condition on a point of the leg and a point of the segment, at the fractions t and s (0 to 1) of their
+/// lengths: it holds where `start + t * leg + s * segment` is 0 or more (degrees times 10,000,000).
 #[derive(Clone, Copy)]
 pub(crate) struct Side {
     pub(crate) start: i64,

@@ -12,13 +12,15 @@ use std::alloc::{AllocError, AllocFailed};
 pub enum DatasetFault {
     /// There is no data record, or the first has no general information (field DSID).
     NoGeneral,
-    /// A subfield that is needed isn't in its field's descriptor, or a feature has no field FOID.
+    /// A subfield that is needed isn't in its field's descriptor, or is inside or outside the repeated group where it
+    /// must be the other; or a feature has no field FOID.
     MissingField { record: usize, tag: [u8; 4] },
     /// A value has the wrong kind, or is out of its width, its range or its list of values.
     Value { record: usize, label: [u8; 4] },
-    /// A rule of the profile is broken: the label tells which.
+    /// A rule of the ENC product specification (S-57 Appendix B.1) is broken: the subfield's label, or the tag DSPM,
+    /// SG3D or ARCC, tells which.
     Profile([u8; 4]),
-    /// There was no memory for the changes.
+    /// Memory ran out.
     NoMemory,
 }
 

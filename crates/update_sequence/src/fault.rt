@@ -17,7 +17,7 @@ pub enum ReadFault {
     File(FileFault),
     /// Its records are no data set (S-57).
     Dataset(DatasetFault),
-    /// There was no memory for the data set.
+    /// There was no memory for the data set, or more bytes than the limit would be read of overlapping fields.
     NoMemory,
 }
 
@@ -82,7 +82,7 @@ pub enum BuildFault {
     Change(ChangeFault),
     /// The chart that the changes leave isn't closed.
     Closure(ClosureFault),
-    /// There was no memory for the chart.
+    /// There was no memory for the chart, or its changes would move more than 268,435,456 items of lists.
     NoMemory,
 }
 

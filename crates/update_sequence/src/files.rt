@@ -12,8 +12,8 @@ use chart_ports::Steps;
 use std::alloc::{AllocError, Global};
 use std::sync::ledger::Ledger;
 
-/// The chart after one more data set, which is known to build one unless it cancels the cell. So
-/// nothing is asked of it again.
+/// The chart after one more data set, which is known to build one unless it cancels the cell. So its closure isn't
+/// checked again.
 fn follow(alloc: Global, chart: Option<Cell>, dataset: Dataset) -> Result<Option<Cell>, AllocError>
     requires { dataset.cancels ≡ false → IsOk (built chart dataset) }
     ensures { IfOk result (λ after. after ≡ chart_with chart dataset) }

@@ -16,8 +16,8 @@ fn keeps_coords(edit: Option<Control>) -> bool
     }
 }
 
-/// Whether no record but the changed one can get a fault of closure by the change: it deletes nothing,
-/// and leaves the pointers of vector records.
+/// Whether no record but the changed one can get a fault of closure by the change: it deletes no record, and of a
+/// vector record it leaves the pointers and takes away no coordinate.
 fn is_local(change: &UpdateRecord) -> bool
     ensures { result ≡ is_local change.now }
 {
@@ -31,7 +31,7 @@ fn is_local(change: &UpdateRecord) -> bool
     }
 }
 
-/// Whether all changes are so.
+/// Whether no change can give another record a fault of closure.
 pub(crate) fn are_local(changes: &[UpdateRecord]) -> bool
     ensures { result ≡ are_local changes.now }
 {
