@@ -109,6 +109,26 @@ coords_are s sound ruin coordinates soundings f d one =
           subst (λ (cs : List Coord). AreCoords (coordinates ++ cs)) (sym none) (subst AreCoords (sym (append-nil coordinates)) (record { each = without_depth.0; alike = inr without_depth.1 }))
     ]
 
+-- the coordinates that are read where none of the two lists has a fault
+coords_read : (s : Subfields) (ruin : ℕ) (coordinates soundings : List Coord) → unless_deleted ruin (s.coords (codes "SG2D")) ≡ Ok coordinates → unless_deleted ruin (s.coords (codes "SG3D")) ≡ Ok soundings → (s.has (codes "SG2D") && s.has (codes "SG3D")) ≡ false → coords_of ruin s ≡ Ok (coordinates ++ soundings)
+unfolding coords_of
+coords_read s ruin coordinates soundings f d one =
+    λ i. f i >>= (λ cs. ensure (not (one i)) (Profile (codes "SG3D")) >>= (λ _. d i >>= (λ ss. Ok (cs ++ ss))))
+
+-- those of SG2D, where that field is there and the other isn't
+pub coords_of_sg2d : (s : Subfields) → AreSound s → (ruin : ℕ) (coordinates soundings : List Coord) → unless_deleted ruin (s.coords (codes "SG2D")) ≡ Ok coordinates → unless_deleted ruin (s.coords (codes "SG3D")) ≡ Ok soundings → s.has (codes "SG2D") ≡ true → s.has (codes "SG3D") ≡ false → coords_of ruin s ≡ Ok coordinates
+coords_of_sg2d s sound ruin coordinates soundings f d there no_soundings =
+    let none : soundings ≡ [] = kept (λ xs. xs ≡ []) ruin (s.coords (codes "SG3D")) soundings refl (λ ys e. sound.absent (codes "SG3D") ys no_soundings e) d in
+    coords_read s ruin coordinates soundings f d (λ i. there i && no_soundings i)
+    ∙ ap (λ (cs : List Coord). Ok (coordinates ++ cs)) none ∙ ap (λ (cs : List Coord). Ok cs) (append-nil coordinates)
+
+-- those of SG3D, where SG2D isn't there
+pub coords_of_sg3d : (s : Subfields) → AreSound s → (ruin : ℕ) (coordinates soundings : List Coord) → unless_deleted ruin (s.coords (codes "SG2D")) ≡ Ok coordinates → unless_deleted ruin (s.coords (codes "SG3D")) ≡ Ok soundings → s.has (codes "SG2D") ≡ false → coords_of ruin s ≡ Ok soundings
+coords_of_sg3d s sound ruin coordinates soundings f d no_coordinates =
+    let none : coordinates ≡ [] = kept (λ xs. xs ≡ []) ruin (s.coords (codes "SG2D")) coordinates refl (λ ys e. sound.absent (codes "SG2D") ys no_coordinates e) f in
+    coords_read s ruin coordinates soundings f d (λ i. no_coordinates i && s.has (codes "SG3D"))
+    ∙ ap (λ (cs : List Coord). Ok (cs ++ soundings)) none
+
 pub are_coords : (s : Subfields) → AreSound s → (ruin : ℕ) (coords : List Coord) → coords_of ruin s ≡ Ok coords → AreCoords coords
 unfolding coords_of
 are_coords s sound ruin coords e =

@@ -17,7 +17,7 @@ use Rattle.s57_records.specs.Rows.{unless_deleted, edit_of, vector_head, coords_
 use Rattle.s57_records.proofs.Changes.{AreSound, edit_is, are_coords, vector_head_is, vector_made, feature_head_is, feature_made}
 use Rattle.s57_records.proofs.Sound.{subfields_sound}
 
-reading_sound : (r : DataRecord) → AreSound (reading r)
+pub reading_sound : (r : DataRecord) → AreSound (reading r)
 reading_sound r = subfields_sound (layout_at r.rows.now) r.number r.fields.now
 
 pub vector_from_parts : (base : Bool) (r : DataRecord) (head : VectorHead) (attrs : List Attr) (pointer_edit : Option Control) (pointers : List Pointer) (coord_edit : Option Control) (coords : List Coord) → vector_head base r.number (reading r) ≡ Ok head → unless_deleted head.ruin ((reading r).attrs (codes "ATTV")) ≡ Ok attrs → edit_of base head.ruin r.number (reading r) (codes "VRPC") (codes "VPUI") (codes "VPIX") (codes "NVPT") ≡ Ok pointer_edit → edit_of base head.ruin r.number (reading r) (codes "SGCC") (codes "CCUI") (codes "CCIX") (codes "CCNC") ≡ Ok coord_edit → coords_of head.ruin (reading r) ≡ Ok coords → IsChange (vector_change head attrs pointer_edit pointers coord_edit coords)

@@ -24,9 +24,12 @@ fn read_coords(alloc: Global, fields: &DataRecord<'_>, ruin: u8) -> Result<Coord
         return Err(DatasetFault::Profile(SG3D));
     }
     let soundings = fields.soundings(alloc, ruin)?;
-    let mut coords = coordinates.into_vec();
-    coords.extend_from_slice(soundings.as_slice())?;
-    Ok(Coords::from_vec(coords))
+    // The list of a field that isn't there is empty.
+    if fields.has(SG2D) {
+        Ok(coordinates)
+    } else {
+        Ok(soundings)
+    }
 }
 
 /// The change that a vector record stands for.
