@@ -14,9 +14,9 @@ use Rattle.area_rings.specs.KeptEdges.{KeepsVectors, StandsFor}
 use Rattle.chart_closure.specs.declared.fault.ClosureFault.{ClosureFault}
 use Rattle.chart_closure.specs.declared.fault.ClosureFault.TheVariants.{Dangling, EdgeNodes, RingOpen, WrongPointer}
 use Rattle.chart_model.specs.Answers.{when, first_of}
-use Rattle.chart_closure.specs.Closed.{has_record, absent_target, may_point, may_show, vector_fault, feature_fault, fault_at, IsClosed}
+use Rattle.chart_closure.specs.Closed.{has_record, absent_target, vector_may_point, feature_may_point, vector_fault, feature_fault, fault_at, IsClosed}
 use Rattle.chart_closure.specs.Unchanged.{KeepsRecords, ShowsTheSame, StandsStill, StandsAsBefore}
-use Rattle.chart_closure.proofs.Faults.{points_rightly, lacks_line, shows_rightly, lacks_rings, vector_sound, feature_sound}
+use Rattle.chart_closure.proofs.Faults.{vector_pointers_fit, lacks_line, feature_pointers_fit, lacks_rings, vector_sound, feature_sound}
 
 -- the records, the lines and the shapes that there were are there
 pub record Keeps (before after : CellValue) : Type 0 where
@@ -73,20 +73,20 @@ no_first None rest e = (refl, e)
 no_first (Some fault) rest e = absurd (none-some fault (sym e))
 
 -- what a sound vector record is
-vector_parts : (cell : CellValue) (name : Name) (vector : Vector) → vector_fault cell name vector ≡ None → (absent_target cell vector.pointers ≡ None) × (points_rightly name vector ≡ true) × (lacks_line cell name ≡ false)
+vector_parts : (cell : CellValue) (name : Name) (vector : Vector) → vector_fault cell name vector ≡ None → (absent_target cell vector.pointers ≡ None) × (vector_pointers_fit name vector ≡ true) × (lacks_line cell name ≡ false)
 unfolding vector_fault
 vector_parts cell name vector e =
     let targets = no_first (option_map (Dangling name) (absent_target cell vector.pointers)) _ e in
-    let pointers = no_case (not (points_rightly name vector)) (WrongPointer name) _ targets.1 in
+    let pointers = no_case (not (vector_pointers_fit name vector)) (WrongPointer name) _ targets.1 in
     let line = no_case (lacks_line cell name) (EdgeNodes name) [] pointers.1 in
     (unmapped (Dangling name) _ targets.0, not-false _ pointers.0, line.0)
 
 -- what a sound feature is
-feature_parts : (cell : CellValue) (name : Name) (feature : Feature) → feature_fault cell name feature ≡ None → (absent_target cell feature.pointers ≡ None) × (shows_rightly feature ≡ true) × (lacks_rings cell feature ≡ false)
+feature_parts : (cell : CellValue) (name : Name) (feature : Feature) → feature_fault cell name feature ≡ None → (absent_target cell feature.pointers ≡ None) × (feature_pointers_fit feature ≡ true) × (lacks_rings cell feature ≡ false)
 unfolding feature_fault
 feature_parts cell name feature e =
     let targets = no_first (option_map (Dangling name) (absent_target cell feature.pointers)) _ e in
-    let pointers = no_case (not (shows_rightly feature)) (WrongPointer name) _ targets.1 in
+    let pointers = no_case (not (feature_pointers_fit feature)) (WrongPointer name) _ targets.1 in
     let rings = no_case (lacks_rings cell feature) (RingOpen name) [] pointers.1 in
     (unmapped (Dangling name) _ targets.0, not-false _ pointers.0, rings.0)
 
@@ -103,7 +103,7 @@ vector_stays before after name vector made keeps stands e =
     let parts = vector_parts before name vector e in
     vector_sound after name made
     (ap (absent_target after) stands.pointers ∙ targets_there before after vector.pointers keeps.records parts.0)
-    (ap (list_all (λ pointer. may_point name pointer.target)) stands.pointers ∙ parts.1)
+    (ap (list_all (λ pointer. vector_may_point name pointer.target)) stands.pointers ∙ parts.1)
     (never_lost (eqb name.rcnm 130) (line_of before name false) (line_of after name false) (keeps.line name) parts.2)
 
 -- a shape is one of a primitive and of pointers
@@ -117,8 +117,8 @@ feature_stays : (before after : CellValue) (name : Name) (feature made : Feature
     ShowsTheSame feature made → feature_fault before name feature ≡ None → feature_fault after name made ≡ None
 feature_stays before after name feature made keeps shows e =
     let parts = feature_parts before name feature e in
-    let right : shows_rightly made ≡ shows_rightly feature =
-    λ i. list_all (λ pointer. may_show (shows.prim i) pointer.target) (shows.pointers i) in
+    let right : feature_pointers_fit made ≡ feature_pointers_fit feature =
+    λ i. list_all (λ pointer. feature_may_point (shows.prim i) pointer.target) (shows.pointers i) in
     let rings : lacks_rings after made ≡ lacks_rings after feature =
     λ i. eqb (shows.prim i) 3 && is_none (same_shape after feature made shows i) in
     feature_sound after name made

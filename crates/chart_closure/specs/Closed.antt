@@ -26,12 +26,12 @@ abbrev pub absent_target : CellValue → List Pointer → Option Name
 absent_target cell pointers = find (λ target. not (has_record cell target)) (map (λ pointer. pointer.target) pointers)
 
 -- an edge points to connected nodes, and a node to nothing
-abbrev pub may_point : Name → Name → Bool
-may_point name target = (name.rcnm == EDGE) && (target.rcnm == CONNECTED_NODE)
+abbrev pub vector_may_point : Name → Name → Bool
+vector_may_point name target = (name.rcnm == EDGE) && (target.rcnm == CONNECTED_NODE)
 
 -- a point feature points to nodes, a line feature or an area to edges, any other to whatever it will
-abbrev pub may_show : ℕ → Name → Bool
-may_show prim target =
+abbrev pub feature_may_point : ℕ → Name → Bool
+feature_may_point prim target =
     if prim == POINT then is_node target else (
     if (prim == LINE) || (prim == AREA) then target.rcnm == EDGE else true)
 
@@ -40,14 +40,15 @@ may_show prim target =
 unfoldable pub vector_fault : CellValue → Name → Vector → Option ClosureFault
 vector_fault cell name vector = first_of (
     option_map (Dangling name) (absent_target cell vector.pointers) ∷
-    when (not (list_all (λ pointer. may_point name pointer.target) vector.pointers)) (WrongPointer name) ∷
+    when (not (list_all (λ pointer. vector_may_point name pointer.target) vector.pointers)) (WrongPointer name) ∷
     when ((name.rcnm == EDGE) && is_none (line_of cell name false)) (EdgeNodes name) ∷ [])
 
 -- the fault of a feature
 unfoldable pub feature_fault : CellValue → Name → Feature → Option ClosureFault
 feature_fault cell name feature = first_of (
     option_map (Dangling name) (absent_target cell feature.pointers) ∷
-    when (not (list_all (λ pointer. may_show feature.prim pointer.target) feature.pointers)) (WrongPointer name) ∷
+    when (not (list_all (λ pointer. feature_may_point feature.prim pointer.target) feature.pointers))
+    (WrongPointer name) ∷
     when ((feature.prim == AREA) && is_none (shape_of cell feature)) (RingOpen name) ∷ [])
 
 -- the fault of the record of that name

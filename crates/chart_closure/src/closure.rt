@@ -10,7 +10,7 @@ ghost use Rattle.chart_closure.specs.Closed.{vector_fault, feature_fault, fault_
 ghost use Rattle.chart_closure.specs.Closed.{closure_fault, IsClosed, IsLeastFault};
 
 use crate::fault::ClosureFault;
-use crate::pointers::{first_absent, points_rightly, shows_rightly};
+use crate::pointers::{feature_pointers_fit, first_absent, vector_pointers_fit};
 use area_rings::{has_line, has_shape};
 use chart_model::codes::{AREA, EDGE};
 use chart_model::{Cell, Feature, Name, Vector};
@@ -37,7 +37,7 @@ fn check_vector(cell: &Cell, name: Name, vector: &Vector) -> Result<(), ClosureF
     if let Some(target) = first_absent(cell, pointers) {
         return Err(ClosureFault::Dangling(name, target));
     }
-    if !points_rightly(name, pointers) {
+    if !vector_pointers_fit(name, pointers) {
         return Err(ClosureFault::WrongPointer(name));
     }
     if lacks_line(cell, name) {
@@ -54,7 +54,7 @@ fn check_feature(cell: &Cell, name: Name, feature: &Feature) -> Result<(), Closu
     if let Some(target) = first_absent(cell, pointers) {
         return Err(ClosureFault::Dangling(name, target));
     }
-    if !shows_rightly(feature.prim, pointers) {
+    if !feature_pointers_fit(feature.prim, pointers) {
         return Err(ClosureFault::WrongPointer(name));
     }
     if lacks_rings(cell, feature) {

@@ -2,7 +2,7 @@
 
 ghost use Rattle.std.specs.Prelude.{◌≡◌};
 ghost use Rattle.std.specs.List.{list_all};
-ghost use Rattle.chart_closure.specs.Closed.{has_record, absent_target, may_point, may_show};
+ghost use Rattle.chart_closure.specs.Closed.{has_record, absent_target, vector_may_point, feature_may_point};
 
 use chart_model::codes::{AREA, CONNECTED_NODE, EDGE, ISOLATED_NODE, LINE, POINT};
 use chart_model::{Cell, Name, Pointer};
@@ -25,15 +25,15 @@ pub(crate) fn first_absent(cell: &Cell, pointers: &[Pointer]) -> Option<Name>
 }
 
 /// Whether each pointer of a vector record is one that it may have.
-pub(crate) fn points_rightly(name: Name, pointers: &[Pointer]) -> bool
-    ensures { result ≡ list_all (λ pointer. may_point name pointer.target) pointers.now }
+pub(crate) fn vector_pointers_fit(name: Name, pointers: &[Pointer]) -> bool
+    ensures { result ≡ list_all (λ pointer. vector_may_point name pointer.target) pointers.now }
 {
     pointers.iter().all(|pointer| name.rcnm == EDGE && pointer.target.rcnm == CONNECTED_NODE)
 }
 
 /// Whether a feature of that primitive may point to that record.
-fn is_fit(prim: u8, target: Name) -> bool
-    ensures { result ≡ may_show prim target }
+fn feature_may_point(prim: u8, target: Name) -> bool
+    ensures { result ≡ feature_may_point prim target }
 {
     match prim {
         POINT => matches!(target.rcnm, ISOLATED_NODE | CONNECTED_NODE),
@@ -43,8 +43,10 @@ fn is_fit(prim: u8, target: Name) -> bool
 }
 
 /// Whether each pointer of a feature is one that it may have.
-pub(crate) fn shows_rightly(prim: u8, pointers: &[Pointer]) -> bool
-    ensures { result ≡ list_all (λ pointer. may_show prim pointer.target) pointers.now }
+pub(crate) fn feature_pointers_fit(prim: u8, pointers: &[Pointer]) -> bool
+    ensures { result ≡ list_all (λ pointer. feature_may_point prim pointer.target) pointers.now }
 {
-    pointers.iter().all(|pointer| is_fit(prim, pointer.target))
+    pointers
+        .iter()
+        .all(|pointer| feature_may_point(prim, pointer.target))
 }
