@@ -17,6 +17,57 @@ use chart_model::{Cell, Header, Octets};
 use std::alloc::{AllocError, Global};
 use text_scan::write_number;
 
+/// The record name (RCNM) of the general information of a data set (S-57 Part 3).
+const GENERAL_INFORMATION: u8 = 10;
+
+/// The record name (RCNM) of the geographic reference of a data set (S-57 Part 3).
+const GEOGRAPHIC_REFERENCE: u8 = 20;
+
+/// The record identification number (RCID) of the only record of its name.
+const ONLY_RECORD: u32 = 1;
+
+/// The intended usage (INTU) harbour.
+const HARBOUR: u8 = 5;
+
+/// The product specification (PRSP) of electronic navigational charts.
+const ENC: u8 = 1;
+
+/// The data structure (DSTR) chain-node topology.
+const CHAIN_NODE: u8 = 2;
+
+/// The lexical level (AALL) of the attributes of features: ISO/IEC 8859-1.
+const LATIN_1: u8 = 1;
+
+/// The lexical level (NALL) of national attributes, of which none is written: ASCII.
+const ASCII: u8 = 0;
+
+/// The first and the last class of meta objects.
+const META: (u16, u16) = (300, 399);
+
+/// The first and the last class of collections.
+const COLLECTIONS: (u16, u16) = (400, 499);
+
+/// The first and the last class of cartographic objects.
+const CARTOGRAPHIC: (u16, u16) = (500, 599);
+
+/// The horizontal datum (HDAT) WGS 84.
+const WGS_84: u8 = 2;
+
+/// The vertical datum and the sounding datum (VDAT, SDAT) mean low water springs.
+const MEAN_LOW_WATER_SPRINGS: u8 = 1;
+
+/// The unit of depths, of heights and of positional accuracy (DUNI, HUNI, PUNI): metres.
+const METRES: u8 = 1;
+
+/// The unit of coordinates (COUN): latitude and longitude.
+const LATITUDE_AND_LONGITUDE: u8 = 1;
+
+/// What coordinates are multiplied by (COMF).
+const COORDINATE_FACTOR: u32 = 10_000_000;
+
+/// What depths are multiplied by (SOMF).
+const SOUNDING_FACTOR: u32 = 10;
+
 /// What a data set is for (S-57 Part 3, EXPP; Appendix B.1, PROF).
 #[derive(Clone, Copy, Debug)]
 pub(crate) enum Purpose {
@@ -62,10 +113,10 @@ fn put_number(alloc: Global, out: &mut Octets, number: u32) -> Result<(), AllocE
 fn put_exchange(out: &mut Octets, purpose: Purpose) -> Result<(), AllocError>
     ensures { OnOk result (out.new ≡ out.old ++ exchange_text purpose) }
 {
-    put_b11(out, 10)?;
-    put_b14(out, 1)?;
+    put_b11(out, GENERAL_INFORMATION)?;
+    put_b14(out, ONLY_RECORD)?;
     put_b11(out, purpose_code(purpose))?;
-    put_b11(out, 5)
+    put_b11(out, HARBOUR)
 }
 
 /// Adds DSNM, EDTN and UPDN.
@@ -101,7 +152,7 @@ fn put_dates(out: &mut Octets, header: &Header) -> Result<(), AllocError>
 fn put_product(out: &mut Octets, purpose: Purpose, agency: u16) -> Result<(), AllocError>
     ensures { OnOk result (out.new ≡ out.old ++ product_text purpose agency) }
 {
-    put_b11(out, 1)?;
+    put_b11(out, ENC)?;
     put_text(out, &[])?;
     put_text(out, b"2.0")?;
     put_b11(out, purpose_code(purpose))?;
@@ -180,10 +231,10 @@ fn put_feature_counts(out: &mut Octets, cell: &Cell) -> Result<(), AllocError>
     ensures bytes { OnOk result (out.new ≡ out.old ++ feature_counts cell.now) }
     ensures in_range { OnOk result (AreFeatureCountsInRange cell.now) }
 {
-    put_b14(out, count_features(cell, 300, 399)?)?;
-    put_b14(out, count_features(cell, 500, 599)?)?;
-    put_b14(out, count_others(cell, 300, 599)?)?;
-    put_b14(out, count_features(cell, 400, 499)?)
+    put_b14(out, count_features(cell, META.0, META.1)?)?;
+    put_b14(out, count_features(cell, CARTOGRAPHIC.0, CARTOGRAPHIC.1)?)?;
+    put_b14(out, count_others(cell, META.0, CARTOGRAPHIC.1)?)?;
+    put_b14(out, count_features(cell, COLLECTIONS.0, COLLECTIONS.1)?)
 }
 
 /// Adds NOIN, NOCN, NOED and NOFA.
@@ -204,9 +255,9 @@ pub(crate) fn put_structure(out: &mut Octets, cell: &Cell) -> Result<(), AllocEr
     ensures bytes { OnOk result (out.new ≡ out.old ++ structure_text cell.now) }
     ensures in_range { OnOk result (AreCountsInRange cell.now) }
 {
-    put_b11(out, 2)?;
-    put_b11(out, 1)?;
-    put_b11(out, 0)?;
+    put_b11(out, CHAIN_NODE)?;
+    put_b11(out, LATIN_1)?;
+    put_b11(out, ASCII)?;
     put_feature_counts(out, cell)?;
     put_vector_counts(out, cell)
 }
@@ -216,11 +267,11 @@ pub(crate) fn put_structure(out: &mut Octets, cell: &Cell) -> Result<(), AllocEr
 fn put_datums(out: &mut Octets, scale: u32) -> Result<(), AllocError>
     ensures { OnOk result (out.new ≡ out.old ++ datum_text scale) }
 {
-    put_b11(out, 20)?;
-    put_b14(out, 1)?;
-    put_b11(out, 2)?;
-    put_b11(out, 1)?;
-    put_b11(out, 1)?;
+    put_b11(out, GEOGRAPHIC_REFERENCE)?;
+    put_b14(out, ONLY_RECORD)?;
+    put_b11(out, WGS_84)?;
+    put_b11(out, MEAN_LOW_WATER_SPRINGS)?;
+    put_b11(out, MEAN_LOW_WATER_SPRINGS)?;
     put_b14(out, scale)
 }
 
@@ -229,10 +280,10 @@ fn put_datums(out: &mut Octets, scale: u32) -> Result<(), AllocError>
 fn put_units(out: &mut Octets) -> Result<(), AllocError>
     ensures { OnOk result (out.new ≡ out.old ++ unit_text) }
 {
-    put_b11(out, 1)?;
-    put_b11(out, 1)?;
-    put_b11(out, 1)?;
-    put_b11(out, 1)
+    put_b11(out, METRES)?;
+    put_b11(out, METRES)?;
+    put_b11(out, METRES)?;
+    put_b11(out, LATITUDE_AND_LONGITUDE)
 }
 
 /// Adds COMF, SOMF and COMT.
@@ -240,8 +291,8 @@ fn put_units(out: &mut Octets) -> Result<(), AllocError>
 fn put_factors(out: &mut Octets) -> Result<(), AllocError>
     ensures { OnOk result (out.new ≡ out.old ++ factor_text) }
 {
-    put_b14(out, 10_000_000)?;
-    put_b14(out, 10)?;
+    put_b14(out, COORDINATE_FACTOR)?;
+    put_b14(out, SOUNDING_FACTOR)?;
     put_text(out, &[])
 }
 
