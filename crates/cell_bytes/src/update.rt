@@ -23,6 +23,9 @@ use chart_model::codes::{AREA, FEATURE, MODIFY};
 use chart_model::{Header, Name, Octets};
 use std::alloc::{AllocError, Global};
 
+/// An update modifies one area in so many: those whose numbers are equal to its own modulo this.
+pub const AREA_STRIDE: u32 = 30;
+
 /// Adds the identifier of the record that modifies an area.
 #[tactic(auto, unfolding(crate::specs::Feature::described))]
 fn put_identifier(out: &mut Octets, update: u32, area: u32) -> Result<(), AllocError>
@@ -38,7 +41,7 @@ fn put_identifier(out: &mut Octets, update: u32, area: u32) -> Result<(), AllocE
     put_b11(out, AREA)?;
     put_b11(out, 1)?;
     put_b12(out, DEPARE)?;
-    put_b12(out, (2 + (update - 1) / 30) as u16)?;
+    put_b12(out, (2 + (update - 1) / AREA_STRIDE) as u16)?;
     put_b11(out, MODIFY)
 }
 
@@ -100,7 +103,7 @@ fn put_where_modified(
     ensures number { OnOk result (file.new.number
         ≡ number_behind file.old.number (map (modified update) (filter (is_modified update) (area ∷ [])))) }
 {
-    if area % 30 == update % 30 {
+    if area % AREA_STRIDE == update % AREA_STRIDE {
         put_area(file, alloc, update, area)
     } else {
         Ok(())
