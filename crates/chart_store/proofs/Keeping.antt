@@ -14,6 +14,7 @@ use Rattle.update_sequence.specs.Reading.{data_set_in, tags_read}
 use Rattle.update_sequence.specs.Rebuilt.{data_records_of}
 use Rattle.update_sequence.specs.Sound.{IsSoundList, is_sound}
 use Rattle.update_sequence.specs.declared.fault.ReadFault.{ReadFault}
+use Rattle.chart_store.specs.Loaded.{bytes_of}
 use Rattle.chart_store.specs.KeptFiles.{is_update, has_update, ends_with, beginnings, may_keep, kept_by}
 use Rattle.chart_store.specs.KeptFiles.{EndsWith, MayKeep, IsShortestKept}
 
@@ -226,10 +227,19 @@ kept-begins key number files kept e =
     let f = first-found (may_keep key number) files kept e in
     record { rest = f.rest; begins = f.begins; sound = (and_parts (is_sound key kept) (ends_with number kept) f.passes).0 }
 
-pub data_records-kept : (files kept rest : List (List ℕ)) → files ≡ kept ++ rest →
+-- the data records of what is kept are among those of the files
+pub data_records-kept : (key : List ℕ) (number : ℕ) (files kept : List (List ℕ)) → kept_by key number files ≡ Some kept →
     data_records_of kept ≤ data_records_of files
-data_records-kept files kept rest parts =
-    omega (arith, ap data_records_of parts, sum_by-append (data_records_in tags_read) kept rest)
+data_records-kept key number files kept e =
+    let b = kept-begins key number files kept e in
+    omega (arith, ap data_records_of b.begins, sum_by-append (data_records_in tags_read) kept b.rest)
+
+-- the bytes of what is kept are among those of the files
+pub bytes-kept : (key : List ℕ) (number : ℕ) (files kept : List (List ℕ)) → kept_by key number files ≡ Some kept →
+    bytes_of kept ≤ bytes_of files
+bytes-kept key number files kept e =
+    let b = kept-begins key number files kept e in
+    omega (arith, ap bytes_of b.begins, sum_by-append length kept b.rest)
 
 pub records-within : (files : List (List ℕ)) (i : ℕ) (file : List ℕ) → i < length files → file ≡ get_or files i file →
     data_records_of (take i files) + data_records_in tags_read file ≤ data_records_of files

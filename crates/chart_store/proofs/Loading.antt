@@ -46,20 +46,26 @@ live-holding key here header h =
     }) h.numbers
     ∙ ap (λ (chart : Option CellValue). record { held = here.held; files = here.files; chart = chart }) h.builds
 
+-- what accepted files leave, as the law of whole files says it
+abbrev pub AcceptedFilesFollow : Type 0
+AcceptedFilesFollow = record {
+  replaces : (key file : List ℕ) (dataset : DatasetValue) (held : Option Held) → IsFileOf key file dataset →
+      judged held dataset ≡ Ok Replace → IsOk (built None dataset) →
+      Leaves key (file ∷ []) (Some (numbers_of dataset.header)) (result_ok (built None dataset));
+  extends : (key : List ℕ) (files : List (List ℕ)) (file : List ℕ) (dataset : DatasetValue) →
+      IsSoundList key files → IsFileOf key file dataset →
+      judged (held_by files) dataset ≡ Ok Extend → IsOk (built (rebuilt files) dataset) →
+      Leaves key (files ++ file ∷ []) (Some (numbers_of dataset.header)) (result_ok (built (rebuilt files) dataset));
+  cancels : (key : List ℕ) (files : List (List ℕ)) (file : List ℕ) (dataset : DatasetValue) →
+      IsSoundList key files → IsFileOf key file dataset →
+      judged (held_by files) dataset ≡ Ok Cancel →
+      Leaves key (files ++ file ∷ []) (option_map cancelled (held_by files)) None;
+}
+
 -- the laws of whole files
 pub record Laws : Type 0 where
   pub none : (held_by [] ≡ None) × (rebuilt [] ≡ None)
-  pub replaces : (key file : List ℕ) (dataset : DatasetValue) (held : Option Held) → IsFileOf key file dataset →
-      judged held dataset ≡ Ok Replace → IsOk (built None dataset) →
-      Leaves key (file ∷ []) (Some (numbers_of dataset.header)) (result_ok (built None dataset))
-  pub extends : (key : List ℕ) (files : List (List ℕ)) (file : List ℕ) (dataset : DatasetValue) →
-      IsSoundList key files → IsFileOf key file dataset →
-      judged (held_by files) dataset ≡ Ok Extend → IsOk (built (rebuilt files) dataset) →
-      Leaves key (files ++ file ∷ []) (Some (numbers_of dataset.header)) (result_ok (built (rebuilt files) dataset))
-  pub cancels : (key : List ℕ) (files : List (List ℕ)) (file : List ℕ) (dataset : DatasetValue) →
-      IsSoundList key files → IsFileOf key file dataset →
-      judged (held_by files) dataset ≡ Ok Cancel →
-      Leaves key (files ++ file ∷ []) (option_map cancelled (held_by files)) None
+  pub follow : AcceptedFilesFollow
 
 module _ (laws : Laws) where
   pub held-before : (key : List ℕ) (before : Option Holding) → WasLive key before →
@@ -82,7 +88,7 @@ module _ (laws : Laws) where
       judged (held_of before) dataset ≡ Ok Replace → built None dataset ≡ Ok cell →
       IsLive dataset.header.key (cell_after before Replace (numbers_of dataset.header) (Some cell) file)
   live-replace before dataset file cell reads short judges builds =
-      let l = laws.replaces dataset.header.key file dataset (held_of before) (file_of file dataset reads short)
+      let l = laws.follow.replaces dataset.header.key file dataset (held_of before) (file_of file dataset reads short)
       judges (ap is_ok builds) in
       record {
         sound = l.sound;
@@ -100,7 +106,7 @@ module _ (laws : Laws) where
   live-extend (Some here) dataset file cell h reads short judges builds =
       let made : built (rebuilt here.files) dataset ≡ Ok cell =
       ap (λ (c : Option CellValue). built c dataset) h.builds ∙ builds in
-      let l = laws.extends dataset.header.key here.files file dataset h.sound (file_of file dataset reads short)
+      let l = laws.follow.extends dataset.header.key here.files file dataset h.sound (file_of file dataset reads short)
       (ap (λ (n : Option Held). judged n dataset) h.numbers ∙ judges) (ap is_ok made) in
       record {
         sound = l.sound;
@@ -116,7 +122,7 @@ module _ (laws : Laws) where
   live-cancel None dataset file h reads short judges =
       absurd (let says = effect_says None dataset Cancel judges in let none = says.is in cc)
   live-cancel (Some here) dataset file h reads short judges =
-      let l = laws.cancels dataset.header.key here.files file dataset h.sound (file_of file dataset reads short)
+      let l = laws.follow.cancels dataset.header.key here.files file dataset h.sound (file_of file dataset reads short)
       (ap (λ (n : Option Held). judged n dataset) h.numbers ∙ judges) in
       record { sound = l.sound; numbers = l.numbers ∙ ap (option_map cancelled) h.numbers; builds = l.builds }
 

@@ -6,12 +6,7 @@ use Rattle.chart_store.proofs.laws.commands_leave_what_is_held.Goals as goal
 
 pub returns : goal.returns
 returns c =
-    let laws : Laws = record {
-      none = c.one_file_more.ensures.none;
-      replaces = c.accepted_files_follow.ensures.replaces;
-      extends = c.accepted_files_follow.ensures.extends;
-      cancels = c.accepted_files_follow.ensures.cancels;
-    } in
+    let laws : Laws = record { none = c.one_file_more.ensures.none; follow = c.accepted_files_follow.ensures } in
     let sounds : Sounds = record {
       tested = c.sound_lists_are_tested.ensures;
       before = c.sound_lists_grow.ensures.before;

@@ -10,12 +10,7 @@ use Rattle.chart_store.proofs.load.next_of_file.Goals as goal
 
 pub returns-clause-after : goal.returns-clause-after
 returns-clause-after g c =
-    let laws : Laws = record {
-      none = c.one_file_more.ensures.none;
-      replaces = c.accepted_files_follow.ensures.replaces;
-      extends = c.accepted_files_follow.ensures.extends;
-      cancels = c.accepted_files_follow.ensures.cancels;
-    } in
+    let laws : Laws = record { none = c.one_file_more.ensures.none; follow = c.accepted_files_follow.ensures } in
     let short : length c.args.file ≤ FILE_LIMIT =
     subst (λ (l : List ℕ). length l ≤ FILE_LIMIT) c.as_slice.ensures c.if-as_slice-gt-FILE_LIMIT.false in
     let reads : data_set_in c.args.file ≡ Ok c.in_ok-dataset.dataset =

@@ -27,12 +27,7 @@ with_file-requires-clause-live c =
     let found = chart-found c.args.live.now.cells _ _ _ _ _ c.chart_of-before.ensures c.get.ensures c.cells.ensures.cells keyed in
     let builds = ap (λ (chart : Option CellValue). chart_after chart c.args.effect c.args.dataset) (sym found)
     ∙ c.in_ok-made.ensures.chart in
-    let laws : Laws = record {
-      none = c.one_file_more.ensures.none;
-      replaces = c.accepted_files_follow.ensures.replaces;
-      extends = c.accepted_files_follow.ensures.extends;
-      cancels = c.accepted_files_follow.ensures.cancels;
-    } in
+    let laws : Laws = record { none = c.one_file_more.ensures.none; follow = c.accepted_files_follow.ensures } in
     live-by c.args.live.now c.args.dataset c.args.file c.args.effect c.in_ok-made.made.held c.in_ok-made.made.chart
     c.key_of-key.result keyed (c.in_ok-made.ensures.held ∙ c.requires.held) builds laws c.requires.live c.requires.reads c.requires.short
     c.requires.judged
