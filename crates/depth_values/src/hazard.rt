@@ -16,7 +16,37 @@ use chart_model::{Cell, Feature};
 use std::alloc::{AllocError, Global};
 
 /// The most that a sounding may lie below or above the datum, in centimetres: five digits of metres are drawn.
-const DEEPEST: u32 = 9_999_999;
+const MOST_SOUNDING: u32 = 9_999_999;
+
+/// The category of wreck (CATWRK) non-dangerous.
+const NON_DANGEROUS_WRECK: &[u8] = b"1";
+
+/// The category of wreck (CATWRK) dangerous.
+const DANGEROUS_WRECK: &[u8] = b"2";
+
+/// The category of wreck (CATWRK) that shows a mast.
+const WRECK_WITH_MAST: &[u8] = b"4";
+
+/// The category of wreck (CATWRK) that shows a part of its hull.
+const WRECK_WITH_HULL: &[u8] = b"5";
+
+/// The category of obstruction (CATOBS) foul area.
+const FOUL_AREA: &[u8] = b"6";
+
+/// The water level effect (WATLEV) always under water.
+const ALWAYS_UNDER_WATER: &[u8] = b"3";
+
+/// The water level effect (WATLEV) awash.
+const AWASH: &[u8] = b"5";
+
+/// The exposition of sounding (EXPSOU) within the range of the depths around it.
+const WITHIN_DEPTHS_AROUND: &[u8] = b"1";
+
+/// The exposition of sounding (EXPSOU) deeper than the depths around it.
+const DEEPER_THAN_AROUND: &[u8] = b"3";
+
+/// The depth of a wreck that is known to be no danger, in centimetres.
+const NON_DANGEROUS_DEPTH: i32 = 2_010;
 
 /// The depth of a hazard of which nothing is known: it dries 15 metres.
 const DRIES: i32 = -1_500;
@@ -28,7 +58,7 @@ pub fn sounding(feature: &Feature) -> Option<i32>
     ensures within { IfSome result (IsWithin 9999999) }
 {
     let depth = depth_at(feature, VALSOU)?;
-    if depth.unsigned_abs() <= DEEPEST {
+    if depth.unsigned_abs() <= MOST_SOUNDING {
         Some(depth)
     } else {
         None
@@ -53,23 +83,24 @@ fn is_obstruction(feature: &Feature, category: &[u8]) -> bool
 fn lies_at_bottom(feature: &Feature) -> bool
     ensures { result ≡ lies_at_bottom feature.now }
 {
-    has_value(feature, WATLEV, b"3")
-        && (has_value(feature, EXPSOU, b"1") || has_value(feature, EXPSOU, b"3"))
+    has_value(feature, WATLEV, ALWAYS_UNDER_WATER)
+        && (has_value(feature, EXPSOU, WITHIN_DEPTHS_AROUND)
+            || has_value(feature, EXPSOU, DEEPER_THAN_AROUND))
 }
 
 /// The depth that is taken of a hazard of no known depth, in centimetres.
 fn assumed_depth(feature: &Feature) -> i32
     ensures { result ≡ assumed_depth feature.now }
 {
-    if is_wreck(feature, b"1") {
-        2_010
-    } else if is_wreck(feature, b"2") {
+    if is_wreck(feature, NON_DANGEROUS_WRECK) {
+        NON_DANGEROUS_DEPTH
+    } else if is_wreck(feature, DANGEROUS_WRECK) {
         0
-    } else if is_wreck(feature, b"4") || is_wreck(feature, b"5") {
+    } else if is_wreck(feature, WRECK_WITH_MAST) || is_wreck(feature, WRECK_WITH_HULL) {
         DRIES
-    } else if is_obstruction(feature, b"6") || has_value(feature, WATLEV, b"3") {
+    } else if is_obstruction(feature, FOUL_AREA) || has_value(feature, WATLEV, ALWAYS_UNDER_WATER) {
         1
-    } else if has_value(feature, WATLEV, b"5") {
+    } else if has_value(feature, WATLEV, AWASH) {
         0
     } else {
         DRIES
