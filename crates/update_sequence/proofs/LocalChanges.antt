@@ -23,7 +23,8 @@ use Rattle.chart_model.specs.Answers.{when, first_of}
 use Rattle.update_apply.specs.Fault.{is_feature, held_vector, held_feature, inserts, deletes, modifies, count_fault, edit_faults, held_faults, fault_by, fault_of}
 use Rattle.update_apply.specs.Changed.{changed, changed_in, inserted_vector, inserted_feature, modified_vector, modified_feature}
 use Rattle.update_sequence.specs.Built.{begun, folded}
-use Rattle.update_sequence.specs.Extended.{keeps_coords, is_local, are_local, asks_closure, asked_target, are_sound}
+use Rattle.update_sequence.specs.Extended.{keeps_coords, is_local, are_local, asks_closure, asked_target}
+use Rattle.update_sequence.specs.Extended.{have_no_closure_fault}
 use Rattle.update_sequence.proofs.Charts.{folded-keeps}
 use Rattle.update_sequence.proofs.OneName.{ChangedAt, same_name, get-new, vectors-at, features-at}
 
@@ -346,8 +347,8 @@ left-still cell change name local none leaves = by (eq_by_cmp name_cmp name chan
         })
 
 -- a record has no fault, or all changes leave what is under its name
-sound-or-left : (after : CellValue) (changes : List Change) → are_sound after changes ≡ true → (name : Name) →
-    IsNone (fault_at after name) ⊎ AllByRecursion (Leaves name) changes
+sound-or-left : (after : CellValue) (changes : List Change) → have_no_closure_fault after changes ≡ true →
+    (name : Name) → IsNone (fault_at after name) ⊎ AllByRecursion (Leaves name) changes
 sound-or-left after [] sound name = inr tt
 sound-or-left after (change ∷ rest) sound name =
     by (asks_closure change) refl sound (λ sound. sound-or-left after rest sound name)
@@ -369,10 +370,10 @@ sound-or-left after (change ∷ rest) sound name =
 
     by : (b : Bool) → asks_closure change ≡ b →
         list_all tell (cons_option (when b change.target) (filter_map asked_target rest)) ≡ true →
-        (are_sound after rest ≡ true → IsNone (fault_at after name) ⊎ AllByRecursion (Leaves name) rest) →
+        (have_no_closure_fault after rest ≡ true → IsNone (fault_at after name) ⊎ AllByRecursion (Leaves name) rest) →
         IsNone (fault_at after name) ⊎ AllByRecursion (Leaves name) (change ∷ rest)
     by true asks sound later =
-        let parts = and_parts (tell change.target) (are_sound after rest) sound in
+        let parts = and_parts (tell change.target) (have_no_closure_fault after rest) sound in
         looked (eq_by_cmp name_cmp name change.target) refl parts.0 (later parts.1)
     by false asks sound later = left (inr asks) (later sound)
 
@@ -385,8 +386,8 @@ both P Q (x ∷ xs) p q = ((p.0, q.0), both P Q xs p.1 q.1)
 pub stays-closed : ((before after : CellValue) → IsClosed before → KeepsRecords before after →
     ((name : Name) → IsNone (fault_at after name) ⊎ StandsAsBefore before after name) → IsClosed after) →
     (chart after : CellValue) (header : Header) (changes : List Change) → IsClosed chart →
-    folded (begun (Some chart) header) changes ≡ Ok after → are_local changes ≡ true → are_sound after changes ≡ true →
-    IsClosed after
+    folded (begun (Some chart) header) changes ≡ Ok after → are_local changes ≡ true →
+    have_no_closure_fault after changes ≡ true → IsClosed after
 stays-closed law chart after header changes closed made local sound =
     law chart after closed (keeps-all chart after header changes local made) (λ name. sound-or-still name)
   where

@@ -41,5 +41,5 @@ abbrev pub asked_target : Change → Option Name
 asked_target change = when (asks_closure change) change.target
 
 -- no record that may have got a fault of closure has one
-abbrev pub are_sound : CellValue → List Change → Bool
-are_sound chart changes = list_all (λ name. is_none (fault_at chart name)) (filter_map asked_target changes)
+abbrev pub have_no_closure_fault : CellValue → List Change → Bool
+have_no_closure_fault chart changes = list_all (λ name. is_none (fault_at chart name)) (filter_map asked_target changes)

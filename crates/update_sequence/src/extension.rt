@@ -8,7 +8,7 @@ ghost use Rattle.chart_model.specs.Answers.{unless};
 ghost use Rattle.update_sequence.specs.declared.fault.BuildFault.TheVariants as of_build;
 ghost use Rattle.update_sequence.specs.Answers.{GivesBuilt};
 ghost use Rattle.update_sequence.specs.Built.{built};
-ghost use Rattle.update_sequence.specs.Extended.{GivesExtended, are_local, are_sound, asked_target};
+ghost use Rattle.update_sequence.specs.Extended.{GivesExtended, are_local, have_no_closure_fault, asked_target};
 
 use crate::chart::{begin, make_all};
 use crate::fault::BuildFault;
@@ -43,8 +43,12 @@ fn have_no_fault(chart: &Cell, names: &[Name]) -> bool
 }
 
 /// Whether no record that may have got a fault of closure has one.
-fn are_sound(alloc: Global, chart: &Cell, changes: &[UpdateRecord]) -> Result<bool, AllocError>
-    ensures { IfOk result (λ so. so ≡ are_sound chart.now changes.now) }
+fn have_no_closure_fault(
+    alloc: Global,
+    chart: &Cell,
+    changes: &[UpdateRecord],
+) -> Result<bool, AllocError>
+    ensures { IfOk result (λ so. so ≡ have_no_closure_fault chart.now changes.now) }
 {
     let names = asked_names(alloc, changes)?;
     Ok(have_no_fault(chart, names.as_slice()))
@@ -54,13 +58,13 @@ fn are_sound(alloc: Global, chart: &Cell, changes: &[UpdateRecord]) -> Result<bo
 /// the new records and those whose pointers were edited are looked at alone, unless one of them has a
 /// fault: the least has to be told.
 fn check_changed(alloc: Global, chart: &Cell, changes: &[UpdateRecord]) -> Result<(), BuildFault>
-    requires { are_local changes.now ≡ true → are_sound chart.now changes.now ≡ true → IsClosed chart.now }
+    requires { are_local changes.now ≡ true → have_no_closure_fault chart.now changes.now ≡ true → IsClosed chart.now }
     ensures { GivesExtended result chart.now (unless (option_map of_build.Closure (closure_fault chart.now)) chart.now) }
 {
     // The law is one of cells, and a chart is known to be one where a field of it is read.
     let _ = &chart.header;
     first_is_least();
-    if !are_local(changes) || !are_sound(alloc, chart, changes)? {
+    if !are_local(changes) || !have_no_closure_fault(alloc, chart, changes)? {
         check(chart)?;
     }
     Ok(())

@@ -4,7 +4,7 @@ use Rattle.chart_model.specs.declared.name.Name.{Name}
 use Rattle.chart_closure.specs.Closed.{fault_at}
 use Rattle.update_sequence.specs.Extended.{asked_target}
 use Rattle.update_sequence.proofs.NameLists.{list_all-same}
-use Rattle.update_sequence.proofs.extension.are_sound.Goals as goal
+use Rattle.update_sequence.proofs.extension.have_no_closure_fault.Goals as goal
 
 pub returns : goal.returns
 returns c =
