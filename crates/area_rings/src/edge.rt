@@ -25,8 +25,8 @@ pub(crate) struct DirectedEdge<'a> {
     pub reversed: bool,
 }
 
-/// The plane's point of a coordinate.
-pub(crate) fn point(coord: &Coord) -> Pt
+/// The plane's point of a coordinate. It takes no memory.
+pub fn point(coord: &Coord) -> Pt
     ensures { result ≡ point_of coord.now }
 {
     Pt {

@@ -6,26 +6,16 @@ ghost use Rattle.area_rings.specs.Edge.{point_of};
 ghost use Rattle.depth_values.specs.Under.{points_in, names_among, lesser, least_among, is_safe_among, areas_under};
 
 use crate::depth_area::{DepthArea, depth_areas};
-use area_rings::Shape;
+use area_rings::{Shape, point};
 use chart_model::{Cell, Coord, NameList, Sequence};
 use plane_geometry::Pt;
 use std::alloc::{AllocError, Global};
-
-/// The plane's point of a coordinate.
-fn point(coord: &Coord) -> Pt
-    ensures { result ≡ point_of coord.now }
-{
-    Pt {
-        x: coord.x,
-        y: coord.y,
-    }
-}
 
 /// Adds the points of coordinates.
 fn push_places(points: &mut Vec<Pt>, coords: &[Coord]) -> Result<(), AllocError>
     ensures { OnOk result (points.new.items ≡ points.old.items ++ map point_of coords.now) }
 {
-    points.extend(coords.iter().map(point))
+    points.extend(coords.iter().map(|coord| point(coord)))
 }
 
 /// Adds the points of lines or of rings.

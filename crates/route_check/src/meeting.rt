@@ -2,24 +2,13 @@
 
 ghost use Rattle.std.specs.Prelude.{◌≡◌};
 ghost use Rattle.std.specs.List.{list_any};
-ghost use Rattle.area_rings.specs.Edge.{point_of};
 ghost use Rattle.route_geometry.specs.Parted.{meets_segment, meets_area};
 ghost use Rattle.route_check.specs.Meeting.{meets_coord, meets_line, meets_shape};
 
-use area_rings::{Line, Shape};
+use area_rings::{Line, Shape, point};
 use chart_model::Coord;
 use plane_geometry::{Pt, Ring};
 use route_geometry::{Leg, leg_meets_area, leg_meets_segment, meetings_are_tested};
-
-/// The plane's point of a coordinate.
-pub(crate) fn point(coord: &Coord) -> Pt
-    ensures { result ≡ point_of coord.now }
-{
-    Pt {
-        x: coord.x,
-        y: coord.y,
-    }
-}
 
 /// Whether the leg meets the segment from a point to another.
 fn meets_segment(leg: &Leg, from: Pt, to: Pt) -> bool

@@ -6,9 +6,9 @@ ghost use Rattle.area_rings.specs.Edge.{point_of};
 ghost use Rattle.route_check.specs.Object.{ShapeIn};
 
 use crate::danger::Danger;
-use crate::meeting::{meets_shape, point};
+use crate::meeting::meets_shape;
 use crate::reach::Reach;
-use area_rings::Shape;
+use area_rings::{Shape, point};
 use chart_model::{Coord, Key};
 use plane_bounds::{Bounds, bounds_of};
 use std::marker::Model;
