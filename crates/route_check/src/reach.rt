@@ -53,14 +53,14 @@ impl Reach {
     pub(crate) fn of(leg: Leg) -> Reach
         ensures { result.leg ≡ leg }
     {
-        let across = Span::round(leg.a.x, leg.b.x, leg.w);
-        let along = Span::round(leg.a.y, leg.b.y, leg.h);
+        let longitudes = Span::round(leg.a.x, leg.b.x, leg.w);
+        let latitudes = Span::round(leg.a.y, leg.b.y, leg.h);
         Reach {
             leg,
-            west: across.low,
-            south: along.low,
-            east: across.high,
-            north: along.high,
+            west: longitudes.low,
+            south: latitudes.low,
+            east: longitudes.high,
+            north: latitudes.high,
         }
     }
 

@@ -5,14 +5,14 @@ use Rattle.route_check.proofs.reach.Reach.of.Goals as goal
 
 pub invariant_of-result : goal.invariant_of-result
 invariant_of-result c =
-    let west : SFits w64 c.round-across.result.low = search rules in
-    let east : SFits w64 c.round-across.result.high = search rules in
-    let south : SFits w64 c.round-along.result.low = search rules in
-    let north : SFits w64 c.round-along.result.high = search rules in
+    let west : SFits w64 c.round-longitudes.result.low = search rules in
+    let east : SFits w64 c.round-longitudes.result.high = search rules in
+    let south : SFits w64 c.round-latitudes.result.low = search rules in
+    let north : SFits w64 c.round-latitudes.result.high = search rules in
     let ax : SFits w32 c.args.leg.a.x = search rules in
     let ay : SFits w32 c.args.leg.a.y = search rules in
     let bx : SFits w32 c.args.leg.b.x = search rules in
     let by : SFits w32 c.args.leg.b.y = search rules in
-    let across = simp to_z-of_z at c.round-across.ensures in
-    let along = simp to_z-of_z at c.round-along.ensures in
-    simp to_z-of_z (record { covers = record { across = across; along = along } })
+    let longitudes = simp to_z-of_z at c.round-longitudes.ensures in
+    let latitudes = simp to_z-of_z at c.round-latitudes.ensures in
+    simp to_z-of_z (record { covers = record { across = longitudes; along = latitudes } })
