@@ -12,3 +12,4 @@ pub mod FileReading
 pub mod Headers
 pub mod Ranges
 pub mod Arrays
+pub mod Counts

@@ -213,16 +213,15 @@ fn count_features(cell: &Cell, first: u16, last: u16) -> Result<u32, AllocError>
     Ok(count)
 }
 
-/// How many features have another class.
-#[tactic(auto, unfolding(crate::specs::DataSet::features_outside))]
+/// How many features have another class. A number that doesn't fit is want of memory.
+#[tactic(auto, using(crate::proofs::Counts::features_parted))]
 fn count_others(cell: &Cell, first: u16, last: u16) -> Result<u32, AllocError>
     ensures { IfOk result (λ count. count ≡ features_outside cell.now first last) }
 {
-    let mut count = 0;
-    for (_, feature) in cell.features.iter() {
-        count = counted(count, !(first <= feature.class && feature.class <= last))?;
-    }
-    Ok(count)
+    let Ok(all) = u32::try_from(cell.features.len()) else {
+        return Err(AllocError);
+    };
+    Ok(all - count_features(cell, first, last)?)
 }
 
 /// Adds NOMR, NOCR, NOGR and NOLR.
