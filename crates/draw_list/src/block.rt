@@ -9,6 +9,7 @@ ghost use Rattle.topology_cache.specs.Users.{AreUsersOf};
 
 use crate::items::{KnownAreas, items_of};
 use crate::sources::Sources;
+use chart_model::codes::{AREA, LINE, POINT};
 use chart_model::{AttrMap, Block, Cell, Feature, Geom, ItemList, Name, Settings, Target};
 use draw_items::push_item;
 use lookup_table::{Table, TableLine};
@@ -26,14 +27,14 @@ const UNKNOWN_PRIORITY: u8 = 5;
 /// What is drawn of a feature for which the table has no line.
 const UNKNOWN_SYMBOL: &[u8] = b"SY(QUESMRK1)";
 
-/// The geometry of a primitive (S-57 Part 3, PRIM): 1 point, 2 line, 3 area.
+/// The geometry of a primitive (S-57 Part 3, PRIM).
 fn geom_of(prim: u8) -> Option<Geom>
     ensures { result ≡ geom_of prim }
 {
     match prim {
-        1 => Some(Geom::Point),
-        2 => Some(Geom::Line),
-        3 => Some(Geom::Area),
+        POINT => Some(Geom::Point),
+        LINE => Some(Geom::Line),
+        AREA => Some(Geom::Area),
         _ => None,
     }
 }
