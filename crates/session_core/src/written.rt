@@ -12,6 +12,7 @@ ghost use Rattle.session_core.specs.Written.{base_of, made_file, reissued, updat
 use crate::draw::chart_of;
 use crate::fault::EventFault;
 use crate::refusal::Refusal;
+use cell_bytes::AREA_STRIDE;
 use cell_writer::{make_cell, make_update, write_cell};
 use chart_model::{Cell, HoldingMap, Key, Octets};
 use chart_store::Refusal as StoreRefusal;
@@ -45,7 +46,7 @@ fn modified_count(update: u32, areas: u32) -> u32
 {
     let mut count = 0;
     for before in 0..areas {
-        if (before + 1) % 30 == update % 30 {
+        if (before + 1) % AREA_STRIDE == update % AREA_STRIDE {
             count += 1;
         }
     }
