@@ -181,12 +181,13 @@ module _ {D : Type 0} (clock : D → ℕ) (might : D → ℕ → Images → List
       → LeavesOnly clock might d1 d2 (LeavesSaying may_leave middle (printed reply))
       → Answered tells files (LeavesOnly clock might d0 d2) number line before now
   answered-said IsGiven d0 d1 d2 may_leave reply middle now counted silent said gives stands x then_said =
-      let given = gives (step_to x.fetches before.model number line) x.gives in
+      let step : Step = step_to x.fetches before.model number line in
+      let given = gives step x.gives in
       record {
         fetches = x.fetches;
         taken = taken-said IsGiven d0 d1 d2 may_leave reply middle now counted silent gives stands x then_said;
         after = record {
-          said = said ∙ ap (λ (l : List ℕ). l ++ printed reply) silent ∙ ap (λ (l : List ℕ). before.said ++ l) (sym (output-replied _ reply given.0));
+          said = said ∙ ap (λ (l : List ℕ). l ++ printed reply) silent ∙ ap (λ (l : List ℕ). before.said ++ l) (sym (output-replied step reply given.0));
           reached = sym given.1;
         };
       }

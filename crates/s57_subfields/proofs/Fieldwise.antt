@@ -65,22 +65,22 @@ module _ {A : Type 0} (read : Value → Option A) (fault : FieldFault) (front : 
     (inside : i < length fields) (is : field ≡ get_or fields i field) (same : bytes_eq field.tag tag ≡ true) (values_are : values ≡ field.values)
     (goes_on : before front (read_each read fault (under tag at between (drop i fields))) ≡ whole)
   where
-  whole-is : whole ≡ before front (read_each read fault (every between at values ++ under tag at between (drop (i + 1) fields)))
-  whole-is =
-      sym goes_on
-      ∙ ap (λ ys. before front (read_each read fault ys)) (under-same tag at between fields i field inside is same ∙ ap (λ vs. every between at vs ++ under tag at between (drop (i + 1) fields)) (sym values_are))
+    whole-is : whole ≡ before front (read_each read fault (every between at values ++ under tag at between (drop (i + 1) fields)))
+    whole-is =
+        sym goes_on
+        ∙ ap (λ ys. before front (read_each read fault ys)) (under-same tag at between fields i field inside is same ∙ ap (λ vs. every between at vs ++ under tag at between (drop (i + 1) fields)) (sym values_are))
 
-  -- its values are read
-  pub column-goes_on : {all : List A} → before front (read_each read fault (every between at values)) ≡ Ok all → before all (read_each read fault (under tag at between (drop (i + 1) fields))) ≡ whole
-  column-goes_on {all} good =
-      sym (whole-is ∙ read_front read fault front all (every between at values) (under tag at between (drop (i + 1) fields)) good)
+    -- its values are read
+    pub column-goes_on : {all : List A} → before front (read_each read fault (every between at values)) ≡ Ok all → before all (read_each read fault (under tag at between (drop (i + 1) fields))) ≡ whole
+    column-goes_on {all} good =
+        sym (whole-is ∙ read_front read fault front all (every between at values) (under tag at between (drop (i + 1) fields)) good)
 
-  -- one of them isn't what it has to be
-  pub column-fails : (other : FieldFault) → Fails other (before front (read_each read fault (every between at values))) → Fails other whole
-  column-fails other fails =
-      Fails-as other (before front (read_each read fault (every between at values))) whole
-      (λ bad e. whole-is ∙ read_front_fails read fault bad front (every between at values) (under tag at between (drop (i + 1) fields)) e)
-      fails
+    -- one of them isn't what it has to be
+    pub column-fails : (other : FieldFault) → Fails other (before front (read_each read fault (every between at values))) → Fails other whole
+    column-fails other fails =
+        Fails-as other (before front (read_each read fault (every between at values))) whole
+        (λ bad e. whole-is ∙ read_front_fails read fault bad front (every between at values) (under tag at between (drop (i + 1) fields)) e)
+        fails
 
 -- no field is left
 pub column-ends : {A : Type 0} (read : Value → Option A) (fault : FieldFault) (front : List A) (tag : List ℕ) (at between : ℕ) (fields : List RawField) (i : ℕ) {whole : Result (List A) FieldFault} → length fields ≤ i → before front (read_each read fault (under tag at between (drop i fields))) ≡ whole → whole ≡ Ok front

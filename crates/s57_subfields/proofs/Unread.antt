@@ -62,19 +62,19 @@ module _ {A : Type 0} (reads : List Value → Option A) (front : List A) (tag : 
     (goes_on : map (λ x. Some x) front ++ map reads (groups_under tag at between (drop i fields))
     ≡ map reads (groups_under tag at between fields))
   where
-  -- its groups are read
-  pub groups-go_on : (all : List A)
-      → map (λ x. Some x) all ≡ map (λ x. Some x) front ++ map reads (tails between at values)
-      → map (λ x. Some x) all ++ map reads (groups_under tag at between (drop (i + 1) fields))
-      ≡ map reads (groups_under tag at between fields)
-  groups-go_on all found =
-      field-read reads front all tag at between fields i field inside is same
-      (found ∙ ap (λ (vs : List Value). map (λ x. Some x) front ++ map reads (tails between at vs)) values_are)
-      ∙ goes_on
+    -- its groups are read
+    pub groups-go_on : (all : List A)
+        → map (λ x. Some x) all ≡ map (λ x. Some x) front ++ map reads (tails between at values)
+        → map (λ x. Some x) all ++ map reads (groups_under tag at between (drop (i + 1) fields))
+        ≡ map reads (groups_under tag at between fields)
+    groups-go_on all found =
+        field-read reads front all tag at between fields i field inside is same
+        (found ∙ ap (λ (vs : List Value). map (λ x. Some x) front ++ map reads (tails between at vs)) values_are)
+        ∙ goes_on
 
-  -- one of them isn't what it has to be
-  pub groups-have_none : HasNone (map reads (tails between at values))
-      → HasNone (map reads (groups_under tag at between fields))
-  groups-have_none none =
-      field-unread reads front tag at between fields i field inside is same
-      (subst (λ (vs : List Value). HasNone (map reads (tails between at vs))) values_are none) goes_on
+    -- one of them isn't what it has to be
+    pub groups-have_none : HasNone (map reads (tails between at values))
+        → HasNone (map reads (groups_under tag at between fields))
+    groups-have_none none =
+        field-unread reads front tag at between fields i field inside is same
+        (subst (λ (vs : List Value). HasNone (map reads (tails between at vs))) values_are none) goes_on
