@@ -1,4 +1,4 @@
-//! Codes of the S-57 object catalogue (S-57 Appendix A): classes and attributes.
+//! Codes of the S-57 object catalogue (S-57 Appendix A): classes, attributes, and values of attributes.
 
 /// The class of a depth area.
 pub const DEPARE: u16 = 42;
@@ -38,3 +38,33 @@ pub const VALSOU: u16 = 179;
 
 /// The attribute water level effect.
 pub const WATLEV: u16 = 187;
+
+/// The category of wreck (CATWRK) non-dangerous.
+pub const NON_DANGEROUS_WRECK: &[u8] = b"1";
+
+/// The category of wreck (CATWRK) dangerous.
+pub const DANGEROUS_WRECK: &[u8] = b"2";
+
+/// The category of wreck (CATWRK) that shows a mast.
+pub const WRECK_WITH_MAST: &[u8] = b"4";
+
+/// The category of wreck (CATWRK) that shows a part of its hull.
+pub const WRECK_WITH_HULL: &[u8] = b"5";
+
+/// The category of obstruction (CATOBS) foul area.
+pub const FOUL_AREA: &[u8] = b"6";
+
+/// The water level effect (WATLEV) always under water.
+pub const ALWAYS_UNDER_WATER: &[u8] = b"3";
+
+/// The water level effect (WATLEV) awash.
+pub const AWASH: &[u8] = b"5";
+
+/// The exposition of sounding (EXPSOU) within the range of the depths around it.
+pub const WITHIN_DEPTHS_AROUND: &[u8] = b"1";
+
+/// The exposition of sounding (EXPSOU) deeper than the depths around it.
+pub const DEEPER_THAN_AROUND: &[u8] = b"3";
+
+/// The water level effect (WATLEV) covers and uncovers.
+pub const COVERS_AND_UNCOVERS: &[u8] = b"4";

@@ -8,7 +8,11 @@ ghost use Rattle.depth_values.specs.Hazard.{depth_among, depth_under, assumed_de
 ghost use Rattle.depth_values.specs.Hazard.{hazard_depth, hazard_depth_by};
 
 use crate::attributes::{depth_at, has_value};
-use crate::codes::{CATOBS, CATWRK, EXPSOU, OBSTRN, VALSOU, WATLEV, WRECKS};
+use crate::codes::{
+    ALWAYS_UNDER_WATER, AWASH, CATOBS, CATWRK, DANGEROUS_WRECK, DEEPER_THAN_AROUND, EXPSOU,
+    FOUL_AREA, NON_DANGEROUS_WRECK, OBSTRN, VALSOU, WATLEV, WITHIN_DEPTHS_AROUND, WRECK_WITH_HULL,
+    WRECK_WITH_MAST, WRECKS,
+};
 use crate::depth_area::{DepthArea, depth_areas};
 use crate::under::{is_safe_among, least_among};
 use area_rings::{Shape, feature_shape};
@@ -17,33 +21,6 @@ use std::alloc::{AllocError, Global};
 
 /// The most that a sounding may lie below or above the datum, in centimetres: five digits of metres are drawn.
 const MOST_SOUNDING: u32 = 9_999_999;
-
-/// The category of wreck (CATWRK) non-dangerous.
-const NON_DANGEROUS_WRECK: &[u8] = b"1";
-
-/// The category of wreck (CATWRK) dangerous.
-const DANGEROUS_WRECK: &[u8] = b"2";
-
-/// The category of wreck (CATWRK) that shows a mast.
-const WRECK_WITH_MAST: &[u8] = b"4";
-
-/// The category of wreck (CATWRK) that shows a part of its hull.
-const WRECK_WITH_HULL: &[u8] = b"5";
-
-/// The category of obstruction (CATOBS) foul area.
-const FOUL_AREA: &[u8] = b"6";
-
-/// The water level effect (WATLEV) always under water.
-const ALWAYS_UNDER_WATER: &[u8] = b"3";
-
-/// The water level effect (WATLEV) awash.
-const AWASH: &[u8] = b"5";
-
-/// The exposition of sounding (EXPSOU) within the range of the depths around it.
-const WITHIN_DEPTHS_AROUND: &[u8] = b"1";
-
-/// The exposition of sounding (EXPSOU) deeper than the depths around it.
-const DEEPER_THAN_AROUND: &[u8] = b"3";
 
 /// The depth of a wreck that is known to be no danger, in centimetres.
 const NON_DANGEROUS_DEPTH: i32 = 2_010;

@@ -4,24 +4,26 @@ ghost use Rattle.std.specs.Prelude.{◌≡◌};
 ghost use Rattle.hazard_symbology.specs.Symbol.{dries, wreck_symbol, rock_symbol, obstruction_symbol, symbol_of};
 
 use chart_model::Feature;
-use depth_values::codes::{CATWRK, UWTROC, WATLEV, WRECKS};
+use depth_values::codes::{
+    AWASH, CATWRK, COVERS_AND_UNCOVERS, NON_DANGEROUS_WRECK, UWTROC, WATLEV, WRECK_WITH_HULL,
+    WRECK_WITH_MAST, WRECKS,
+};
 use depth_values::has_value;
 
-/// Whether the water level says that the hazard is above the water at times: it covers and uncovers (`4`) or is awash
-/// (`5`).
+/// Whether the water level says that the hazard is above the water at times: it covers and uncovers, or is awash.
 fn dries(feature: &Feature) -> bool
     ensures { result ≡ dries feature.now }
 {
-    has_value(feature, WATLEV, b"4") || has_value(feature, WATLEV, b"5")
+    has_value(feature, WATLEV, COVERS_AND_UNCOVERS) || has_value(feature, WATLEV, AWASH)
 }
 
 /// The symbol of a wreck: that of one that shows above the water, of one that isn't dangerous, or of any other.
 fn wreck_symbol(feature: &Feature) -> &'static [u8]
     ensures { result.now ≡ wreck_symbol feature.now }
 {
-    if has_value(feature, CATWRK, b"4") || has_value(feature, CATWRK, b"5") {
+    if has_value(feature, CATWRK, WRECK_WITH_MAST) || has_value(feature, CATWRK, WRECK_WITH_HULL) {
         b"SY(WRECKS01)"
-    } else if has_value(feature, CATWRK, b"1") {
+    } else if has_value(feature, CATWRK, NON_DANGEROUS_WRECK) {
         b"SY(WRECKS04)"
     } else {
         b"SY(WRECKS05)"

@@ -16,7 +16,7 @@ pub enum TableFault {
     /// A class or an attribute on the line of this number isn't in the catalogue.
     #[error("a name on line {0} of the table is not in the catalogue")]
     UnknownName(u64),
-    /// A conditional procedure on the line of this number isn't one of those that there are.
+    /// A conditional symbology procedure on the line of this number isn't one of those that there are.
     #[error("a procedure on line {0} of the table is unknown")]
     UnknownProcedure(u64),
     #[error("there was no memory")]

@@ -11,7 +11,7 @@
 //!   more bytes from 0x21 to 0x7E without `+`;
 //! - INSTRUCTIONS, the rest of the line, is `-` for none, or instructions joined by `;`. An instruction is two capital
 //!   letters and a text in parentheses, of bytes from 0x20 to 0x7E without `(`, `)` and `;`. `CS(..)` calls a
-//!   conditional procedure: DEPARE01, DEPCNT02, SOUNDG02, OBSTRN04 or WRECKS02.
+//!   conditional symbology procedure: DEPARE01, DEPCNT02, SOUNDG02, OBSTRN04 or WRECKS02.
 //!
 //! Any other line is bad, and so is each line behind the 10,000th, whatever it holds. The acronyms stand in the object
 //! catalogue. Of the first line with a fault the first is answered: that it is bad, that a name is unknown, that a
