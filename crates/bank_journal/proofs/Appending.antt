@@ -11,7 +11,7 @@ use Rattle.bank_journal.specs.Bank.{frame_of, IsBodyLength, appended, HasContent
 use Rattle.bank_journal.specs.Moments.{IsBeforeOrAfter, IsInStep, LeavesFile}
 use Rattle.bank_journal.specs.Reading.{bank_of}
 use Rattle.bank_journal.proofs.Fronts.{kept, torn_gate, opened_gate, staged_inside, next_gate, reads_content}
-use Rattle.bank_journal.proofs.Readings.{given}
+use Rattle.bank_journal.proofs.BankRead.{given}
 
 -- what has a content is read so
 pub reads : (bytes : List ℕ) (content : BankContent) → HasContent bytes content → bank_of bytes ≡ Ok content

@@ -13,7 +13,7 @@ use Rattle.bank_journal.specs.Handle.{place_of}
 use Rattle.bank_journal.specs.Moments.{IsInStep, LeavesFile, nine_zeros}
 use Rattle.bank_journal.specs.Reading.{bank_of}
 use Rattle.bank_journal.proofs.Appending.{file_weaker}
-use Rattle.bank_journal.proofs.Readings.{reading_tells, short_bank}
+use Rattle.bank_journal.proofs.BankRead.{reading_tells, short_bank}
 
 -- ---- a bank of at most nine bytes
 

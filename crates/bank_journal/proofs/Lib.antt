@@ -1,6 +1,6 @@
 pub mod Appending
 pub mod Fronts
 pub mod InStep
-pub mod Readings
+pub mod BankRead
 pub mod Records
 pub mod Walk

@@ -8,7 +8,7 @@ use Rattle.bank_journal.specs.declared.reading.ReadFault.TheVariants.{Foreign, N
 use Rattle.bank_journal.specs.Bank.{IsOpen, HasHeader, checkpoint_length}
 use Rattle.bank_journal.specs.ReadFault.{FaultHas}
 use Rattle.bank_journal.specs.Reading.{behind_bodies, body_in, bodies_in, content_of, bank_of}
-use Rattle.bank_journal.proofs.Readings.{sound_header}
+use Rattle.bank_journal.proofs.BankRead.{whole_header}
 use Rattle.bank_journal.proofs.Records.{none_behind, cut_behind, body_behind}
 
 joined_more : (bodies : List (List ℕ)) (body : List ℕ) (result : Result (List (List ℕ)) ℕ)
@@ -66,7 +66,7 @@ module _ (bytes behind : List ℕ) (first at : ℕ) (bodies : List (List ℕ)) (
 module _ (bytes : List ℕ) (first : ℕ) (long : 9 < length bytes) (header : HasHeader bytes)
     (place : first ≡ 8 + checkpoint_length bytes) where
   given_by : bank_of bytes ≡ content_of bytes (bodies_in 0 (drop first bytes))
-  given_by = sound_header bytes long header ∙ ap (λ (n : ℕ). content_of bytes (bodies_in 0 (drop n bytes))) (sym place)
+  given_by = whole_header bytes long header ∙ ap (λ (n : ℕ). content_of bytes (bodies_in 0 (drop n bytes))) (sym place)
 
   pub bank_foreign : (fault : ReadFault)
       → FaultHas (λ offset. content_of bytes (bodies_in 0 (drop first bytes)) ≡ Err offset) fault

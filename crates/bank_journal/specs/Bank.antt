@@ -90,7 +90,7 @@ abbrev pub ReadsAs : List ℕ → BankContent → Type 0
 ReadsAs bytes content =
     ((length bytes ≤ 9) × (content ≡ nothing)) ⊎ ((9 < length bytes) × HasContent bytes content)
 
--- sound records stand up to this place, and there one is cut short
+-- whole records stand up to this place, and there one is cut short
 pub record IsCutAt (bytes : List ℕ) (offset : ℕ) : Type 0 where
   pub bodies : List (List ℕ)
   pub rest : List ℕ
@@ -98,7 +98,7 @@ pub record IsCutAt (bytes : List ℕ) (offset : ℕ) : Type 0 where
   pub cut : IsCutShort rest
   pub place : offset + length rest ≡ length bytes
 
--- this is the place of the first fault: 0 for a header that isn't sound, else that of the first open gate whose record
+-- this is the place of the first fault: 0 where there is no header, else that of the first open gate whose record
 -- is cut short
 abbrev pub HasFault : List ℕ → ℕ → Type 0
 HasFault bytes offset =

@@ -75,7 +75,7 @@ fn read_bodies(alloc: Global, bytes: &[u8], first: usize) -> Result<(BodyList, u
     Ok((bodies, at))
 }
 
-/// The place behind the checkpoint, where the header is sound.
+/// The place behind the checkpoint, where there is a header.
 fn first_gate(bytes: &[u8]) -> Option<usize>
     requires { 9 < length bytes.now }
     ensures some { IfSome result (λ gate. HasHeader bytes.now) }

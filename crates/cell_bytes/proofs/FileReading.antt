@@ -42,7 +42,7 @@ use Rattle.cell_bytes.specs.declared.fault.WriteFault.{WriteFault}
 use Rattle.cell_bytes.specs.declared.fault.WriteFault.TheVariants.{RecordLong}
 use Rattle.cell_bytes.specs.Written.{feature_faults, length_fault, record_fault, vector_faults, write_fault, written}
 use Rattle.cell_bytes.proofs.Headers.{general_short, parameters_short}
-use Rattle.cell_bytes.proofs.SoundFields as sound
+use Rattle.cell_bytes.proofs.FieldsRead as again
 use Rattle.cell_bytes.proofs.RecordFaults.{feature_length, vector_length}
 use Rattle.cell_bytes.proofs.FieldSpellings as spelled
 
@@ -169,7 +169,7 @@ vector_is : (number : ℕ) (entry : Name × Vector) → IsVectorInRange entry �
     → IsDataRecord layout.tags_read layout.layouts (vector_record entry.0 entry.1 number) (vector_read entry.0 entry.1)
 vector_is number entry range short =
     data_record _ (vector_fields number entry.0 entry.1) _
-    (sound.vector_read layout.tags_read number entry.0 entry.1
+    (again.vector_read layout.tags_read number entry.0 entry.1
     (subst (λ (n : ℕ). n ≤ 99999) (vector_length entry.0 entry.1 0 number) short))
     (vector_pairs number entry.0 entry.1 range)
 
@@ -177,7 +177,7 @@ feature_is : (number : ℕ) (entry : Name × Feature) → IsFeatureEntryInRange 
     → IsDataRecord layout.tags_read layout.layouts (feature_record entry.0 entry.1 number) (feature_read entry.0 entry.1)
 feature_is number entry range short =
     data_record _ (feature_fields number entry.0 entry.1) _
-    (sound.feature_read layout.tags_read number entry.0 entry.1
+    (again.feature_read layout.tags_read number entry.0 entry.1
     (subst (λ (n : ℕ). n ≤ 99999) (feature_length entry.0 entry.1 0 number) short))
     (feature_pairs number entry.0 entry.1 range)
 
@@ -226,10 +226,10 @@ cell_records : (cell : CellValue) → IsCellInRange cell → AllByRecursion IsSh
 unfolding data_records records_read vector_records feature_records
 cell_records cell range short_vectors short_features =
     let all : AllRead 1 (data_records cell) (records_read cell) = (
-      data_record _ (general_fields 1 cell) _ (sound.general_read layout.tags_read 1 cell (general_short 1 cell range.header.chart range.header.issued)) (general_pairs 1 cell range),
+      data_record _ (general_fields 1 cell) _ (again.general_read layout.tags_read 1 cell (general_short 1 cell range.header.chart range.header.issued)) (general_pairs 1 cell range),
       (
         data_record _ (parameter_fields 2 cell.header.scale) _
-            (sound.parameters_read layout.tags_read 2 cell.header.scale (parameters_short 2 cell.header.scale)) (parameter_pairs 2 cell range),
+            (again.parameters_read layout.tags_read 2 cell.header.scale (parameters_short 2 cell.header.scale)) (parameter_pairs 2 cell range),
         all-append 3 (map (λ entry. vector_record entry.0 entry.1) (finite.entries cell.vectors))
             (map (λ entry. feature_record entry.0 entry.1) (finite.entries cell.features))
             (map (λ entry. vector_read entry.0 entry.1) (finite.entries cell.vectors))

@@ -5,7 +5,7 @@ pub mod MadeCells
 pub mod Updates
 pub mod Spellings
 pub mod Reading
-pub mod SoundFields
+pub mod FieldsRead
 pub mod DescriptiveReading
 pub mod FieldSpellings
 pub mod FileReading

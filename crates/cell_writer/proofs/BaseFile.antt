@@ -10,7 +10,7 @@ use Rattle.cell_bytes.specs.Written.{written}
 use Rattle.cell_writer.specs.ReadBack.{data_set_of, IsBaseFileOf}
 use Rattle.cell_writer.proofs.Built.{built-back}
 
-module _ (sound : (cell : CellValue) → IsCell cell → IsClosed cell → closure_fault cell ≡ None) where
+module _ (faultless : (cell : CellValue) → IsCell cell → IsClosed cell → closure_fault cell ≡ None) where
   -- a file that is read as the data set of a cell
   pub reads-back : (cell : CellValue) (file : List ℕ) → IsCell cell → IsClosed cell → data_set_in file ≡ Ok (data_set_of cell) → IsBaseFileOf cell file
   reads-back cell file is closed read = record {
@@ -18,7 +18,7 @@ module _ (sound : (cell : CellValue) → IsCell cell → IsClosed cell → closu
     reads = read;
     base = refl;
     header = refl;
-    builds = built-back sound cell is closed;
+    builds = built-back faultless cell is closed;
   }
 
   -- what is answered as the file of a cell

@@ -11,10 +11,10 @@ use Rattle.update_sequence.specs.Built.{built}
 use Rattle.cell_writer.specs.ReadBack.{data_set_of}
 use Rattle.cell_writer.proofs.Insertions.{insertions-folded}
 
-module _ (sound : (cell : CellValue) → IsCell cell → IsClosed cell → closure_fault cell ≡ None) where
+module _ (faultless : (cell : CellValue) → IsCell cell → IsClosed cell → closure_fault cell ≡ None) where
   -- it is the cell again
   pub built-back : (cell : CellValue) → IsCell cell → IsClosed cell → built None (data_set_of cell) ≡ Ok cell
   unfolding built
   built-back cell is closed =
       ap (λ (made : Result CellValue BuildFault). made >>= (λ x. unless (option_map of_build.Closure (closure_fault x)) x)) (insertions-folded cell is)
-      ∙ ap (λ (fault : Option ClosureFault). unless (option_map of_build.Closure fault) cell) (sound cell is closed)
+      ∙ ap (λ (fault : Option ClosureFault). unless (option_map of_build.Closure fault) cell) (faultless cell is closed)

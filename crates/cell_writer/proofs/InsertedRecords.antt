@@ -67,18 +67,18 @@ data-set-is first second header records changes general are =
 
 -- ---- the records of entries
 
-module _ (layouts : Layouts) {E : Type 0} (fields : E → List RawField) (change : E → Change) (IsSound : E → Type 0)
-    (each : (n : ℕ) (entry : E) → IsSound entry → Inserts n (subfields_of layouts n (fields entry)) (change entry)) where
-  -- those of sound entries, and then others
+module _ (layouts : Layouts) {E : Type 0} (fields : E → List RawField) (change : E → Change) (Fits : E → Type 0)
+    (each : (n : ℕ) (entry : E) → Fits entry → Inserts n (subfields_of layouts n (fields entry)) (change entry)) where
+  -- those of entries that fit, and then others
   pub inserted-append : (more : List (List RawField)) (changes : List Change)
       → ((n : ℕ) → AreInserted n (all_subfields layouts n more) changes) → (n : ℕ) (entries : List E)
-      → AllByRecursion IsSound entries
+      → AllByRecursion Fits entries
       → AreInserted n (all_subfields layouts n (map fields entries ++ more)) (map change entries ++ changes)
-  inserted-append more changes others n [] sound = others n
-  inserted-append more changes others n (entry ∷ entries) sound =
-      (each n entry sound.0, inserted-append more changes others (suc n) entries sound.1)
+  inserted-append more changes others n [] fit = others n
+  inserted-append more changes others n (entry ∷ entries) fit =
+      (each n entry fit.0, inserted-append more changes others (suc n) entries fit.1)
 
-  pub inserted : (n : ℕ) (entries : List E) → AllByRecursion IsSound entries
+  pub inserted : (n : ℕ) (entries : List E) → AllByRecursion Fits entries
       → AreInserted n (all_subfields layouts n (map fields entries)) (map change entries)
-  inserted n [] sound = tt
-  inserted n (entry ∷ entries) sound = (each n entry sound.0, inserted (suc n) entries sound.1)
+  inserted n [] fit = tt
+  inserted n (entry ∷ entries) fit = (each n entry fit.0, inserted (suc n) entries fit.1)

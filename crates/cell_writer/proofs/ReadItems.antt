@@ -60,7 +60,7 @@ attribute-list = record {
   start = refl;
   sized = λ entry range. refl;
   reads = attribute-read;
-  sound = λ row entry more all. (
+  faultless = λ row entry more all. (
     no_fault_under (number_up_to TWO_BYTES) labels.ATTL layout.ATTRIBUTES row attribute_values (λ e. e.0) IsEntryInRange code-read entry more all,
     (no_fault_under plain_text labels.ATVL layout.ATTRIBUTES row attribute_values (λ e. e.1) IsEntryInRange value-read entry more all, tt),
   );
@@ -95,7 +95,7 @@ vector_pointer-list = record {
   start = refl;
   sized = λ pointer range. refl;
   reads = vector_pointer-read;
-  sound = λ row pointer more all. (
+  faultless = λ row pointer more all. (
     no_fault_under record_name labels.NAME layout.VRPT row vector_pointer_values (λ p. p.target) IsPointerInRange target-read pointer more all,
     (
       no_fault_under (number_up_to ONE_BYTE) labels.ORNT layout.VRPT row vector_pointer_values (λ p. p.ornt) IsPointerInRange ornt-read pointer more all,
@@ -146,7 +146,7 @@ feature_pointer-list = record {
   start = refl;
   sized = λ pointer is. refl;
   reads = feature_pointer-read;
-  sound = λ row pointer more all. (
+  faultless = λ row pointer more all. (
     no_fault_under record_name labels.NAME layout.FSPT row feature_pointer_values (λ p. p.target) IsFeaturePointer target-read-of_feature pointer more all,
     (
       no_fault_under (number_up_to ONE_BYTE) labels.ORNT layout.FSPT row feature_pointer_values (λ p. p.ornt) IsFeaturePointer ornt-read-of_feature pointer more all,
@@ -180,7 +180,7 @@ related-list = record {
   start = refl;
   sized = λ related range. refl;
   reads = related-read;
-  sound = λ row related more all. (
+  faultless = λ row related more all. (
     no_fault_under object_name labels.LNAM layout.FFPT row related_values (λ r. r.foid) IsRelatedInRange foid-read related more all,
     (no_fault_under (number_up_to ONE_BYTE) labels.RIND layout.FFPT row related_values (λ r. r.rind) IsRelatedInRange rind-read related more all, tt),
   );
@@ -217,7 +217,7 @@ point-list = record {
   start = refl;
   sized = λ coord is. ap length (point-values coord is);
   reads = point-read;
-  sound = λ row coord more all. (
+  faultless = λ row coord more all. (
     no_fault_under (number_within LATITUDE) labels.YCOO layout.SG2D row point_values (λ c. c.y) IsPoint latitude-read coord more all,
     (no_fault_under (number_within LONGITUDE) labels.XCOO layout.SG2D row point_values (λ c. c.x) IsPoint longitude-read coord more all, tt),
   );
@@ -265,7 +265,7 @@ sounding-list = record {
   start = refl;
   sized = λ coord is. ap length (sounding-values coord is);
   reads = sounding-read;
-  sound = λ row coord more all. (
+  faultless = λ row coord more all. (
     no_fault_under (number_within LATITUDE) labels.YCOO layout.SG3D row sounding_values (λ c. c.y) IsSounding latitude-read-of_sounding coord more all,
     (
       no_fault_under (number_within LONGITUDE) labels.XCOO layout.SG3D row sounding_values (λ c. c.x) IsSounding longitude-read-of_sounding coord more all,

@@ -100,7 +100,7 @@ pub record IsListOf
   pub start : group_start layout ≡ 0
   pub sized : (x : X) → P x → length (values x) ≡ group_size layout
   pub reads : (x : X) → P x → item_in layout (values x) ≡ Some (made x)
-  pub sound : (row : RowValues) (x : X) (xs : List X) → AllByRecursion P (x ∷ xs)
+  pub faultless : (row : RowValues) (x : X) (xs : List X) → AllByRecursion P (x ∷ xs)
       → AllByRecursion (λ fault. fault ≡ None) (faults layout row (map values (x ∷ xs)))
 
 abbrev parts_with : {X : Type 0} → (X → List Value) → List X → List GroupedField
@@ -124,9 +124,9 @@ list-read {item_in = item_in} {faults = faults} {list_in = list_in} {layout = la
     } in
     let some : row.fields ≡ [] → ⊥ = λ e. (let none : flat_map values (x ∷ xs) ∷ [] ≡ [] = sym fields ∙ e in cc) in
     let same : groups ++ [] ≡ groups = append-nil groups in
-    let sound : first_of (faults layout row (groups ++ [])) ≡ None =
-    ap (λ (gs : List (List Value)). first_of (faults layout row gs)) same ∙ none_first (faults layout row groups) (is.sound row x xs all) in
-    let read = without_fault (list_in (Some layout) row) (is.fault.first layout row (parts_with values (x ∷ xs)) grouped some ∙ sound) in
+    let faultless : first_of (faults layout row (groups ++ [])) ≡ None =
+    ap (λ (gs : List (List Value)). first_of (faults layout row gs)) same ∙ none_first (faults layout row groups) (is.faultless row x xs all) in
+    let read = without_fault (list_in (Some layout) row) (is.fault.first layout row (parts_with values (x ∷ xs)) grouped some ∙ faultless) in
     let each : map (λ item. Some item) read.0 ≡ map (λ item. Some item) (map made (x ∷ xs)) =
     sym (is.items layout row (parts_with values (x ∷ xs)) read.0 grouped read.1)
     ∙ ap (map (item_in layout)) same

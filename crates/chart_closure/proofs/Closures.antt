@@ -40,8 +40,8 @@ closed cell e q =
     let p = neither (first_fault (feature_fault cell) (finite.entries cell.features)) (first_fault (vector_fault cell) (finite.entries cell.vectors)) (sym (closure_split cell) ∙ e) in
     let none = no_fault (feature_fault cell) (finite.entries cell.features) p.0 q in
     let no_more = no_fault (vector_fault cell) (finite.entries cell.vectors) p.1 q in
-    let sound : first_of (feature_at cell q ∷ vector_at cell q ∷ []) ≡ None = rw (none, no_more) refl in
-    ap is_some (at_name cell q ∙ sound)
+    let faultless : first_of (feature_at cell q ∷ vector_at cell q ∷ []) ≡ None = rw (none, no_more) refl in
+    ap is_some (at_name cell q ∙ faultless)
 
 -- what holds of a value that is there
 held : {A : Type 0} {P : A → Type 0} {Q : Type 0} (o : Option A) → IfSome o P → IsSome o → ((x : A) → P x → Q) → Q
@@ -99,8 +99,8 @@ least cell fault kept e = go (first_fault (feature_fault cell) (finite.entries c
         of_vectors (no_fault (feature_fault cell) (finite.entries cell.features) is) (least_fault (vector_fault cell) (finite.entries cell.vectors) fault (finite.entries_sorted cell.vectors) e)
 
 -- a closed chart has no fault
-pub sound : (cell : CellValue) → IsCell cell → IsClosed cell → closure_fault cell ≡ None
-sound cell kept none = go (closure_fault cell) refl
+pub faultless : (cell : CellValue) → IsCell cell → IsClosed cell → closure_fault cell ≡ None
+faultless cell kept none = go (closure_fault cell) refl
   where
     is_none_of : (o : Option ClosureFault) → IsNone o → o ≡ None
     is_none_of None h = refl
@@ -116,7 +116,7 @@ sound cell kept none = go (closure_fault cell) refl
 pub answer_closed : (cell : CellValue) (r : Result (Unit {0}) ClosureFault) → IsCell cell → result_err r ≡ closure_fault cell → IsOk r ↔ IsClosed cell
 answer_closed cell (Ok x) kept e = (λ _. closed cell (sym e), λ _. refl)
 answer_closed cell (Err fault) kept e =
-    (λ h. absurd (false≢true h), λ none. absurd (none-some fault (sym (sound cell kept none) ∙ sym e)))
+    (λ h. absurd (false≢true h), λ none. absurd (none-some fault (sym (faultless cell kept none) ∙ sym e)))
 
 pub answer_least : (cell : CellValue) (r : Result (Unit {0}) ClosureFault) → IsCell cell → result_err r ≡ closure_fault cell → IfErr r (λ fault. IsLeastFault cell fault)
 answer_least cell (Ok x) kept e = tt

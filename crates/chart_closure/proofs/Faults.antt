@@ -27,9 +27,9 @@ pub vector_nodes : (cell : CellValue) (name : Name) (vector : Vector) → absent
 unfolding vector_fault
 vector_nodes cell name vector e f g = rw (e, f, g) refl
 
-pub vector_sound : (cell : CellValue) (name : Name) (vector : Vector) → absent_target cell vector.pointers ≡ None → vector_pointers_fit name vector ≡ true → lacks_line cell name ≡ false → vector_fault cell name vector ≡ None
+pub vector_faultless : (cell : CellValue) (name : Name) (vector : Vector) → absent_target cell vector.pointers ≡ None → vector_pointers_fit name vector ≡ true → lacks_line cell name ≡ false → vector_fault cell name vector ≡ None
 unfolding vector_fault
-vector_sound cell name vector e f g = rw (e, f, g) refl
+vector_faultless cell name vector e f g = rw (e, f, g) refl
 
 abbrev pub feature_pointers_fit : Feature → Bool
 feature_pointers_fit feature = list_all (λ pointer. feature_may_point feature.prim pointer.target) feature.pointers
@@ -49,6 +49,6 @@ pub feature_open : (cell : CellValue) (name : Name) (feature : Feature) → abse
 unfolding feature_fault
 feature_open cell name feature e f g = rw (e, f, g) refl
 
-pub feature_sound : (cell : CellValue) (name : Name) (feature : Feature) → absent_target cell feature.pointers ≡ None → feature_pointers_fit feature ≡ true → lacks_rings cell feature ≡ false → feature_fault cell name feature ≡ None
+pub feature_faultless : (cell : CellValue) (name : Name) (feature : Feature) → absent_target cell feature.pointers ≡ None → feature_pointers_fit feature ≡ true → lacks_rings cell feature ≡ false → feature_fault cell name feature ≡ None
 unfolding feature_fault
-feature_sound cell name feature e f g = rw (e, f, g) refl
+feature_faultless cell name feature e f g = rw (e, f, g) refl

@@ -16,7 +16,7 @@ use Rattle.chart_closure.specs.declared.fault.ClosureFault.TheVariants.{Dangling
 use Rattle.chart_model.specs.Answers.{when, first_of}
 use Rattle.chart_closure.specs.Closed.{has_record, absent_target, vector_may_point, feature_may_point, vector_fault, feature_fault, fault_at, IsClosed}
 use Rattle.chart_closure.specs.Unchanged.{KeepsRecords, ShowsTheSame, StandsStill, StandsAsBefore}
-use Rattle.chart_closure.proofs.Faults.{vector_pointers_fit, lacks_line, feature_pointers_fit, lacks_rings, vector_sound, feature_sound}
+use Rattle.chart_closure.proofs.Faults.{vector_pointers_fit, lacks_line, feature_pointers_fit, lacks_rings, vector_faultless, feature_faultless}
 
 -- the records, the lines and the shapes that there were are there
 pub record Keeps (before after : CellValue) : Type 0 where
@@ -72,7 +72,7 @@ no_first : (o : Option ClosureFault) (rest : List (Option ClosureFault)) → fir
 no_first None rest e = (refl, e)
 no_first (Some fault) rest e = absurd (none-some fault (sym e))
 
--- what a sound vector record is
+-- what a vector record without a fault is
 vector_parts : (cell : CellValue) (name : Name) (vector : Vector) → vector_fault cell name vector ≡ None → (absent_target cell vector.pointers ≡ None) × (vector_pointers_fit name vector ≡ true) × (lacks_line cell name ≡ false)
 unfolding vector_fault
 vector_parts cell name vector e =
@@ -81,7 +81,7 @@ vector_parts cell name vector e =
     let line = no_case (lacks_line cell name) (EdgeNodes name) [] pointers.1 in
     (unmapped (Dangling name) _ targets.0, not-false _ pointers.0, line.0)
 
--- what a sound feature is
+-- what a feature without a fault is
 feature_parts : (cell : CellValue) (name : Name) (feature : Feature) → feature_fault cell name feature ≡ None → (absent_target cell feature.pointers ≡ None) × (feature_pointers_fit feature ≡ true) × (lacks_rings cell feature ≡ false)
 unfolding feature_fault
 feature_parts cell name feature e =
@@ -101,7 +101,7 @@ vector_stays : (before after : CellValue) (name : Name) (vector made : Vector) �
     StandsFor vector made → vector_fault before name vector ≡ None → vector_fault after name made ≡ None
 vector_stays before after name vector made keeps stands e =
     let parts = vector_parts before name vector e in
-    vector_sound after name made
+    vector_faultless after name made
     (ap (absent_target after) stands.pointers ∙ targets_there before after vector.pointers keeps.records parts.0)
     (ap (list_all (λ pointer. vector_may_point name pointer.target)) stands.pointers ∙ parts.1)
     (never_lost (eqb name.rcnm 130) (line_of before name false) (line_of after name false) (keeps.line name) parts.2)
@@ -121,7 +121,7 @@ feature_stays before after name feature made keeps shows e =
     λ i. list_all (λ pointer. feature_may_point (shows.prim i) pointer.target) (shows.pointers i) in
     let rings : lacks_rings after made ≡ lacks_rings after feature =
     λ i. eqb (shows.prim i) 3 && is_none (same_shape after feature made shows i) in
-    feature_sound after name made
+    feature_faultless after name made
     (ap (absent_target after) shows.pointers ∙ targets_there before after feature.pointers keeps.records parts.0)
     (right ∙ parts.1)
     (rings

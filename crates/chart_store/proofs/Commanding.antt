@@ -10,7 +10,7 @@ use Rattle.chart_model.specs.declared.command.Command.TheVariants.{Load, Rollbac
 use Rattle.chart_model.specs.declared.state.Held.{Held}
 use Rattle.chart_model.specs.declared.state.Holding.{Holding}
 use Rattle.update_sequence.specs.Rebuilt.{held_by, rebuilt}
-use Rattle.update_sequence.specs.Sound.{IsSoundList}
+use Rattle.update_sequence.specs.Sequence.{IsUpdateSequence}
 use Rattle.chart_store.specs.declared.refusal.Refusal.{Refusal}
 use Rattle.chart_store.specs.declared.refusal.Refusal.TheVariants.{NoCell, NoUpdate}
 use Rattle.chart_store.specs.KeptFiles.{kept_by}
@@ -23,7 +23,7 @@ use Rattle.chart_store.specs.Taken.{chart_of}
 use Rattle.chart_model.proofs.Keys.{key_cmp-total}
 use Rattle.chart_store.proofs.Accepting.{loaded-is, accepted-is, loaded-alone, loaded-live, apart}
 use Rattle.chart_store.proofs.Holdings.{AreLive-nothing, AreLive-with}
-use Rattle.chart_store.proofs.Keeping.{Sounds, kept-begins}
+use Rattle.chart_store.proofs.Keeping.{Sequences, kept-begins}
 use Rattle.chart_store.proofs.Loading.{Laws, chart-before}
 use Rattle.chart_store.proofs.Placing.{Holds}
 
@@ -124,18 +124,18 @@ dropped-is state key done e = held (map.get state.cells key) refl e
 
 -- ---- what is live
 
-left-live : (sounds : Sounds) (holds : Holds) (key : List ℕ) (number : ℕ) (before : Held)
+left-live : (sequences : Sequences) (holds : Holds) (key : List ℕ) (number : ℕ) (before : Held)
     (files kept : List (List ℕ)) → kept_by key number files ≡ Some kept → IsLive key (left_by before kept)
-left-live sounds holds key number before files kept keeps =
-    let sound : IsSoundList key kept = (sounds.tested key kept).0 (kept-begins key number files kept keeps).sound in
-    let numbers = (holds.held key kept sound).1 in
+left-live sequences holds key number before files kept keeps =
+    let sequence : IsUpdateSequence key kept = (sequences.tested key kept).0 (kept-begins key number files kept keeps).sequence in
+    let numbers = (holds.held key kept sequence).1 in
     record {
-      sound = sound;
+      sequence = sequence;
       numbers = numbers ∙ ap Some (sym (ap (λ (o : Option Held). unwrap_or o before) numbers));
       builds = refl;
     }
 
-module _ (laws : Laws) (sounds : Sounds) (holds : Holds) where
+module _ (laws : Laws) (sequences : Sequences) (holds : Holds) where
   outcome-live : (state : StateValue) (command : Command) (done : Outcome) → AreLive state.cells →
       outcome state command ≡ Ok done → AreLive done.state.cells
   unfolding outcome
@@ -144,7 +144,7 @@ module _ (laws : Laws) (sounds : Sounds) (holds : Holds) where
       let r = rolled_back-is state key number done e in
       subst (λ (d : Outcome). AreLive d.state.cells) r.leaves
       (AreLive-with state.cells key (Some (left_by r.here.held r.kept)) live
-      (left-live sounds holds key number r.here.held r.here.files r.kept r.keeps))
+      (left-live sequences holds key number r.here.held r.here.files r.kept r.keeps))
   outcome-live state (Drop key) done live e =
       let d = dropped-is state key done e in
       subst (λ (d : Outcome). AreLive d.state.cells) d.leaves (AreLive-with state.cells key None live tt)

@@ -12,7 +12,7 @@ use Rattle.chart_model.specs.Dataset.{DatasetValue}
 use Rattle.iso8211_records.specs.RecordFile.{data_records_in}
 use Rattle.update_sequence.specs.Reading.{data_set_in, tags_read}
 use Rattle.update_sequence.specs.Rebuilt.{data_records_of}
-use Rattle.update_sequence.specs.Sound.{IsSoundList, is_sound}
+use Rattle.update_sequence.specs.Sequence.{IsUpdateSequence, is_update_sequence}
 use Rattle.update_sequence.specs.declared.fault.ReadFault.{ReadFault}
 use Rattle.chart_store.specs.Loaded.{bytes_of}
 use Rattle.chart_store.specs.KeptFiles.{is_update, has_update, ends_with, beginnings, may_keep, kept_by}
@@ -72,23 +72,23 @@ ends-push number (first ∷ next ∷ files) file = ends-push number (next ∷ fi
 
 -- ---- files that are found one after the other
 
--- the laws of sound lists
-pub record Sounds : Type 0 where
-  pub tested : (key : List ℕ) (files : List (List ℕ)) → (is_sound key files ≡ true) ↔ IsSoundList key files
-  pub before : (key : List ℕ) (files rest : List (List ℕ)) → files ≢ [] → IsSoundList key (files ++ rest) →
-      IsSoundList key files
+-- the laws of update sequences
+pub record Sequences : Type 0 where
+  pub tested : (key : List ℕ) (files : List (List ℕ)) → (is_update_sequence key files ≡ true) ↔ IsUpdateSequence key files
+  pub before : (key : List ℕ) (files rest : List (List ℕ)) → files ≢ [] → IsUpdateSequence key (files ++ rest) →
+      IsUpdateSequence key files
 
 no_files : (files : List (List ℕ)) (file : List ℕ) → files ++ file ∷ [] ≢ []
 no_files [] file e = cc
 no_files (first ∷ files) file e = cc
 
-agree-keep : (sounds : Sounds) (key : List ℕ) (number : ℕ) (files : List (List ℕ)) → IsSoundList key files →
+agree-keep : (sequences : Sequences) (key : List ℕ) (number : ℕ) (files : List (List ℕ)) → IsUpdateSequence key files →
     Agree (may_keep key number) (has_update number) files
-agree-keep sounds key number files sound before after file e =
+agree-keep sequences key number files sequence before after file e =
     let whole : files ≡ (before ++ file ∷ []) ++ after = e ∙ sym (append_assoc before (file ∷ []) after) in
-    let so = sounds.before key (before ++ file ∷ []) after (no_files before file)
-    (subst (IsSoundList key) whole sound) in
-    ap (λ b. b && ends_with number (before ++ file ∷ [])) ((sounds.tested key (before ++ file ∷ [])).1 so)
+    let so = sequences.before key (before ++ file ∷ []) after (no_files before file)
+    (subst (IsUpdateSequence key) whole sequence) in
+    ap (λ b. b && ends_with number (before ++ file ∷ [])) ((sequences.tested key (before ++ file ∷ [])).1 so)
     ∙ ends-push number before file
 
 around : (files : List (List ℕ)) (i : ℕ) (file : List ℕ) → i < length files → file ≡ get_or files i file →
@@ -102,22 +102,22 @@ pub take-next : (files : List (List ℕ)) (i : ℕ) (file : List ℕ) → i < le
     take (i + 1) files ≡ take i files ++ file ∷ []
 take-next files i file below is = take_more files i file below ∙ ap (λ (f : List ℕ). take i files ++ f ∷ []) (sym is)
 
-pub kept-first : (sounds : Sounds) (key : List ℕ) (number : ℕ) (files : List (List ℕ)) (i : ℕ) (file : List ℕ) →
-    IsSoundList key files → i < length files → file ≡ get_or files i file →
+pub kept-first : (sequences : Sequences) (key : List ℕ) (number : ℕ) (files : List (List ℕ)) (i : ℕ) (file : List ℕ) →
+    IsUpdateSequence key files → i < length files → file ≡ get_or files i file →
     AllByRecursion (λ f. has_update number f ≡ false) (take i files) → has_update number file ≡ true →
     kept_by key number files ≡ Some (take i files ++ file ∷ [])
 unfolding kept_by
-kept-first sounds key number files i file sound below is none has =
+kept-first sequences key number files i file sequence below is none has =
     let parts = around files i file below is in
     ap (λ (l : List (List ℕ)). find (may_keep key number) (beginnings l)) parts
     ∙ first-passes (may_keep key number) (has_update number) (take i files) file (drop (i + 1) files)
-    (subst (Agree (may_keep key number) (has_update number)) parts (agree-keep sounds key number files sound)) none has
+    (subst (Agree (may_keep key number) (has_update number)) parts (agree-keep sequences key number files sequence)) none has
 
-pub kept-none : (sounds : Sounds) (key : List ℕ) (number : ℕ) (files : List (List ℕ)) → IsSoundList key files →
+pub kept-none : (sequences : Sequences) (key : List ℕ) (number : ℕ) (files : List (List ℕ)) → IsUpdateSequence key files →
     AllByRecursion (λ f. has_update number f ≡ false) files → kept_by key number files ≡ None
 unfolding kept_by
-kept-none sounds key number files sound none =
-    none-passes (may_keep key number) (has_update number) files (agree-keep sounds key number files sound) none
+kept-none sequences key number files sequence none =
+    none-passes (may_keep key number) (has_update number) files (agree-keep sequences key number files sequence) none
 
 -- one more file that has not the number
 pub none-next : (number : ℕ) (files : List (List ℕ)) (file : List ℕ) →
@@ -214,18 +214,18 @@ none-found {A} p (x ∷ xs) e begun rest parts some =
     none-next-found p x xs rest (λ none later is there. none-found (λ (l : List A). p (x ∷ l)) xs none later rest is there)
     (p (x ∷ [])) refl e begun parts some
 
--- the files that are kept begin the list, and are sound
+-- the files that are kept begin the list, and are an update sequence
 pub record Begins (key : List ℕ) (number : ℕ) (files kept : List (List ℕ)) : Type 0 where
   pub rest : List (List ℕ)
   pub begins : files ≡ kept ++ rest
-  pub sound : is_sound key kept ≡ true
+  pub sequence : is_update_sequence key kept ≡ true
 
 pub kept-begins : (key : List ℕ) (number : ℕ) (files kept : List (List ℕ)) → kept_by key number files ≡ Some kept →
     Begins key number files kept
 unfolding kept_by
 kept-begins key number files kept e =
     let f = first-found (may_keep key number) files kept e in
-    record { rest = f.rest; begins = f.begins; sound = (and_parts (is_sound key kept) (ends_with number kept) f.passes).0 }
+    record { rest = f.rest; begins = f.begins; sequence = (and_parts (is_update_sequence key kept) (ends_with number kept) f.passes).0 }
 
 -- the data records of what is kept are among those of the files
 pub data_records-kept : (key : List ℕ) (number : ℕ) (files kept : List (List ℕ)) → kept_by key number files ≡ Some kept →
@@ -297,34 +297,34 @@ ends-tested number files h =
     ∙ and_from (not h.dataset.cancels) (h.dataset.header.update == number) (ap not h.stands)
     (eqb-itself h.dataset.header.update number h.numbered)
 
-may-is : (sounds : Sounds) (key : List ℕ) (number : ℕ) (files : List (List ℕ)) → may_keep key number files ≡ true →
+may-is : (sequences : Sequences) (key : List ℕ) (number : ℕ) (files : List (List ℕ)) → may_keep key number files ≡ true →
     MayKeep key number files
-may-is sounds key number files e =
-    let parts = and_parts (is_sound key files) (ends_with number files) e in
-    record { sound = (sounds.tested key files).0 parts.0; ends = ends-is number files parts.1 }
+may-is sequences key number files e =
+    let parts = and_parts (is_update_sequence key files) (ends_with number files) e in
+    record { sequence = (sequences.tested key files).0 parts.0; ends = ends-is number files parts.1 }
 
-may-tested : (sounds : Sounds) (key : List ℕ) (number : ℕ) (files : List (List ℕ)) → MayKeep key number files →
+may-tested : (sequences : Sequences) (key : List ℕ) (number : ℕ) (files : List (List ℕ)) → MayKeep key number files →
     may_keep key number files ≡ true
-may-tested sounds key number files h =
-    and_from (is_sound key files) (ends_with number files) ((sounds.tested key files).1 h.sound)
+may-tested sequences key number files h =
+    and_from (is_update_sequence key files) (ends_with number files) ((sequences.tested key files).1 h.sequence)
     (ends-tested number files h.ends)
 
-pub kept-is : (sounds : Sounds) (key : List ℕ) (number : ℕ) (files kept : List (List ℕ)) →
+pub kept-is : (sequences : Sequences) (key : List ℕ) (number : ℕ) (files kept : List (List ℕ)) →
     kept_by key number files ≡ Some kept → IsShortestKept key number files kept
 unfolding kept_by
-kept-is sounds key number files kept e =
+kept-is sequences key number files kept e =
     let f = first-found (may_keep key number) files kept e in
     record {
       rest = f.rest;
       begins = f.begins;
-      may = may-is sounds key number kept f.passes;
+      may = may-is sequences key number kept f.passes;
       shortest = λ less more parts some may. true≢false
-          (sym (may-tested sounds key number less may) ∙ f.shortest less more parts some may.sound.some);
+          (sym (may-tested sequences key number less may) ∙ f.shortest less more parts some may.sequence.some);
     }
 
-pub kept-not : (sounds : Sounds) (key : List ℕ) (number : ℕ) (files : List (List ℕ)) →
+pub kept-not : (sequences : Sequences) (key : List ℕ) (number : ℕ) (files : List (List ℕ)) →
     kept_by key number files ≡ None → (kept rest : List (List ℕ)) → files ≡ kept ++ rest → ¬ MayKeep key number kept
 unfolding kept_by
-kept-not sounds key number files e kept rest parts may =
-    true≢false (sym (may-tested sounds key number kept may)
-    ∙ none-found (may_keep key number) files e kept rest parts may.sound.some)
+kept-not sequences key number files e kept rest parts may =
+    true≢false (sym (may-tested sequences key number kept may)
+    ∙ none-found (may_keep key number) files e kept rest parts may.sequence.some)

@@ -16,7 +16,7 @@ use Rattle.update_sequence.specs.Reading.{data_set_in}
 use Rattle.update_sequence.specs.Judged.{judged}
 use Rattle.update_sequence.specs.Built.{built}
 use Rattle.update_sequence.specs.Rebuilt.{numbers_of, cancelled, held_by, rebuilt}
-use Rattle.update_sequence.specs.Sound.{IsSoundList, IsFileOf, Leaves}
+use Rattle.update_sequence.specs.Sequence.{IsUpdateSequence, IsFileOf, Leaves}
 use Rattle.update_sequence.specs.declared.effect.Effect.{Effect}
 use Rattle.update_sequence.specs.declared.effect.Effect.TheVariants.{Replace, Extend, Cancel}
 use Rattle.update_sequence.specs.declared.fault.SequenceFault.{SequenceFault}
@@ -53,11 +53,11 @@ AcceptedFilesFollow = record {
       judged held dataset ≡ Ok Replace → IsOk (built None dataset) →
       Leaves key (file ∷ []) (Some (numbers_of dataset.header)) (result_ok (built None dataset));
   extends : (key : List ℕ) (files : List (List ℕ)) (file : List ℕ) (dataset : DatasetValue) →
-      IsSoundList key files → IsFileOf key file dataset →
+      IsUpdateSequence key files → IsFileOf key file dataset →
       judged (held_by files) dataset ≡ Ok Extend → IsOk (built (rebuilt files) dataset) →
       Leaves key (files ++ file ∷ []) (Some (numbers_of dataset.header)) (result_ok (built (rebuilt files) dataset));
   cancels : (key : List ℕ) (files : List (List ℕ)) (file : List ℕ) (dataset : DatasetValue) →
-      IsSoundList key files → IsFileOf key file dataset →
+      IsUpdateSequence key files → IsFileOf key file dataset →
       judged (held_by files) dataset ≡ Ok Cancel →
       Leaves key (files ++ file ∷ []) (option_map cancelled (held_by files)) None;
 }
@@ -91,7 +91,7 @@ module _ (laws : Laws) where
       let l = laws.follow.replaces dataset.header.key file dataset (held_of before) (file_of file dataset reads short)
       judges (ap is_ok builds) in
       record {
-        sound = l.sound;
+        sequence = l.sequence;
         numbers = l.numbers;
         builds = l.builds ∙ ap (λ (r : Result CellValue BuildFault). result_ok r) builds;
       }
@@ -106,10 +106,10 @@ module _ (laws : Laws) where
   live-extend (Some here) dataset file cell h reads short judges builds =
       let made : built (rebuilt here.files) dataset ≡ Ok cell =
       ap (λ (c : Option CellValue). built c dataset) h.builds ∙ builds in
-      let l = laws.follow.extends dataset.header.key here.files file dataset h.sound (file_of file dataset reads short)
+      let l = laws.follow.extends dataset.header.key here.files file dataset h.sequence (file_of file dataset reads short)
       (ap (λ (n : Option Held). judged n dataset) h.numbers ∙ judges) (ap is_ok made) in
       record {
-        sound = l.sound;
+        sequence = l.sequence;
         numbers = l.numbers;
         builds = l.builds ∙ ap (λ (r : Result CellValue BuildFault). result_ok r) made;
       }
@@ -122,9 +122,9 @@ module _ (laws : Laws) where
   live-cancel None dataset file h reads short judges =
       absurd (let says = effect_says None dataset Cancel judges in let none = says.is in cc)
   live-cancel (Some here) dataset file h reads short judges =
-      let l = laws.follow.cancels dataset.header.key here.files file dataset h.sound (file_of file dataset reads short)
+      let l = laws.follow.cancels dataset.header.key here.files file dataset h.sequence (file_of file dataset reads short)
       (ap (λ (n : Option Held). judged n dataset) h.numbers ∙ judges) in
-      record { sound = l.sound; numbers = l.numbers ∙ ap (option_map cancelled) h.numbers; builds = l.builds }
+      record { sequence = l.sequence; numbers = l.numbers ∙ ap (option_map cancelled) h.numbers; builds = l.builds }
 
   -- ---- the step by what is held is the step by whole files
 

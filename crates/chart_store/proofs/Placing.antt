@@ -15,7 +15,7 @@ use Rattle.chart_model.specs.declared.state.Holding.{Holding}
 use Rattle.update_sequence.specs.Reading.{data_set_in}
 use Rattle.update_sequence.specs.Judged.{judged}
 use Rattle.update_sequence.specs.Rebuilt.{held_by, rebuilt}
-use Rattle.update_sequence.specs.Sound.{IsSoundList}
+use Rattle.update_sequence.specs.Sequence.{IsUpdateSequence}
 use Rattle.update_sequence.specs.declared.effect.Effect.{Effect}
 use Rattle.update_sequence.specs.declared.effect.Effect.TheVariants.{Replace, Extend, Cancel}
 use Rattle.chart_store.specs.declared.refusal.Refusal.{Refusal}
@@ -33,28 +33,28 @@ use Rattle.chart_store.proofs.Keeping.{some_is}
 -- ---- what is live
 
 -- what is live can be held
-pub live-held : ((key : List ℕ) (files : List (List ℕ)) → IsSoundList key files → (held : Held) ×
+pub live-held : ((key : List ℕ) (files : List (List ℕ)) → IsUpdateSequence key files → (held : Held) ×
     (held_by files ≡ Some held) × IsHolding key (record { held = held; files = files; chart = rebuilt files }))
     → (key : List ℕ) (here : Holding) → IsLive key here → IsHolding key here
 live-held holds key here h =
-    let x = holds key here.files h.sound in
+    let x = holds key here.files h.sequence in
     let same : x.0 ≡ here.held = some_is (sym x.1 ∙ h.numbers) in
     subst (λ (held : Held). IsHolding key (record { held = held; files = here.files; chart = here.chart })) same
     (subst (λ (chart : Option CellValue). IsHolding key (record { held = x.0; files = here.files; chart = chart }))
     h.builds x.2)
 
-pub live-held-if : ((key : List ℕ) (files : List (List ℕ)) → IsSoundList key files → (held : Held) ×
+pub live-held-if : ((key : List ℕ) (files : List (List ℕ)) → IsUpdateSequence key files → (held : Held) ×
     (held_by files ≡ Some held) × IsHolding key (record { held = held; files = files; chart = rebuilt files }))
     → (key : List ℕ) (holding : Option Holding) → IfSome holding (IsLive key) → IfSome holding (IsHolding key)
 live-held-if holds key None h = tt
 live-held-if holds key (Some here) h = live-held holds key here h
 
 -- the chart of a cell that is held is closed
-pub closed-before : ((key : List ℕ) (files : List (List ℕ)) → IsSoundList key files → IfSome (rebuilt files) IsClosed)
+pub closed-before : ((key : List ℕ) (files : List (List ℕ)) → IsUpdateSequence key files → IfSome (rebuilt files) IsClosed)
     → (key : List ℕ) (before : Option Holding) → WasLive key before → IfSome (chart_of before) IsClosed
 closed-before closed key None h = tt
 closed-before closed key (Some here) h =
-    subst (λ (chart : Option CellValue). IfSome chart IsClosed) h.builds (closed key here.files h.sound)
+    subst (λ (chart : Option CellValue). IfSome chart IsClosed) h.builds (closed key here.files h.sequence)
 
 -- a cell that isn't cancelled has a chart
 has_chart : (key : List ℕ) (before : Option Holding) (here : Held) → ((holding : Holding) → IsLive key holding →
@@ -71,11 +71,11 @@ has_chart key (Some holding) here holds live is stands = is_there holding.chart
 
 -- ---- what was judged
 
--- the laws of sound lists
+-- the laws of update sequences
 pub record Holds : Type 0 where
-  pub held : (key : List ℕ) (files : List (List ℕ)) → IsSoundList key files → (held : Held) ×
+  pub held : (key : List ℕ) (files : List (List ℕ)) → IsUpdateSequence key files → (held : Held) ×
       (held_by files ≡ Some held) × IsHolding key (record { held = held; files = files; chart = rebuilt files })
-  pub closed : (key : List ℕ) (files : List (List ℕ)) → IsSoundList key files → IfSome (rebuilt files) IsClosed
+  pub closed : (key : List ℕ) (files : List (List ℕ)) → IsUpdateSequence key files → IfSome (rebuilt files) IsClosed
 
 pub may-build : (holds : Holds) (key : List ℕ) (before : Option Holding) (dataset : DatasetValue) (effect : Effect) →
     IsDataset dataset → WasLive key before → judged (held_of before) dataset ≡ Ok effect →

@@ -1,10 +1,10 @@
--- What a rollback keeps of a cell's files: the shortest list that they begin with, that is a sound list, and that ends
--- with a file that has the update number and doesn't cancel the cell.
+-- What a rollback keeps of a cell's files: the shortest list that they begin with, that is an update sequence, and that
+-- ends with a file that has the update number and doesn't cancel the cell.
 use Rattle.std.specs.Prelude.{◌≡◌, ◌≢◌, ℕ, ◌==◌, Bool, false, not, ◌&&◌, List, [], ◌∷◌, ◌++◌, map, find}
 use Rattle.std.specs.Prelude.{Option, Result, Ok, Err}
 use Rattle.chart_model.specs.Dataset.{DatasetValue}
 use Rattle.update_sequence.specs.Reading.{data_set_in}
-use Rattle.update_sequence.specs.Sound.{IsSoundList, is_sound}
+use Rattle.update_sequence.specs.Sequence.{IsUpdateSequence, is_update_sequence}
 use Rattle.update_sequence.specs.declared.fault.ReadFault.{ReadFault}
 
 abbrev pub is_update : ℕ → Result DatasetValue ReadFault → Bool
@@ -28,7 +28,7 @@ beginnings (x ∷ xs) = (x ∷ []) ∷ map (λ begun. x ∷ begun) (beginnings x
 
 -- whether a rollback of the cell with this key to the number may keep these files
 abbrev pub may_keep : List ℕ → ℕ → List (List ℕ) → Bool
-may_keep key number files = is_sound key files && ends_with number files
+may_keep key number files = is_update_sequence key files && ends_with number files
 
 -- the files that it keeps
 unfoldable pub kept_by : List ℕ → ℕ → List (List ℕ) → Option (List (List ℕ))
@@ -48,7 +48,7 @@ pub record EndsWith (number : ℕ) (files : List (List ℕ)) : Type 0 where
 
 -- files that a rollback may keep
 pub record MayKeep (key : List ℕ) (number : ℕ) (files : List (List ℕ)) : Type 0 where
-  pub sound : IsSoundList key files
+  pub sequence : IsUpdateSequence key files
   pub ends : EndsWith number files
 
 -- the shortest of those that the files begin with

@@ -3,11 +3,11 @@ use Rattle.std.specs.Prelude.{◌≡◌, ◌≤◌, ℕ, List, fold, Some, IfSom
 use Rattle.std.specs.FinMap as map
 use Rattle.chart_model.specs.State.{StateValue}
 use Rattle.chart_model.specs.declared.state.Holding.{Holding}
-use Rattle.update_sequence.specs.Sound.{Leaves}
+use Rattle.update_sequence.specs.Sequence.{Leaves}
 use Rattle.chart_store.specs.declared.refusal.Refusal.{Refusal}
 use Rattle.chart_store.specs.Loaded.{HoldingsByKey, nothing_held, live_bytes, STORE_LIMIT, Outcome, loaded}
 
--- the live files of the cell are a sound list, and numbers and chart are those that they leave
+-- the live files of the cell are an update sequence, and numbers and chart are those that they leave
 abbrev pub IsLive : List ℕ → Holding → Type 0
 IsLive key here = Leaves key here.files (Some here.held) here.chart
 

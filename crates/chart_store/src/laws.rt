@@ -14,12 +14,11 @@ ghost use Rattle.chart_store.specs.Outcome.{IsKeyOf, outcome, state_with, after,
 ghost use Rattle.chart_store.specs.Taken.{chart_of};
 
 use update_sequence::{
-    accepted_files_follow, one_file_more, sound_lists_are_held, sound_lists_are_tested,
-    sound_lists_grow,
+    accepted_files_follow, one_file_more, sequences_are_held, sequences_are_tested, sequences_grow,
 };
 
 /// After any files, loaded one after the other from nothing held and each accepted or refused, the live files
-/// of each cell are a sound list, and its numbers and its chart are those that these whole files leave. One file
+/// of each cell are an update sequence, and its numbers and its chart are those that these whole files leave. One file
 /// more keeps that.
 pub fn live_files_leave_what_is_held()
     ensures live { (files : List (List ℕ)) → AreLive (state_by files).cells }
@@ -40,7 +39,7 @@ pub fn loads_change_their_cell_alone()
 {}
 
 /// After any commands, one after the other from nothing held and each accepted or refused, the live files of each
-/// cell are a sound list, and its numbers and its chart are those that these whole files leave. One command more
+/// cell are an update sequence, and its numbers and its chart are those that these whole files leave. One command more
 /// keeps that.
 pub fn commands_leave_what_is_held()
     ensures live { (commands : List Command) → AreLive (after nothing_held commands).cells }
@@ -51,9 +50,9 @@ pub fn commands_leave_what_is_held()
 {
     one_file_more();
     accepted_files_follow();
-    sound_lists_grow();
-    sound_lists_are_tested();
-    sound_lists_are_held();
+    sequences_grow();
+    sequences_are_tested();
+    sequences_are_held();
 }
 
 /// Commands are carried out in turn: one more changes what those before it leave.
@@ -73,14 +72,14 @@ pub fn commands_change_their_cell_alone()
         outcome state command ≡ Err refusal → state_with state command ≡ state }
 {}
 
-/// What a rollback keeps is the shortest list that the files begin with, that is sound, and that ends with a file
-/// that has the number and doesn't cancel the cell. It keeps none only where there is no such list.
+/// What a rollback keeps is the shortest list that the files begin with, that is an update sequence, and that ends
+/// with a file that has the number and doesn't cancel the cell. It keeps none only where there is no such list.
 pub fn rollbacks_keep_the_shortest_list()
     ensures kept { (key : List ℕ) (number : ℕ) (files kept : List (List ℕ)) →
         kept_by key number files ≡ Some kept → IsShortestKept key number files kept }
     ensures none { (key : List ℕ) (number : ℕ) (files kept rest : List (List ℕ)) →
         kept_by key number files ≡ None → files ≡ kept ++ rest → ¬ MayKeep key number kept }
 {
-    sound_lists_grow();
-    sound_lists_are_tested();
+    sequences_grow();
+    sequences_are_tested();
 }

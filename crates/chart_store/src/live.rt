@@ -12,7 +12,7 @@ use crate::holding::set_in;
 use chart_model::{Cell, Holding, HoldingMap, Key, Octets, Shared, State};
 use std::alloc::{AllocError, Global};
 use std::marker::Model;
-use update_sequence::sound_lists_are_held;
+use update_sequence::sequences_are_held;
 
 /// The most cells that are held, cancelled ones too.
 pub(crate) const CELLS_LIMIT: usize = 32;
@@ -128,7 +128,7 @@ impl LiveCells {
         ensures err { OnErr result (self.new ≡ self.old) }
         ensures free { IsSome (map.get self.old.cells key) → IsOk result }
     {
-        sound_lists_are_held();
+        sequences_are_held();
         let before = set(&mut self.state, key, holding)?;
         self.bytes = bytes;
         Ok(before)

@@ -25,7 +25,7 @@ use std::alloc::Global;
 use std::sync::ledger::Ledger;
 use update_sequence::{
     Effect, accepted_files_follow, files_are_data_sets, judge, one_file_more, read_data_set,
-    sound_lists_are_held,
+    sequences_are_held,
 };
 
 /// The most bytes of a file that is loaded.
@@ -143,7 +143,7 @@ fn placed(
     files_are_data_sets();
     one_file_more();
     accepted_files_follow();
-    sound_lists_are_held();
+    sequences_are_held();
     let key = key_of(&dataset);
     let before = chart_of(live.cells().get(key));
     let made = made_by(alloc, before, dataset, effect, held, naming)?;

@@ -117,7 +117,7 @@ fn open_checkpoint(checkpoint: &Octets) -> Result<(), OpenFault>
 /// # Errors
 ///
 /// `Foreign` exactly where the files are no store's, with their first fault: a head that isn't empty; then a bank
-/// without a sound header or with a record that is cut short; then a checkpoint; then the first record whose body
+/// with no header or with a record that is cut short; then a checkpoint; then the first record whose body
 /// spells no command, or one that is refused where it stands. `DeskFault` only where the desk's count rose; `NoMemory`.
 pub fn open_store<D: Desk, C: Ledger>(
     alloc: Global,

@@ -3,7 +3,7 @@
 ghost use Rattle.std.specs.Prelude.{◌≡◌, ◌+◌, ◌*◌, ◌≤◌, List, ℕ, Some, None, IfOk, IfSome, IfNone};
 ghost use Rattle.std.specs.FinMap as map;
 ghost use Rattle.update_sequence.specs.Rebuilt.{held_by, rebuilt, data_records_of};
-ghost use Rattle.update_sequence.specs.Sound.{IsSoundList};
+ghost use Rattle.update_sequence.specs.Sequence.{IsUpdateSequence};
 ghost use Rattle.chart_difference.specs.Difference.{AreChanged};
 ghost use Rattle.chart_store.specs.KeptFiles.{kept_by};
 ghost use Rattle.chart_store.specs.Loaded.{files_of};
@@ -22,7 +22,7 @@ use chart_ports::Steps;
 use std::alloc::{AllocError, Global};
 use std::sync::ledger::Ledger;
 use update_sequence::{
-    one_file_more, read_data_set, rebuild, sound_lists_are_tested, sound_lists_grow,
+    one_file_more, read_data_set, rebuild, sequences_are_tested, sequences_grow,
 };
 
 /// Files that are kept of a cell, and the numbers that they leave.
@@ -40,17 +40,17 @@ fn kept_by<C: Ledger>(
     number: u32,
     steps: &mut Steps<C>,
 ) -> Result<Option<KeptFiles>, AllocError>
-    ensures kept { (key : List ℕ) → IsSoundList key files.now →
+    ensures kept { (key : List ℕ) → IsUpdateSequence key files.now →
         IfOk result (λ found. IfSome found (λ kept. kept_by key number files.now ≡ Some kept.files)) }
-    ensures held { (key : List ℕ) → IsSoundList key files.now →
+    ensures held { (key : List ℕ) → IsUpdateSequence key files.now →
         IfOk result (λ found. IfSome found (λ kept. held_by kept.files ≡ Some kept.held)) }
-    ensures none { (key : List ℕ) → IsSoundList key files.now →
+    ensures none { (key : List ℕ) → IsUpdateSequence key files.now →
         IfOk result (λ found. IfNone found (kept_by key number files.now ≡ None)) }
     ensures at_most { steps.new ≤ steps.old + data_records_of files.now }
 {
     one_file_more();
-    sound_lists_grow();
-    sound_lists_are_tested();
+    sequences_grow();
+    sequences_are_tested();
     let mut kept = FileList::new(alloc);
     for file in files.as_slice() {
         // The files of a cell that is held are data sets, so only memory can be wanting.
@@ -92,7 +92,7 @@ fn next_with<C: Ledger>(
         IfOk result (λ next. AreChanged here.now.chart (chart_of next.holding) next.changed) }
     ensures at_most { steps.new ≤ steps.old + data_records_of here.now.files }
 {
-    sound_lists_are_tested();
+    sequences_are_tested();
     let chart = rebuild(alloc, &kept.files, steps)?;
     let changed = changed_between(alloc, naming, here.chart.as_ref(), chart.as_ref())?;
     let bytes = live.bytes() - bytes_of(here.files.as_slice()) + bytes_of(kept.files.as_slice());

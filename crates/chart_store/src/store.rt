@@ -13,7 +13,7 @@ use chart_model::{Command, State};
 use chart_ports::{Desk, Steps};
 use std::alloc::Global;
 use std::sync::ledger::Ledger;
-use update_sequence::sound_lists_are_held;
+use update_sequence::sequences_are_held;
 
 /// What is held, and the bank that keeps the commands which left it. The desk is handed in at each call.
 #[derive(Debug, Drop)]
@@ -69,7 +69,7 @@ impl Store {
         ensures live { AreLive result.now.cells }
         ensures closed { (key : List ℕ) → IfSome (chart_of (map.get result.now.cells key)) IsClosed }
     {
-        sound_lists_are_held();
+        sequences_are_held();
         self.live.state()
     }
 

@@ -1,3 +1,3 @@
 pub mod ByteTests
 pub mod Spellings
-pub mod Readings
+pub mod CommandRead

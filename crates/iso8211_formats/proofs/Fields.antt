@@ -9,12 +9,12 @@ use Rattle.std.proofs.lemmas.List.Splits.{join_with_byte-slice_split, length-sli
 use Rattle.common_lemmas.proofs.Choices.{chosen, some_is}
 use Rattle.iso8211_formats.specs.declared.fault.DescriptorFault.TheVariants.{Bad}
 use Rattle.iso8211_formats.specs.declared.format.Format.{Format}
-use Rattle.iso8211_formats.specs.Layout.{Layout, IsLayout, IsSound}
+use Rattle.iso8211_formats.specs.Layout.{Layout, IsLayout, IsFormat}
 use Rattle.iso8211_formats.specs.Grammar.{Spells, Item, IsItem, item_text, expanded, format_controls, array_descriptor}
 use Rattle.iso8211_formats.specs.Reading.{guarded, cut_at, before_end, items_text, formats_of, labels_of, layout_with, parts_of, descriptor_of}
 use Rattle.iso8211_formats.proofs.GivenValues.{bind_some, guarded_some}
 use Rattle.iso8211_formats.proofs.Cuts.{Lacks, cut_at_found, cut_at_again, before_end_found, before_end_again}
-use Rattle.iso8211_formats.proofs.Items.{items_of_found, items_of_again, slice_split-items, sound_expanded}
+use Rattle.iso8211_formats.proofs.Items.{items_of_found, items_of_again, slice_split-items, formats_expanded}
 use Rattle.iso8211_formats.proofs.LabelTexts.{IsArray, labels_of_found, labels_of_again, AreLabels-from_array, Lacks-array, AreFour-from_labels}
 
 -- ---- format controls
@@ -72,11 +72,11 @@ unfolding layout_with
 parts_spell field name rest array tail labels group formats layout long named name_lacks arrayed array_lacks is_array are_controls made =
     let w : ((leb (length labels) 64 && eqb (length formats) (length labels)) ≡ true) × (◌≡◌ {A = Layout} (record { labels = labels; formats = formats; repeats_from = group }) layout) = guarded_some (leb (length labels) 64 && eqb (length formats) (length labels)) _ layout made in
     let tests = and_parts (leb (length labels) 64) (eqb (length formats) (length labels)) w.0 in
-    let sound : IsLayout (record { labels = labels; formats = formats; repeats_from = group }) = record {
+    let is_layout : IsLayout (record { labels = labels; formats = formats; repeats_from = group }) = record {
       present = is_array.present;
       few = leb-true (length labels) 64 tests.0;
       as_many = eqb-true (length formats) (length labels) tests.1;
-      sound = subst (λ (fs : List Format). AllByRecursion IsSound fs) (sym are_controls.formats_are) (sound_expanded are_controls.items are_controls.each_item);
+      each = subst (λ (fs : List Format). AllByRecursion IsFormat fs) (sym are_controls.formats_are) (formats_expanded are_controls.items are_controls.each_item);
       begins = is_array.begins;
     } in
     let whole : field ≡ take 9 field ++ (name ++ 31 ∷ (array_descriptor group labels ++ 31 ∷ (format_controls are_controls.items ++ 30 ∷ []))) =
@@ -87,7 +87,7 @@ parts_spell field name rest array tail labels group formats layout long named na
       controls = take 9 field;
       name = name;
       items = are_controls.items;
-      sound = sound;
+      is_layout = is_layout;
       nine_controls = omega (arith, length-take 9 field);
       name_ends = name_lacks;
       labels = AreLabels-from_array group labels is_array.four (subst (λ (t : List ℕ). Lacks 31 t) is_array.whole array_lacks);
@@ -126,11 +126,11 @@ descriptor_of_again field layout s =
     let tail = format_controls s.items ++ 30 ∷ [] in
     let count = ap length s.formats in
     let formats_are : formats_of tail ≡ Some layout.formats =
-    formats_of_again s.items s.has_items s.each_item (omega (arith, count, s.sound.few, s.sound.as_many)) ∙ ap (λ (fs : List Format). Some fs) (sym s.formats)
+    formats_of_again s.items s.has_items s.each_item (omega (arith, count, s.is_layout.few, s.is_layout.as_many)) ∙ ap (λ (fs : List Format). Some fs) (sym s.formats)
     in
-    let labels_are = labels_of_again layout.labels layout.repeats_from (AreFour-from_labels layout.labels s.labels) s.sound.present s.sound.begins in
+    let labels_are = labels_of_again layout.labels layout.repeats_from (AreFour-from_labels layout.labels s.labels) s.is_layout.present s.is_layout.begins in
     ap descriptor_of (s.whole ∙ sym (regrouped s.controls s.name array (format_controls s.items)))
-    ∙ spelled_parts s.controls s.name array tail layout.labels layout.repeats_from layout.formats s.nine_controls s.name_ends (Lacks-array layout.repeats_from layout.labels s.labels) labels_are formats_are s.sound.few s.sound.as_many
+    ∙ spelled_parts s.controls s.name array tail layout.labels layout.repeats_from layout.formats s.nine_controls s.name_ends (Lacks-array layout.repeats_from layout.labels s.labels) labels_are formats_are s.is_layout.few s.is_layout.as_many
 
 -- a field spells one layout at most
 pub one_layout : (field : List ℕ) (a b : Layout) → Spells a field → Spells b field → a ≡ b
@@ -151,4 +151,4 @@ refuses_others field (Some d) e = (λ h. absurd cc, λ no. absurd (no d (descrip
 
 pub ok_is_layout : (field : List ℕ) (answer : Option Layout) → answer ≡ descriptor_of field → IfOk (ok_or answer Bad) IsLayout
 ok_is_layout field None e = tt
-ok_is_layout field (Some d) e = (descriptor_of_found field d (sym e)).sound
+ok_is_layout field (Some d) e = (descriptor_of_found field d (sym e)).is_layout

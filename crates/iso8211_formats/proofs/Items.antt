@@ -10,7 +10,7 @@ use Rattle.common_lemmas.proofs.Choices.{chosen, some_is}
 use Rattle.common_lemmas.proofs.Digits.{test_from_AllDigits}
 use Rattle.iso8211_formats.specs.declared.format.Format.{Format}
 use Rattle.iso8211_formats.specs.declared.format.Format.TheVariants.{TextOpen, Text, Unsigned, Signed, Bits}
-use Rattle.iso8211_formats.specs.Layout.{IsSound, IsWidth, IsBinarySize}
+use Rattle.iso8211_formats.specs.Layout.{IsFormat, IsWidth, IsBinarySize}
 use Rattle.iso8211_formats.specs.Grammar.{IsTextLetter, HasWidth, SpellsFormat, Item, IsItem, item_text, expanded}
 use Rattle.iso8211_formats.specs.Reading.{◌>>=◌, guarded, is_empty, cut_at, counting_number_of, count_of, digits_and_rest, is_text_letter, open_format, binary_format, format_with, sized_format, format_of, item_of, items_of}
 use Rattle.iso8211_formats.proofs.GivenValues.{bind_some, guarded_some}
@@ -19,7 +19,7 @@ use Rattle.iso8211_formats.proofs.Numbers.{counting_number_of_found, counting_nu
 
 -- a format's text, and a format that it may spell
 abbrev IsSpelled : List ℕ → Format → Type 0
-IsSpelled text format = SpellsFormat format text × IsSound format
+IsSpelled text format = SpellsFormat format text × IsFormat format
 
 IsTextLetter-from_test : (letter : ℕ) → is_text_letter letter ≡ true → IsTextLetter letter
 IsTextLetter-from_test letter h =
@@ -118,7 +118,7 @@ sized_format_found letter inner format e =
           format_with_found letter n.0 inner g.0 format n.1 whole n.2
     ]
 
-pub format_of_found : (text : List ℕ) (format : Format) → format_of text ≡ Some format → SpellsFormat format text × IsSound format
+pub format_of_found : (text : List ℕ) (format : Format) → format_of text ≡ Some format → SpellsFormat format text × IsFormat format
 unfolding format_of
 format_of_found [] format e = absurd cc
 format_of_found (letter ∷ []) format e = open_format_found letter format e
@@ -151,22 +151,22 @@ has_width_again : (text : List ℕ) (letter width : ℕ) (format : Format) → H
 has_width_again text letter width format has range with_width =
     ap format_of has.whole ∙ sized_text_again letter width has.digits format has.numeral has.value range with_width
 
-pub format_of_again : (text : List ℕ) (format : Format) → SpellsFormat format text → IsSound format → format_of text ≡ Some format
+pub format_of_again : (text : List ℕ) (format : Format) → SpellsFormat format text → IsFormat format → format_of text ≡ Some format
 unfolding format_of open_format sized_format binary_format format_with cut_at
-format_of_again text TextOpen (inl h) sound = rw h refl
-format_of_again text TextOpen (inr (inl h)) sound = rw h refl
-format_of_again text TextOpen (inr (inr (inl h))) sound = rw h refl
-format_of_again text TextOpen (inr (inr (inr h))) sound = rw h refl
-format_of_again text (Text width) (letter, is_letter, has) sound =
-    has_width_again text letter width (Text width) has sound (rw (test_from_IsTextLetter letter is_letter) refl)
+format_of_again text TextOpen (inl h) is_format = rw h refl
+format_of_again text TextOpen (inr (inl h)) is_format = rw h refl
+format_of_again text TextOpen (inr (inr (inl h))) is_format = rw h refl
+format_of_again text TextOpen (inr (inr (inr h))) is_format = rw h refl
+format_of_again text (Text width) (letter, is_letter, has) is_format =
+    has_width_again text letter width (Text width) has is_format (rw (test_from_IsTextLetter letter is_letter) refl)
 format_of_again text (Unsigned size) h (inl s) = rw (h, s) refl
 format_of_again text (Unsigned size) h (inr (inl s)) = rw (h, s) refl
 format_of_again text (Unsigned size) h (inr (inr s)) = rw (h, s) refl
 format_of_again text (Signed size) h (inl s) = rw (h, s) refl
 format_of_again text (Signed size) h (inr (inl s)) = rw (h, s) refl
 format_of_again text (Signed size) h (inr (inr s)) = rw (h, s) refl
-format_of_again text (Bits width) has sound =
-    has_width_again text 66 width (Bits width) has sound.0 (rw sound.1 refl)
+format_of_again text (Bits width) has is_format =
+    has_width_again text 66 width (Bits width) has is_format.0 (rw is_format.1 refl)
 
 -- a format's text begins with a letter and has no comma
 pub StartsOther : List ℕ → Type 0
@@ -196,17 +196,17 @@ binary_text_lacks text kind size other (inl s) h = rw (h, s) (refl, (other, (ref
 binary_text_lacks text kind size other (inr (inl s)) h = rw (h, s) (refl, (other, (refl, tt)))
 binary_text_lacks text kind size other (inr (inr s)) h = rw (h, s) (refl, (other, (refl, tt)))
 
-format_text_lacks : (text : List ℕ) (format : Format) → SpellsFormat format text → IsSound format → Lacks 44 text
-format_text_lacks text TextOpen (inl h) sound = rw h (refl, tt)
-format_text_lacks text TextOpen (inr (inl h)) sound = rw h (refl, (refl, (refl, tt)))
-format_text_lacks text TextOpen (inr (inr (inl h))) sound = rw h (refl, tt)
-format_text_lacks text TextOpen (inr (inr (inr h))) sound = rw h (refl, tt)
-format_text_lacks text (Text width) (letter, (inl l), has) sound = width_text_lacks text letter width (rw l refl) has
-format_text_lacks text (Text width) (letter, (inr (inl l)), has) sound = width_text_lacks text letter width (rw l refl) has
-format_text_lacks text (Text width) (letter, (inr (inr l)), has) sound = width_text_lacks text letter width (rw l refl) has
-format_text_lacks text (Unsigned size) h sound = binary_text_lacks text 49 size refl sound h
-format_text_lacks text (Signed size) h sound = binary_text_lacks text 50 size refl sound h
-format_text_lacks text (Bits width) has sound = width_text_lacks text 66 width refl has
+format_text_lacks : (text : List ℕ) (format : Format) → SpellsFormat format text → IsFormat format → Lacks 44 text
+format_text_lacks text TextOpen (inl h) is_format = rw h (refl, tt)
+format_text_lacks text TextOpen (inr (inl h)) is_format = rw h (refl, (refl, (refl, tt)))
+format_text_lacks text TextOpen (inr (inr (inl h))) is_format = rw h (refl, tt)
+format_text_lacks text TextOpen (inr (inr (inr h))) is_format = rw h (refl, tt)
+format_text_lacks text (Text width) (letter, (inl l), has) is_format = width_text_lacks text letter width (rw l refl) has
+format_text_lacks text (Text width) (letter, (inr (inl l)), has) is_format = width_text_lacks text letter width (rw l refl) has
+format_text_lacks text (Text width) (letter, (inr (inr l)), has) is_format = width_text_lacks text letter width (rw l refl) has
+format_text_lacks text (Unsigned size) h is_format = binary_text_lacks text 49 size refl is_format h
+format_text_lacks text (Signed size) h is_format = binary_text_lacks text 50 size refl is_format h
+format_text_lacks text (Bits width) has is_format = width_text_lacks text 66 width refl has
 
 -- ---- items
 
@@ -218,7 +218,7 @@ item_of_found text formats e =
     let f = bind_some (format_of parts.1) _ formats c.2 in
     let format = format_of_found parts.1 f.0 f.1 in
     let item : Item = record { count_text = parts.0; count = c.0; format_text = parts.1; format = f.0 } in
-    (item, record { counted = count_of_found parts.0 c.0 c.1; spelled = format.0; sound = format.1 }, sym (digits_and_rest_found text).0, sym (some_is (replicate c.0 f.0) formats f.2))
+    (item, record { counted = count_of_found parts.0 c.0 c.1; spelled = format.0; is_format = format.1 }, sym (digits_and_rest_found text).0, sym (some_is (replicate c.0 f.0) formats f.2))
 
 pub item_of_again : (item : Item) → IsItem item → item.count ≤ 99999 → item_of (item_text item) ≡ Some (replicate item.count item.format)
 unfolding item_of StartsOther
@@ -228,11 +228,11 @@ item_of_again item is high =
     let parts : digits_and_rest (item_text item) ≡ (item.count_text, item.format_text) =
     ap (λ (t : List ℕ). digits_and_rest (item.count_text ++ t)) starts.2 ∙ again ∙ ap (λ (t : List ℕ). (item.count_text, t)) (sym starts.2)
     in
-    rw (parts, count_of_again item.count_text item.count is.counted high, format_of_again item.format_text item.format is.spelled is.sound) refl
+    rw (parts, count_of_again item.count_text item.count is.counted high, format_of_again item.format_text item.format is.spelled is.is_format) refl
 
 pub item_text_lacks : (item : Item) → IsItem item → Lacks 44 (item_text item)
 item_text_lacks item is =
-    Lacks-append 44 item.count_text item.format_text (Lacks-digits 44 item.count_text refl (SpellsCount-digits item.count_text item.count is.counted)) (format_text_lacks item.format_text item.format is.spelled is.sound)
+    Lacks-append 44 item.count_text item.format_text (Lacks-digits 44 item.count_text refl (SpellsCount-digits item.count_text item.count is.counted)) (format_text_lacks item.format_text item.format is.spelled is.is_format)
 
 pub items_of_found : (texts : List (List ℕ)) (formats : List Format) → items_of texts ≡ Some formats → (items : List Item) × AllByRecursion IsItem items × (map item_text items ≡ texts) × (formats ≡ expanded items)
 unfolding items_of
@@ -251,18 +251,18 @@ items_of_again (item ∷ items) each few =
     let parts : item.count + length (expanded items) ≤ 99999 = omega (arith, few, length-append (replicate item.count item.format) (expanded items), length-replicate item.count item.format) in
     rw (item_of_again item each.0 (omega arith), items_of_again items each.1 (omega arith)) refl
 
--- the formats that stand in items are sound
-sound_replicate : (count : ℕ) (format : Format) → IsSound format → AllByRecursion IsSound (replicate count format)
-sound_replicate zero format sound = tt
-sound_replicate (suc n) format sound = (sound, sound_replicate n format sound)
+-- the formats that stand in items are formats with their widths
+formats_replicate : (count : ℕ) (format : Format) → IsFormat format → AllByRecursion IsFormat (replicate count format)
+formats_replicate zero format is_format = tt
+formats_replicate (suc n) format is_format = (is_format, formats_replicate n format is_format)
 
-sound_append : (xs ys : List Format) → AllByRecursion IsSound xs → AllByRecursion IsSound ys → AllByRecursion IsSound (xs ++ ys)
-sound_append [] ys p q = q
-sound_append (x ∷ xs) ys p q = (p.0, sound_append xs ys p.1 q)
+formats_append : (xs ys : List Format) → AllByRecursion IsFormat xs → AllByRecursion IsFormat ys → AllByRecursion IsFormat (xs ++ ys)
+formats_append [] ys p q = q
+formats_append (x ∷ xs) ys p q = (p.0, formats_append xs ys p.1 q)
 
-pub sound_expanded : (items : List Item) → AllByRecursion IsItem items → AllByRecursion IsSound (expanded items)
-sound_expanded [] each = tt
-sound_expanded (item ∷ items) each = sound_append (replicate item.count item.format) (expanded items) (sound_replicate item.count item.format each.0.sound) (sound_expanded items each.1)
+pub formats_expanded : (items : List Item) → AllByRecursion IsItem items → AllByRecursion IsFormat (expanded items)
+formats_expanded [] each = tt
+formats_expanded (item ∷ items) each = formats_append (replicate item.count item.format) (expanded items) (formats_replicate item.count item.format each.0.is_format) (formats_expanded items each.1)
 
 -- ---- the texts of items, cut at their commas
 

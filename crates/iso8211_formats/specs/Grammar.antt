@@ -6,7 +6,7 @@ use Rattle.std.specs.List.{AllByRecursion, join_with_byte}
 use Rattle.std.specs.Str.Parse.{IsNumeral, digits_value}
 use Rattle.iso8211_formats.specs.declared.format.Format.{Format}
 use Rattle.iso8211_formats.specs.declared.format.Format.TheVariants.{TextOpen, Text, Unsigned, Signed, Bits}
-use Rattle.iso8211_formats.specs.Layout.{Layout, IsLayout, IsSound}
+use Rattle.iso8211_formats.specs.Layout.{Layout, IsLayout, IsFormat}
 use Rattle.iso8211_formats.specs.Terminators.{field_terminator, unit_terminator}
 
 -- without a unit terminator
@@ -66,7 +66,7 @@ SpellsCount count text =
 pub record IsItem (item : Item) : Type 0 where
   pub counted : SpellsCount item.count item.count_text
   pub spelled : SpellsFormat item.format item.format_text
-  pub sound : IsSound item.format
+  pub is_format : IsFormat item.format
 
 abbrev pub item_text : Item → List ℕ
 item_text item = item.count_text ++ item.format_text
@@ -84,7 +84,7 @@ pub record Spells (layout : Layout) (field : List ℕ) : Type 0 where
   pub controls : List ℕ
   pub name : List ℕ
   pub items : List Item
-  pub sound : IsLayout layout
+  pub is_layout : IsLayout layout
   pub nine_controls : length controls ≡ 9
   pub name_ends : HasNoTerminator name
   pub labels : AllByRecursion IsLabel layout.labels

@@ -19,17 +19,17 @@ abbrev pub IsBinarySize : ℕ → Type 0
 IsBinarySize size = (size ≡ 1) ⊎ ((size ≡ 2) ⊎ (size ≡ 4))
 
 -- a format with a width or a size that it may have: so each value takes at least one byte
-abbrev pub IsSound : Format → Type 0
-IsSound TextOpen = Unit {0}
-IsSound (Text width) = IsWidth width
-IsSound (Unsigned size) = IsBinarySize size
-IsSound (Signed size) = IsBinarySize size
-IsSound (Bits width) = IsWidth width × (width % 8 ≡ 0)
+abbrev pub IsFormat : Format → Type 0
+IsFormat TextOpen = Unit {0}
+IsFormat (Text width) = IsWidth width
+IsFormat (Unsigned size) = IsBinarySize size
+IsFormat (Signed size) = IsBinarySize size
+IsFormat (Bits width) = IsWidth width × (width % 8 ≡ 0)
 
--- 1 to 64 subfields, each with a label and a sound format, and a group that begins at one of them
+-- 1 to 64 subfields, each with a label and a format with its width, and a group that begins at one of them
 pub record IsLayout (layout : Layout) : Type 0 where
   pub present : 1 ≤ length layout.labels
   pub few : length layout.labels ≤ 64
   pub as_many : length layout.formats ≡ length layout.labels
-  pub sound : AllByRecursion IsSound layout.formats
+  pub each : AllByRecursion IsFormat layout.formats
   pub begins : IfSome layout.repeats_from (λ place. (1 ≤ place) × (place ≤ length layout.labels))

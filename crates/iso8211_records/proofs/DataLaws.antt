@@ -20,10 +20,10 @@ use Rattle.iso8211_records.specs.Reading.{first_without, is_described, unless_un
 use Rattle.iso8211_records.specs.Fault.{IsFirstWithout, BeginsRecord, HasDescriptiveFault, IsDescribed, IsReadable, HasDataFault, HasFrameFault}
 use Rattle.iso8211_records.proofs.Results.{bind_ok, err_is}
 use Rattle.iso8211_records.proofs.Firsts.{first-here, first_without-some, first_without-none, first_without-each, first_without-is}
-use Rattle.iso8211_records.proofs.FrameLaws.{same-field, Begins, record_at-sound, record_at-again, record_at-fault, record_at-faulty}
+use Rattle.iso8211_records.proofs.FrameLaws.{same-field, Begins, record_at-found, record_at-again, record_at-fault, record_at-faulty}
 use Rattle.iso8211_records.proofs.Records.{data_record_at-is}
 use Rattle.iso8211_records.proofs.KindLaws.{descriptive_record_at-is}
-use Rattle.iso8211_records.proofs.HoldLaws.{SpellingLaw, err_bind, first-later, or_fault-some, descriptors_in-sound, descriptors_in-again, descriptors_in-fault, descriptors_in-faulty, is_described-test, values_by-sound, values_by-again}
+use Rattle.iso8211_records.proofs.HoldLaws.{SpellingLaw, err_bind, first-later, or_fault-some, descriptors_in-found, descriptors_in-again, descriptors_in-fault, descriptors_in-faulty, is_described-test, values_by-found, values_by-again}
 use Rattle.iso8211_records.proofs.ListedTags.{none-undescribed}
 
 -- ---- fields
@@ -31,17 +31,17 @@ use Rattle.iso8211_records.proofs.ListedTags.{none-undescribed}
 pub IsEndedField : List ℕ → Type 0
 IsEndedField bytes = (text : List ℕ) × (bytes ≡ text ++ 30 ∷ [])
 
-field_by-sound : (tags : List (List ℕ)) (pairs : List (List ℕ × Layout)) (number : ℕ) (tag bytes : List ℕ) (field : RawField) → (IsTrue (is_listed tags tag) → (text : List ℕ) × (bytes ≡ text ++ 30 ∷ []))
+field_by-found : (tags : List (List ℕ)) (pairs : List (List ℕ × Layout)) (number : ℕ) (tag bytes : List ℕ) (field : RawField) → (IsTrue (is_listed tags tag) → (text : List ℕ) × (bytes ≡ text ++ 30 ∷ []))
     → field_by tags pairs number tag bytes ≡ Ok field → IsFieldOf tags pairs bytes field tag
 unfolding field_by
-field_by-sound tags pairs number tag bytes field ended h =
+field_by-found tags pairs number tag bytes field ended h =
     elim (is_listed tags tag)
     as (λ b. is_listed tags tag ≡ b → cond b (or_fault (Subfield number tag) (values_by (layout_at pairs tag) bytes) >>= λ values. Ok (record { tag = tag; values = values })) (Ok (record { tag = tag; values = [] })) ≡ Ok field → IsFieldOf tags pairs bytes field tag) [
       | true ↦ λ e k.
           (let p = bind_ok (or_fault (Subfield number tag) (values_by (layout_at pairs tag) bytes)) (λ values. Ok (record { tag = tag; values = values })) field k in
           let found : RawField = record { tag = tag; values = p.0 } in
           let is : found ≡ field = cc in
-          let v = values_by-sound (layout_at pairs tag) bytes p.0 (ended e) (or_fault-some (Subfield number tag) (values_by (layout_at pairs tag) bytes) p.0 p.1) in
+          let v = values_by-found (layout_at pairs tag) bytes p.0 (ended e) (or_fault-some (Subfield number tag) (values_by (layout_at pairs tag) bytes) p.0 p.1) in
           subst (λ (f : RawField). IsFieldOf tags pairs bytes f tag) is
           (record { tag_is = refl; values_are = subst (λ b. MatchBool b (HasValues pairs bytes found) (p.0 ≡ [])) (sym e) v }))
       | false ↦ λ e k.
@@ -62,17 +62,17 @@ field_by-again tags pairs number tag bytes field h =
       | false ↦ λ k. rw (← k, ← h.tag_is) refl
     ] h.values_are
 
-fields_of-sound : (tags : List (List ℕ)) (pairs : List (List ℕ × Layout)) (number : ℕ) (frame : Frame) (bytes : List ℕ) (entries : List Entry) (fields : List RawField) → AllByRecursion (IsEnded tags frame bytes) entries
+fields_of-found : (tags : List (List ℕ)) (pairs : List (List ℕ × Layout)) (number : ℕ) (frame : Frame) (bytes : List ℕ) (entries : List Entry) (fields : List RawField) → AllByRecursion (IsEnded tags frame bytes) entries
     → fields_of tags pairs number frame bytes entries ≡ Ok fields → AreFieldsOf tags pairs frame bytes entries fields
 unfolding fields_of
-fields_of-sound tags pairs number frame bytes [] [] ended h = tt
-fields_of-sound tags pairs number frame bytes [] (field ∷ fields) ended h = absurd cc
-fields_of-sound tags pairs number frame bytes (entry ∷ entries) fields ended h =
+fields_of-found tags pairs number frame bytes [] [] ended h = tt
+fields_of-found tags pairs number frame bytes [] (field ∷ fields) ended h = absurd cc
+fields_of-found tags pairs number frame bytes (entry ∷ entries) fields ended h =
     let p = bind_ok (field_by tags pairs number entry.tag (field_bytes frame bytes entry)) (λ field. fields_of tags pairs number frame bytes entries >>= λ fields. Ok (field ∷ fields)) fields h in
     let q = bind_ok (fields_of tags pairs number frame bytes entries) (λ fields. Ok (p.0 ∷ fields)) fields p.2 in
     let is : p.0 ∷ q.0 ≡ fields = cc in
     subst (λ (fs : List RawField). AreFieldsOf tags pairs frame bytes (entry ∷ entries) fs) is
-    (field_by-sound tags pairs number entry.tag (field_bytes frame bytes entry) p.0 ended.0 p.1, fields_of-sound tags pairs number frame bytes entries q.0 ended.1 q.1)
+    (field_by-found tags pairs number entry.tag (field_bytes frame bytes entry) p.0 ended.0 p.1, fields_of-found tags pairs number frame bytes entries q.0 ended.1 q.1)
 
 fields_of-again : (tags : List (List ℕ)) (pairs : List (List ℕ × Layout)) (number : ℕ) (frame : Frame) (bytes : List ℕ) (entries : List Entry) (fields : List RawField) → AreFieldsOf tags pairs frame bytes entries fields
     → fields_of tags pairs number frame bytes entries ≡ Ok fields
@@ -109,7 +109,7 @@ field_by-unreadable tags pairs number frame bytes entry ended h =
     no-values : (o : Option (List Value)) → values_by (layout_at pairs entry.tag) (field_bytes frame bytes entry) ≡ o → is_listed tags entry.tag ≡ true → values_by (layout_at pairs entry.tag) (field_bytes frame bytes entry) ≡ None
     no-values None e listed = e
     no-values (Some values) e listed =
-        absurd (h (λ _. (let v = values_by-sound (layout_at pairs entry.tag) (field_bytes frame bytes entry) values (ended listed) e in (v.0, v.1, values, v.2))))
+        absurd (h (λ _. (let v = values_by-found (layout_at pairs entry.tag) (field_bytes frame bytes entry) values (ended listed) e in (v.0, v.1, values, v.2))))
 
 fields_of-fault : (tags : List (List ℕ)) (pairs : List (List ℕ × Layout)) (number : ℕ) (frame : Frame) (bytes : List ℕ) (entries : List Entry) (fault : FileFault) → AllByRecursion (IsEnded tags frame bytes) entries
     → fields_of tags pairs number frame bytes entries ≡ Err fault → (count : ℕ) × (entry : Entry) × IsFirstWithout (IsReadable tags pairs frame bytes) entries count entry × (fault ≡ Subfield number entry.tag)
@@ -126,7 +126,7 @@ fields_of-fault tags pairs number frame bytes (entry ∷ entries) fault ended h 
           elim (err_bind (fields_of tags pairs number frame bytes entries) (λ fields. Ok (good.0 ∷ fields)) fault good.2) [
             | inl later ↦
                 (let p = fields_of-fault tags pairs number frame bytes entries fault ended.1 later in
-                let f = field_by-sound tags pairs number entry.tag (field_bytes frame bytes entry) good.0 ended.0 good.1 in
+                let f = field_by-found tags pairs number entry.tag (field_bytes frame bytes entry) good.0 ended.0 good.1 in
                 (suc p.0, p.1, first-later (IsReadable tags pairs frame bytes) entry entries p.0 p.1 (readable good.0 f) p.2, p.3))
             | inr none ↦ absurd (let no = none.2 in cc)
           ]
@@ -202,13 +202,13 @@ pub record IsDataAt (tags : List (List ℕ)) (pairs : List (List ℕ × Layout))
   pub size_is : length piece ≡ size
   pub is_record : IsDataRecord tags pairs piece fields
 
-pub data_record_at-sound : (tags : List (List ℕ)) (pairs : List (List ℕ × Layout)) (number at : ℕ) (bytes : List ℕ) (fields : List RawField) (size : ℕ) → data_record_at tags pairs number at bytes ≡ Ok (fields, size) → IsDataAt tags pairs bytes fields size
+pub data_record_at-found : (tags : List (List ℕ)) (pairs : List (List ℕ × Layout)) (number at : ℕ) (bytes : List ℕ) (fields : List RawField) (size : ℕ) → data_record_at tags pairs number at bytes ≡ Ok (fields, size) → IsDataAt tags pairs bytes fields size
 unfolding data_record_at
-data_record_at-sound tags pairs number at bytes fields size h =
+data_record_at-found tags pairs number at bytes fields size h =
     let p = bind_ok (record_at tags false at bytes)
     (λ framed. unless_undescribed (first_without (is_described tags pairs) framed.entries) >>= λ _. fields_of tags pairs number framed.frame bytes framed.entries >>= λ fields. Ok (fields, framed.frame.length)) (fields, size) h in
     let r = data_record_at-is tags pairs number at bytes fields size h in
-    let b = record_at-sound tags false at bytes p.0 p.1 in
+    let b = record_at-found tags false at bytes p.0 p.1 in
     let q = bind_ok (unless_undescribed (first_without (is_described tags pairs) p.0.entries))
     (λ _. fields_of tags pairs number p.0.frame bytes p.0.entries >>= λ fields. Ok (fields, p.0.frame.length)) (fields, size) p.2 in
     let s = bind_ok (fields_of tags pairs number p.0.frame bytes p.0.entries) (λ fields. Ok (fields, p.0.frame.length)) (fields, size) q.2 in
@@ -226,7 +226,7 @@ data_record_at-sound tags pairs number at bytes fields size h =
       parts = b.parts;
       rest_is = b.rest_is ∙ ap (λ n. drop n bytes) size_is;
       size_is = len ∙ size_is;
-      is_record = record { frame = p.0.frame; entries = p.0.entries; is_record = k; has_fields = fields_of-sound tags pairs number p.0.frame b.piece p.0.entries fields k.ended read };
+      is_record = record { frame = p.0.frame; entries = p.0.entries; is_record = k; has_fields = fields_of-found tags pairs number p.0.frame b.piece p.0.entries fields k.ended read };
     }
 
 pub data_record_at-again : (tags : List (List ℕ)) (pairs : List (List ℕ × Layout)) (number at : ℕ) (piece rest : List ℕ) (fields : List RawField) → IsDataRecord tags pairs piece fields → data_record_at tags pairs number at (piece ++ rest) ≡ Ok (fields, length piece)
@@ -271,7 +271,7 @@ data_record_at-fault tags pairs number at bytes fault h =
     (λ framed. unless_undescribed (first_without (is_described tags pairs) framed.entries) >>= λ _. fields_of tags pairs number framed.frame bytes framed.entries >>= λ fields. Ok (fields, framed.frame.length)) fault h) [
       | inl bad ↦ to-data-fault tags pairs number at bytes fault (record_at-fault tags false at bytes fault bad)
       | inr good ↦
-          (let b = record_at-sound tags false at bytes good.0 good.1 in
+          (let b = record_at-found tags false at bytes good.0 good.1 in
           elim (err_bind (unless_undescribed (first_without (is_described tags pairs) good.0.entries))
           (λ _. fields_of tags pairs number good.0.frame bytes good.0.entries >>= λ fields. Ok (fields, good.0.frame.length)) fault good.2) [
             | inl bad ↦ undescribed tags pairs number at bytes fault good.0 b bad
@@ -324,10 +324,10 @@ pub record IsFirstAt (tags : List (List ℕ)) (bytes : List ℕ) (pairs : List (
   pub parts : bytes ≡ piece ++ rest
   pub is_record : IsDescriptiveRecord tags piece pairs
 
-pub descriptive_record_at-sound : SpellingLaw → (tags : List (List ℕ)) (bytes : List ℕ) (pairs : List (List ℕ × Layout)) (rest : List ℕ) → descriptive_record_at tags bytes ≡ Ok (pairs, rest) → IsFirstAt tags bytes pairs rest
-descriptive_record_at-sound law tags bytes pairs rest h =
+pub descriptive_record_at-found : SpellingLaw → (tags : List (List ℕ)) (bytes : List ℕ) (pairs : List (List ℕ × Layout)) (rest : List ℕ) → descriptive_record_at tags bytes ≡ Ok (pairs, rest) → IsFirstAt tags bytes pairs rest
+descriptive_record_at-found law tags bytes pairs rest h =
     let d = descriptive_record_at-is tags bytes pairs rest h in
-    let b = record_at-sound tags true 0 bytes d.framed d.is_framed in
+    let b = record_at-found tags true 0 bytes d.framed d.is_framed in
     let k : IsRecord tags true b.piece d.framed.frame d.framed.entries = b.is_record in
     let read : descriptors_in d.framed.frame b.piece (describing tags [] d.framed.entries) ≡ Ok pairs =
     sym (descriptors_in-same d.framed.frame b.piece b.rest (describing tags [] d.framed.entries) k.whole (describing-inside tags [] d.framed.frame d.framed.entries k.inside))
@@ -335,7 +335,7 @@ descriptive_record_at-sound law tags bytes pairs rest h =
     record {
       piece = b.piece;
       parts = b.parts ∙ ap (λ (l : List ℕ). b.piece ++ l) (b.rest_is ∙ d.rest_is);
-      is_record = record { frame = d.framed.frame; entries = d.framed.entries; is_record = k; describe = descriptors_in-sound law d.framed.frame b.piece (describing tags [] d.framed.entries) pairs read };
+      is_record = record { frame = d.framed.frame; entries = d.framed.entries; is_record = k; describe = descriptors_in-found law d.framed.frame b.piece (describing tags [] d.framed.entries) pairs read };
     }
 
 pub descriptive_record_at-again : SpellingLaw → (tags : List (List ℕ)) (piece rest : List ℕ) (pairs : List (List ℕ × Layout)) → IsDescriptiveRecord tags piece pairs → descriptive_record_at tags (piece ++ rest) ≡ Ok (pairs, rest)
@@ -362,7 +362,7 @@ descriptive_record_at-fault law tags bytes fault h =
     elim (err_bind (record_at tags true 0 bytes) (λ framed. descriptors_in framed.frame bytes (describing tags [] framed.entries) >>= λ descriptors. Ok (descriptors, drop framed.frame.length bytes)) fault h) [
       | inl bad ↦ to-descriptive-fault tags bytes fault (record_at-fault tags true 0 bytes fault bad)
       | inr good ↦
-          (let b = record_at-sound tags true 0 bytes good.0 good.1 in
+          (let b = record_at-found tags true 0 bytes good.0 good.1 in
           elim (err_bind (descriptors_in good.0.frame bytes (describing tags [] good.0.entries)) (λ descriptors. Ok (descriptors, drop good.0.frame.length bytes)) fault good.2) [
             | inl bad ↦
                 (let k : IsRecord tags true b.piece good.0.frame good.0.entries = b.is_record in

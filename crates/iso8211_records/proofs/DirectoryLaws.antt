@@ -210,9 +210,9 @@ closed-value bound at frame bytes place entries end enough h end_is at_end closi
     ∙ ap (λ (es : List Entry). Ok es) (append-nil entries)
 
 -- and the way back: reading ends as the walk does
-pub entries_at-sound : (bound at : ℕ) (frame : Frame) (bytes : List ℕ) (place : ℕ) (entries : List Entry) → place ≤ frame.base - 1 → frame.base - 1 - place < bound → entries_at bound at frame bytes place ≡ Ok entries
+pub entries_at-found : (bound at : ℕ) (frame : Frame) (bytes : List ℕ) (place : ℕ) (entries : List Entry) → place ≤ frame.base - 1 → frame.base - 1 - place < bound → entries_at bound at frame bytes place ≡ Ok entries
     → IsDirectory frame entries (slice_range bytes place (frame.base - 1)) × (slice_get bytes (frame.base - 1) ≡ Some 30)
-entries_at-sound bound at frame bytes place entries low enough h =
+entries_at-found bound at frame bytes place entries low enough h =
     let w = walk bound frame bytes place low enough in
     by-end w w.ends
   where

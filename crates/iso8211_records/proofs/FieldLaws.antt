@@ -7,21 +7,21 @@ use Rattle.iso8211_records.specs.Spelling.{AreSpelled, FieldFormats, groups, IsF
 use Rattle.iso8211_formats.specs.Reading.{◌>>=◌}
 use Rattle.iso8211_records.specs.Values.{value_at, values_at, groups_at, values_of}
 use Rattle.iso8211_formats.proofs.GivenValues.{bind_some}
-use Rattle.iso8211_records.proofs.ValueLaws.{value_at-sound, value_at-again, Spells-some}
+use Rattle.iso8211_records.proofs.ValueLaws.{value_at-found, value_at-again, Spells-some}
 
 -- ---- a list of values
 
-pub values_at-sound : (formats : List Format) (bytes : List ℕ) (values : List Value) (rest : List ℕ) → values_at formats bytes ≡ Some (values, rest) → (front : List ℕ) × (bytes ≡ front ++ rest) × AreSpelled formats values front
+pub values_at-found : (formats : List Format) (bytes : List ℕ) (values : List Value) (rest : List ℕ) → values_at formats bytes ≡ Some (values, rest) → (front : List ℕ) × (bytes ≡ front ++ rest) × AreSpelled formats values front
 unfolding values_at
-values_at-sound [] bytes [] rest h = let left : bytes ≡ rest = grind arith in ([], left, refl)
-values_at-sound [] bytes (value ∷ values) rest h = absurd (grind arith)
-values_at-sound (format ∷ formats) bytes values rest h =
+values_at-found [] bytes [] rest h = let left : bytes ≡ rest = grind arith in ([], left, refl)
+values_at-found [] bytes (value ∷ values) rest h = absurd (grind arith)
+values_at-found (format ∷ formats) bytes values rest h =
     let p = bind_some (value_at format bytes) (λ value. values_at formats value.1 >>= λ more. Some (value.0 ∷ more.0, more.1)) (values, rest) h in
     let q = bind_some (values_at formats p.0.1) (λ more. Some (p.0.0 ∷ more.0, more.1)) (values, rest) p.2 in
     let is : p.0.0 ∷ q.0.0 ≡ values = grind arith in
     let left : q.0.1 ≡ rest = grind arith in
-    let first = value_at-sound format bytes p.0.0 p.0.1 p.1 in
-    let others = values_at-sound formats p.0.1 q.0.0 q.0.1 q.1 in (
+    let first = value_at-found format bytes p.0.0 p.0.1 p.1 in
+    let others = values_at-found formats p.0.1 q.0.0 q.0.1 q.1 in (
       first.0 ++ others.0,
       first.1 ∙ ap (λ (l : List ℕ). first.0 ++ l) (others.1 ∙ ap (λ (l : List ℕ). others.0 ++ l) left) ∙ sym (append_assoc first.0 others.0 rest),
       subst (λ (vs : List Value). AreSpelled (format ∷ formats) vs (first.0 ++ others.0)) is (first.0, others.0, refl, first.2, others.2),
@@ -95,17 +95,17 @@ groups-nil : (count : ℕ) → groups count [] ≡ []
 groups-nil zero = refl
 groups-nil (suc count) = groups-nil count
 
-pub groups_at-sound : (bound : ℕ) (group : List Format) (bytes : List ℕ) (values : List Value) → groups_at bound group bytes ≡ Some values → (count : ℕ) × AreSpelled (groups count group) values bytes
+pub groups_at-found : (bound : ℕ) (group : List Format) (bytes : List ℕ) (values : List Value) → groups_at bound group bytes ≡ Some values → (count : ℕ) × AreSpelled (groups count group) values bytes
 unfolding groups_at
-groups_at-sound zero group [] values h = (0, let none : values ≡ [] = grind arith in rw none refl)
-groups_at-sound zero group (byte ∷ bytes) values h = absurd (grind arith)
-groups_at-sound (suc bound) group [] values h = (0, let none : values ≡ [] = grind arith in rw none refl)
-groups_at-sound (suc bound) group (byte ∷ bytes) values h =
+groups_at-found zero group [] values h = (0, let none : values ≡ [] = grind arith in rw none refl)
+groups_at-found zero group (byte ∷ bytes) values h = absurd (grind arith)
+groups_at-found (suc bound) group [] values h = (0, let none : values ≡ [] = grind arith in rw none refl)
+groups_at-found (suc bound) group (byte ∷ bytes) values h =
     let p = bind_some (values_at group (byte ∷ bytes)) (λ first. groups_at bound group first.1 >>= λ more. Some (first.0 ++ more)) values h in
     let q = bind_some (groups_at bound group p.0.1) (λ more. Some (p.0.0 ++ more)) values p.2 in
     let is : p.0.0 ++ q.0 ≡ values = grind arith in
-    let first = values_at-sound group (byte ∷ bytes) p.0.0 p.0.1 p.1 in
-    let others = groups_at-sound bound group p.0.1 q.0 q.1 in (
+    let first = values_at-found group (byte ∷ bytes) p.0.0 p.0.1 p.1 in
+    let others = groups_at-found bound group p.0.1 q.0 q.1 in (
       suc others.0,
       subst (λ (vs : List Value). AreSpelled (groups (suc others.0) group) vs (byte ∷ bytes)) is
           (subst (λ (l : List ℕ). AreSpelled (groups (suc others.0) group) (p.0.0 ++ q.0) l) (sym first.1)
@@ -133,14 +133,14 @@ groups_at-again (suc count) (f ∷ group) values (byte ∷ bytes) (suc bound) en
 
 -- ---- the text of a field
 
-pub values_of-sound : (formats : FieldFormats) (text : List ℕ) (values : List Value) → values_of formats text ≡ Some values → IsFieldText formats values text
+pub values_of-found : (formats : FieldFormats) (text : List ℕ) (values : List Value) → values_of formats text ≡ Some values → IsFieldText formats values text
 unfolding values_of
-values_of-sound formats text values h =
+values_of-found formats text values h =
     let p = bind_some (values_at formats.once text) (λ first. groups_at (length first.1) formats.group first.1 >>= λ more. Some (first.0 ++ more)) values h in
     let q = bind_some (groups_at (length p.0.1) formats.group p.0.1) (λ more. Some (p.0.0 ++ more)) values p.2 in
     let is : p.0.0 ++ q.0 ≡ values = grind arith in
-    let first = values_at-sound formats.once text p.0.0 p.0.1 p.1 in
-    let others = groups_at-sound (length p.0.1) formats.group p.0.1 q.0 q.1 in (
+    let first = values_at-found formats.once text p.0.0 p.0.1 p.1 in
+    let others = groups_at-found (length p.0.1) formats.group p.0.1 q.0 q.1 in (
       others.0,
       subst (λ (vs : List Value). AreSpelled (formats.once ++ groups others.0 formats.group) vs text) is
           (subst (λ (l : List ℕ). AreSpelled (formats.once ++ groups others.0 formats.group) (p.0.0 ++ q.0) l) (sym first.1)

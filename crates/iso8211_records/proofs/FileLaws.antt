@@ -16,7 +16,7 @@ use Rattle.iso8211_records.specs.Fault.{HasDataFault, HasLaterFault, HasFault}
 use Rattle.iso8211_records.proofs.Results.{bind_ok}
 use Rattle.iso8211_records.proofs.Records.{data_record-size, records-step, come_to-step, come_to-last, frame-length}
 use Rattle.iso8211_records.proofs.HoldLaws.{SpellingLaw, err_bind}
-use Rattle.iso8211_records.proofs.DataLaws.{data_record_at-sound, data_record_at-again, data_record_at-fault, data_record_at-faulty, descriptive_record_at-sound, descriptive_record_at-again, descriptive_record_at-fault, descriptive_record_at-faulty}
+use Rattle.iso8211_records.proofs.DataLaws.{data_record_at-found, data_record_at-again, data_record_at-fault, data_record_at-faulty, descriptive_record_at-found, descriptive_record_at-again, descriptive_record_at-fault, descriptive_record_at-faulty}
 
 pub ok_is : {A : Type 0} {x y : A} → (let r : Result A FileFault = Ok x in r ≡ Ok y) → x ≡ y
 ok_is e = cc
@@ -31,19 +31,19 @@ data_record-some tags pairs piece fields h =
     let whole = k.whole in
     omega arith
 
-pub data_records_at-sound : (bound : ℕ) (tags : List (List ℕ)) (pairs : List (List ℕ × Layout)) (number at : ℕ) (bytes : List ℕ) (records : List (List RawField)) → data_records_at bound tags pairs number at bytes ≡ Ok records
+pub data_records_at-found : (bound : ℕ) (tags : List (List ℕ)) (pairs : List (List ℕ × Layout)) (number at : ℕ) (bytes : List ℕ) (records : List (List RawField)) → data_records_at bound tags pairs number at bytes ≡ Ok records
     → AreDataRecords tags pairs bytes records × (come_to bound tags pairs number at bytes ≡ length records)
 unfolding data_records_at come_to
-data_records_at-sound zero tags pairs number at [] records h = let none : [] ≡ records = ok_is h in rw (← none) (refl, refl)
-data_records_at-sound (suc bound) tags pairs number at [] records h = let none : [] ≡ records = ok_is h in rw (← none) (refl, refl)
-data_records_at-sound zero tags pairs number at (byte ∷ bytes) records h = absurd cc
-data_records_at-sound (suc bound) tags pairs number at (byte ∷ bytes) records h =
+data_records_at-found zero tags pairs number at [] records h = let none : [] ≡ records = ok_is h in rw (← none) (refl, refl)
+data_records_at-found (suc bound) tags pairs number at [] records h = let none : [] ≡ records = ok_is h in rw (← none) (refl, refl)
+data_records_at-found zero tags pairs number at (byte ∷ bytes) records h = absurd cc
+data_records_at-found (suc bound) tags pairs number at (byte ∷ bytes) records h =
     let p = bind_ok (data_record_at tags pairs number at (byte ∷ bytes))
     (λ first. data_records_at bound tags pairs (number + 1) (at + first.1) (drop first.1 (byte ∷ bytes)) >>= λ others. Ok (first.0 ∷ others)) records h in
     let q = bind_ok (data_records_at bound tags pairs (number + 1) (at + p.0.1) (drop p.0.1 (byte ∷ bytes))) (λ others. Ok (p.0.0 ∷ others)) records p.2 in
     let is : p.0.0 ∷ q.0 ≡ records = ok_is q.2 in
-    let d = data_record_at-sound tags pairs number at (byte ∷ bytes) p.0.0 p.0.1 p.1 in
-    let others = data_records_at-sound bound tags pairs (number + 1) (at + p.0.1) (drop p.0.1 (byte ∷ bytes)) q.0 q.1 in
+    let d = data_record_at-found tags pairs number at (byte ∷ bytes) p.0.0 p.0.1 p.1 in
+    let others = data_records_at-found bound tags pairs (number + 1) (at + p.0.1) (drop p.0.1 (byte ∷ bytes)) q.0 q.1 in
     let count : or_zero (λ (x : List RawField × ℕ). come_to bound tags pairs (number + 1) (at + x.1) (drop x.1 (byte ∷ bytes))) (data_record_at tags pairs number at (byte ∷ bytes)) ≡ length q.0 =
     ap (or_zero (λ (x : List RawField × ℕ). come_to bound tags pairs (number + 1) (at + x.1) (drop x.1 (byte ∷ bytes)))) p.1 ∙ others.1 in
     let len : suc (length q.0) ≡ length records = ap length is in (
@@ -52,12 +52,12 @@ data_records_at-sound (suc bound) tags pairs number at (byte ∷ bytes) records 
       omega arith,
     )
 
--- reading goes over sound data records
-pub data_records_at-skip : (tags : List (List ℕ)) (pairs : List (List ℕ × Layout)) (number at : ℕ) (sound rest : List ℕ) (records : List (List RawField)) → AreDataRecords tags pairs sound records
-    → (data_records_at (length (sound ++ rest)) tags pairs number at (sound ++ rest)
-    ≡ (data_records_at (length rest) tags pairs (number + length records) (at + length sound) rest >>= λ others. Ok (records ++ others)))
-    × (come_to (length (sound ++ rest)) tags pairs number at (sound ++ rest) ≡ length records + come_to (length rest) tags pairs (number + length records) (at + length sound) rest)
-data_records_at-skip tags pairs number at sound rest [] h =
+-- reading goes over whole data records
+pub data_records_at-skip : (tags : List (List ℕ)) (pairs : List (List ℕ × Layout)) (number at : ℕ) (before rest : List ℕ) (records : List (List RawField)) → AreDataRecords tags pairs before records
+    → (data_records_at (length (before ++ rest)) tags pairs number at (before ++ rest)
+    ≡ (data_records_at (length rest) tags pairs (number + length records) (at + length before) rest >>= λ others. Ok (records ++ others)))
+    × (come_to (length (before ++ rest)) tags pairs number at (before ++ rest) ≡ length records + come_to (length rest) tags pairs (number + length records) (at + length before) rest)
+data_records_at-skip tags pairs number at before rest [] h =
     let n : number + 0 ≡ number = omega arith in
     let a : at + 0 ≡ at = omega arith in
     rw (h, n, a) (keep (data_records_at (length rest) tags pairs number at rest), omega arith)
@@ -65,19 +65,19 @@ data_records_at-skip tags pairs number at sound rest [] h =
     keep : (r : Result (List (List RawField)) FileFault) → r ≡ (r >>= λ others. Ok others)
     keep (Ok records) = refl
     keep (Err fault) = refl
-data_records_at-skip tags pairs number at sound rest (fields ∷ records) h =
+data_records_at-skip tags pairs number at before rest (fields ∷ records) h =
     let size : ℕ = length h.0 in
     let some = data_record-some tags pairs h.0 fields h.3 in
-    let parts : sound ++ rest ≡ h.0 ++ (h.1 ++ rest) = ap (λ (l : List ℕ). l ++ rest) h.2 ∙ append_assoc h.0 h.1 rest in
-    let long : length (sound ++ rest) ≡ length h.0 + length (h.1 ++ rest) = ap length parts ∙ length-append h.0 (h.1 ++ rest) in
-    let first : data_record_at tags pairs number at (sound ++ rest) ≡ Ok (fields, length h.0) = ap (data_record_at tags pairs number at) parts ∙ data_record_at-again tags pairs number at h.0 (h.1 ++ rest) fields h.3 in
-    let after : drop (length h.0) (sound ++ rest) ≡ h.1 ++ rest = ap (λ (l : List ℕ). drop (length h.0) l) parts ∙ drop-append_seam h.0 (h.1 ++ rest) in
-    let step = records-step tags pairs number at (sound ++ rest) fields (length h.0) (omega arith) first in
-    let count = come_to-step tags pairs number at (sound ++ rest) fields (length h.0) (omega arith) first in
+    let parts : before ++ rest ≡ h.0 ++ (h.1 ++ rest) = ap (λ (l : List ℕ). l ++ rest) h.2 ∙ append_assoc h.0 h.1 rest in
+    let long : length (before ++ rest) ≡ length h.0 + length (h.1 ++ rest) = ap length parts ∙ length-append h.0 (h.1 ++ rest) in
+    let first : data_record_at tags pairs number at (before ++ rest) ≡ Ok (fields, length h.0) = ap (data_record_at tags pairs number at) parts ∙ data_record_at-again tags pairs number at h.0 (h.1 ++ rest) fields h.3 in
+    let after : drop (length h.0) (before ++ rest) ≡ h.1 ++ rest = ap (λ (l : List ℕ). drop (length h.0) l) parts ∙ drop-append_seam h.0 (h.1 ++ rest) in
+    let step = records-step tags pairs number at (before ++ rest) fields (length h.0) (omega arith) first in
+    let count = come_to-step tags pairs number at (before ++ rest) fields (length h.0) (omega arith) first in
     let others = data_records_at-skip tags pairs (number + 1) (at + length h.0) h.1 rest records h.4 in
     let n : number + 1 + length records ≡ number + suc (length records) = omega arith in
-    let a : at + length h.0 + length h.1 ≡ at + length sound = let len : length sound ≡ length h.0 + length h.1 = ap length h.2 ∙ length-append h.0 h.1 in omega arith in (
-      step ∙ rw (after, others.0, n, a) (put-first fields records (data_records_at (length rest) tags pairs (number + suc (length records)) (at + length sound) rest)),
+    let a : at + length h.0 + length h.1 ≡ at + length before = let len : length before ≡ length h.0 + length h.1 = ap length h.2 ∙ length-append h.0 h.1 in omega arith in (
+      step ∙ rw (after, others.0, n, a) (put-first fields records (data_records_at (length rest) tags pairs (number + suc (length records)) (at + length before) rest)),
       count ∙ rw (after, others.1, n, a) (omega arith),
     )
   where
@@ -96,13 +96,13 @@ data_records_at-again tags pairs number at bytes records h =
 -- ---- the first fault of data records
 
 pub record IsFaultAt (tags : List (List ℕ)) (pairs : List (List ℕ × Layout)) (number at : ℕ) (bytes : List ℕ) (fault : FileFault) (count : ℕ) : Type 0 where
-  pub sound : List ℕ
+  pub before : List ℕ
   pub rest : List ℕ
   pub records : List (List RawField)
-  pub parts : bytes ≡ sound ++ rest
-  pub are_records : AreDataRecords tags pairs sound records
+  pub parts : bytes ≡ before ++ rest
+  pub are_records : AreDataRecords tags pairs before records
   pub left : rest ≢ []
-  pub breaks : HasDataFault tags pairs (number + length records) (at + length sound) rest fault
+  pub breaks : HasDataFault tags pairs (number + length records) (at + length before) rest fault
   pub count_is : count ≡ length records + 1
 
 records-err : (tags : List (List ℕ)) (pairs : List (List ℕ × Layout)) (number at : ℕ) (bytes : List ℕ) (fault : FileFault) → 0 < length bytes → data_record_at tags pairs number at bytes ≡ Err fault
@@ -118,7 +118,7 @@ fault-here tags pairs number at bytes fault count some bad one =
     let n : number ≡ number + 0 = omega arith in
     let a : at ≡ at + 0 = omega arith in
     record {
-      sound = [];
+      before = [];
       rest = bytes;
       records = [];
       parts = refl;
@@ -128,21 +128,21 @@ fault-here tags pairs number at bytes fault count some bad one =
       count_is = one;
     }
 
--- or after a sound data record
+-- or after a whole data record
 fault-later : (tags : List (List ℕ)) (pairs : List (List ℕ × Layout)) (number at : ℕ) (bytes : List ℕ) (fields : List RawField) (size : ℕ) (fault : FileFault) (later count : ℕ) → data_record_at tags pairs number at bytes ≡ Ok (fields, size)
     → IsFaultAt tags pairs (number + 1) (at + size) (drop size bytes) fault later → count ≡ 1 + later → IsFaultAt tags pairs number at bytes fault count
 fault-later tags pairs number at bytes fields size fault later count read f more =
-    let d = data_record_at-sound tags pairs number at bytes fields size read in
+    let d = data_record_at-found tags pairs number at bytes fields size read in
     let n : number + 1 + length f.records ≡ number + suc (length f.records) = omega arith in
-    let a : at + size + length f.sound ≡ at + length (d.piece ++ f.sound) = let len = length-append d.piece f.sound in let size_is = d.size_is in omega arith in
+    let a : at + size + length f.before ≡ at + length (d.piece ++ f.before) = let len = length-append d.piece f.before in let size_is = d.size_is in omega arith in
     record {
-      sound = d.piece ++ f.sound;
+      before = d.piece ++ f.before;
       rest = f.rest;
       records = fields ∷ f.records;
-      parts = d.parts ∙ ap (λ (l : List ℕ). d.piece ++ l) (d.rest_is ∙ f.parts) ∙ sym (append_assoc d.piece f.sound f.rest);
-      are_records = (d.piece, f.sound, refl, d.is_record, f.are_records);
+      parts = d.parts ∙ ap (λ (l : List ℕ). d.piece ++ l) (d.rest_is ∙ f.parts) ∙ sym (append_assoc d.piece f.before f.rest);
+      are_records = (d.piece, f.before, refl, d.is_record, f.are_records);
       left = f.left;
-      breaks = subst (λ m. HasDataFault tags pairs m (at + length (d.piece ++ f.sound)) f.rest fault) n (subst (λ m. HasDataFault tags pairs (number + 1 + length f.records) m f.rest fault) a f.breaks);
+      breaks = subst (λ m. HasDataFault tags pairs m (at + length (d.piece ++ f.before)) f.rest fault) n (subst (λ m. HasDataFault tags pairs (number + 1 + length f.records) m f.rest fault) a f.breaks);
       count_is = let c = f.count_is in omega arith;
     }
 
@@ -172,11 +172,11 @@ data_records_at-fault (suc bound) tags pairs number at (byte ∷ bytes) fault en
 pub data_records_at-faulty : (tags : List (List ℕ)) (pairs : List (List ℕ × Layout)) (number at : ℕ) (bytes : List ℕ) (fault : FileFault) (count : ℕ) → IsFaultAt tags pairs number at bytes fault count
     → (data_records_at (length bytes) tags pairs number at bytes ≡ Err fault) × (come_to (length bytes) tags pairs number at bytes ≡ count)
 data_records_at-faulty tags pairs number at bytes fault count h =
-    let skip = data_records_at-skip tags pairs number at h.sound h.rest h.records h.are_records in
-    let bad = data_record_at-faulty tags pairs (number + length h.records) (at + length h.sound) h.rest fault h.breaks in
+    let skip = data_records_at-skip tags pairs number at h.before h.rest h.records h.are_records in
+    let bad = data_record_at-faulty tags pairs (number + length h.records) (at + length h.before) h.rest fault h.breaks in
     let some = not-empty h.rest h.left in
-    let here = records-err tags pairs (number + length h.records) (at + length h.sound) h.rest fault some bad in
-    let last = come_to-last fault tags pairs (number + length h.records) (at + length h.sound) h.rest some bad in (
+    let here = records-err tags pairs (number + length h.records) (at + length h.before) h.rest fault some bad in
+    let last = come_to-last fault tags pairs (number + length h.records) (at + length h.before) h.rest some bad in (
       ap (λ (l : List ℕ). data_records_at (length l) tags pairs number at l) h.parts ∙ skip.0 ∙ ap (λ (r : Result (List (List RawField)) FileFault). r >>= λ others. Ok (h.records ++ others)) here,
       ap (λ (l : List ℕ). come_to (length l) tags pairs number at l) h.parts ∙ skip.1 ∙ ap (λ n. length h.records + n) last ∙ sym h.count_is,
     )
@@ -190,16 +190,16 @@ data_records_at-faulty tags pairs number at bytes fault count h =
 after-first : (first rest : List ℕ) → length (first ++ rest) - length rest ≡ length first
 after-first first rest = omega (arith, length-append first rest)
 
-pub record_file-sound : SpellingLaw → (tags : List (List ℕ)) (bytes : List ℕ) (file : FileValue) → record_file_of tags bytes ≡ Ok file → IsRecordFile tags bytes file × (data_records_in tags bytes ≡ length file.records)
+pub record_file-found : SpellingLaw → (tags : List (List ℕ)) (bytes : List ℕ) (file : FileValue) → record_file_of tags bytes ≡ Ok file → IsRecordFile tags bytes file × (data_records_in tags bytes ≡ length file.records)
 unfolding record_file_of data_records_in
-record_file-sound law tags bytes file h =
+record_file-found law tags bytes file h =
     let p = bind_ok (descriptive_record_at tags bytes)
     (λ first. data_records_at (length first.1) tags first.0 1 (length bytes - length first.1) first.1 >>= λ records. Ok (record { descriptors = first.0; records = records })) file h in
     let q = bind_ok (data_records_at (length p.0.1) tags p.0.0 1 (length bytes - length p.0.1) p.0.1) (λ records. Ok (record { descriptors = p.0.0; records = records })) file p.2 in
     let found : FileValue = record { descriptors = p.0.0; records = q.0 } in
     let is : found ≡ file = ok_is q.2 in
-    let d = descriptive_record_at-sound law tags bytes p.0.0 p.0.1 p.1 in
-    let r = data_records_at-sound (length p.0.1) tags p.0.0 1 (length bytes - length p.0.1) p.0.1 q.0 q.1 in
+    let d = descriptive_record_at-found law tags bytes p.0.0 p.0.1 p.1 in
+    let r = data_records_at-found (length p.0.1) tags p.0.0 1 (length bytes - length p.0.1) p.0.1 q.0 q.1 in
     let whole : IsRecordFile tags bytes found = record { first = d.piece; rest = p.0.1; pieces = d.parts; descriptive = d.is_record; data_records = r.0 } in (
       subst (λ (f : FileValue). IsRecordFile tags bytes f) is whole,
       ap (or_zero (λ (first : List (List ℕ × Layout) × List ℕ). come_to (length first.1) tags first.0 1 (length bytes - length first.1) first.1)) p.1 ∙ r.1 ∙ ap (λ (f : FileValue). length f.records) is,
@@ -220,7 +220,7 @@ record_file-fault law tags bytes fault h =
       | inr good ↦
           elim (err_bind (data_records_at (length good.0.1) tags good.0.0 1 (length bytes - length good.0.1) good.0.1) (λ records. Ok (record { descriptors = good.0.0; records = records })) fault good.2) [
             | inl bad ↦
-                (let d = descriptive_record_at-sound law tags bytes good.0.0 good.0.1 good.1 in
+                (let d = descriptive_record_at-found law tags bytes good.0.0 good.0.1 good.1 in
                 let f = data_records_at-fault (length good.0.1) tags good.0.0 1 (length bytes - length good.0.1) good.0.1 fault (omega arith) bad in
                 let count = ap (or_zero (λ (first : List (List ℕ × Layout) × List ℕ). come_to (length first.1) tags first.0 1 (length bytes - length first.1) first.1)) good.1 in
                 let at_is : length bytes - length good.0.1 ≡ length d.piece = ap (λ (l : List ℕ). length l - length good.0.1) d.parts ∙ after-first d.piece good.0.1 in
@@ -233,10 +233,10 @@ record_file-fault law tags bytes fault h =
         → number ≡ length f.records + 1 → length bytes - length rest ≡ length first → HasLaterFault tags bytes number fault
     later first rest pairs number parts is count f number_is at_is =
         let n : 1 + length f.records ≡ number = omega arith in
-        let a : length bytes - length rest + length f.sound ≡ length first + length f.sound = ap (λ m. m + length f.sound) at_is in
+        let a : length bytes - length rest + length f.before ≡ length first + length f.before = ap (λ m. m + length f.before) at_is in
         record {
           first = first;
-          sound = f.sound;
+          before = f.before;
           rest = f.rest;
           descriptors = pairs;
           records = f.records;
@@ -245,7 +245,7 @@ record_file-fault law tags bytes fault h =
           data_records = f.are_records;
           left = f.left;
           number_is = number_is;
-          breaks = subst (λ m. HasDataFault tags pairs m (length first + length f.sound) f.rest fault) n (subst (λ m. HasDataFault tags pairs (1 + length f.records) m f.rest fault) a f.breaks);
+          breaks = subst (λ m. HasDataFault tags pairs m (length first + length f.before) f.rest fault) n (subst (λ m. HasDataFault tags pairs (1 + length f.records) m f.rest fault) a f.breaks);
         }
 
 pub record_file-faulty : SpellingLaw → (tags : List (List ℕ)) (bytes : List ℕ) (number : ℕ) (fault : FileFault) → HasFault tags bytes number fault → (record_file_of tags bytes ≡ Err fault) × (data_records_in tags bytes ≡ number)
@@ -254,20 +254,20 @@ record_file-faulty law tags bytes number fault (inl h) =
     let bad = descriptive_record_at-faulty law tags bytes fault h.1 in
     (rw bad refl, rw (bad, h.0) refl)
 record_file-faulty law tags bytes number fault (inr h) =
-    let rest : List ℕ = h.sound ++ h.rest in
-    let first : descriptive_record_at tags bytes ≡ Ok (h.descriptors, h.sound ++ h.rest) = ap (descriptive_record_at tags) h.pieces ∙ descriptive_record_at-again law tags h.first (h.sound ++ h.rest) h.descriptors h.descriptive in
-    let at_is : length bytes - length (h.sound ++ h.rest) ≡ length h.first = ap (λ (l : List ℕ). length l - length (h.sound ++ h.rest)) h.pieces ∙ after-first h.first (h.sound ++ h.rest) in
+    let rest : List ℕ = h.before ++ h.rest in
+    let first : descriptive_record_at tags bytes ≡ Ok (h.descriptors, h.before ++ h.rest) = ap (descriptive_record_at tags) h.pieces ∙ descriptive_record_at-again law tags h.first (h.before ++ h.rest) h.descriptors h.descriptive in
+    let at_is : length bytes - length (h.before ++ h.rest) ≡ length h.first = ap (λ (l : List ℕ). length l - length (h.before ++ h.rest)) h.pieces ∙ after-first h.first (h.before ++ h.rest) in
     let n : number ≡ 1 + length h.records = let is = h.number_is in omega arith in
-    let a : length h.first + length h.sound ≡ length bytes - length (h.sound ++ h.rest) + length h.sound = ap (λ m. m + length h.sound) (sym at_is) in
-    let f : IsFaultAt tags h.descriptors 1 (length bytes - length (h.sound ++ h.rest)) (h.sound ++ h.rest) fault number = record {
-      sound = h.sound;
+    let a : length h.first + length h.before ≡ length bytes - length (h.before ++ h.rest) + length h.before = ap (λ m. m + length h.before) (sym at_is) in
+    let f : IsFaultAt tags h.descriptors 1 (length bytes - length (h.before ++ h.rest)) (h.before ++ h.rest) fault number = record {
+      before = h.before;
       rest = h.rest;
       records = h.records;
       parts = refl;
       are_records = h.data_records;
       left = h.left;
-      breaks = subst (λ m. HasDataFault tags h.descriptors m (length bytes - length (h.sound ++ h.rest) + length h.sound) h.rest fault) n (subst (λ m. HasDataFault tags h.descriptors number m h.rest fault) a h.breaks);
+      breaks = subst (λ m. HasDataFault tags h.descriptors m (length bytes - length (h.before ++ h.rest) + length h.before) h.rest fault) n (subst (λ m. HasDataFault tags h.descriptors number m h.rest fault) a h.breaks);
       count_is = h.number_is;
     } in
-    let bad = data_records_at-faulty tags h.descriptors 1 (length bytes - length (h.sound ++ h.rest)) (h.sound ++ h.rest) fault number f in
+    let bad = data_records_at-faulty tags h.descriptors 1 (length bytes - length (h.before ++ h.rest)) (h.before ++ h.rest) fault number f in
     (rw (first, bad.0) refl, rw (first, bad.1) refl)

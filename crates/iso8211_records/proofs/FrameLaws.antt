@@ -23,7 +23,7 @@ use Rattle.iso8211_records.proofs.Results.{cond_ok, err_is}
 use Rattle.iso8211_records.proofs.FrameTests.{is_leader-is, is_leader-from}
 use Rattle.iso8211_records.proofs.Firsts.{IsTest, place_without-some, place_without-none, place_without-each, place_without-is}
 use Rattle.iso8211_records.proofs.Directory.{lt-test}
-use Rattle.iso8211_records.proofs.DirectoryLaws.{entries_at-sound, entries_at-again, entries_at-breaks, entries_at-broken}
+use Rattle.iso8211_records.proofs.DirectoryLaws.{entries_at-found, entries_at-again, entries_at-breaks, entries_at-broken}
 use Rattle.iso8211_records.proofs.Framing.{leader_at-none, leader_at-some, record_at-leader, record_at-directory, record_at-spans, record_at-ends, record_at-all, spans_at-whole, spans_at-inside}
 use Rattle.iso8211_records.proofs.Records.{IsFramed, record_at-is}
 
@@ -147,11 +147,11 @@ pub frame-facts : (text : List ℕ) (first : Bool) (frame : Frame) → HasLeader
 unfolding frame_of
 frame-facts text first frame h says = rw says (h.directory, h.field_area)
 
-pub directory_at-sound : (at : ℕ) (first : Bool) (frame : Frame) (bytes : List ℕ) (entries : List Entry) → HasLeader first (take 24 bytes) → frame ≡ frame_of (take 24 bytes) → directory_at at frame bytes ≡ Ok entries → HasDirectory first bytes frame entries
+pub directory_at-found : (at : ℕ) (first : Bool) (frame : Frame) (bytes : List ℕ) (entries : List Entry) → HasLeader first (take 24 bytes) → frame ≡ frame_of (take 24 bytes) → directory_at at frame bytes ≡ Ok entries → HasDirectory first bytes frame entries
 unfolding directory_at
-directory_at-sound at first frame bytes entries leader says h =
+directory_at-found at first frame bytes entries leader says h =
     let facts = frame-facts (take 24 bytes) first frame leader says in
-    let p = entries_at-sound frame.base at frame bytes 24 entries (omega arith) (omega arith) h in
+    let p = entries_at-found frame.base at frame bytes 24 entries (omega arith) (omega arith) h in
     record { leader = leader; says = says; directory = p.0; closing = p.1 }
 
 pub directory_at-again : (at : ℕ) (first : Bool) (frame : Frame) (bytes : List ℕ) (entries : List Entry) → HasDirectory first bytes frame entries → directory_at at frame bytes ≡ Ok entries
@@ -198,7 +198,7 @@ record-piece tags first at piece rest framed len f =
     let low : 25 ≤ framed.frame.base = facts.0 in
     let high : framed.frame.base ≤ framed.frame.length = facts.1 in
     let head : take 24 (piece ++ rest) ≡ take 24 piece = take-append-le 24 piece rest (omega arith) in
-    let d = directory_at-sound at first framed.frame (piece ++ rest) framed.entries f.leader f.says f.directory in
+    let d = directory_at-found at first framed.frame (piece ++ rest) framed.entries f.leader f.says f.directory in
     let same : slice_range (piece ++ rest) 24 (framed.frame.base - 1) ≡ slice_range piece 24 (framed.frame.base - 1) = same-range piece rest 24 (framed.frame.base - 1) (omega arith) (omega arith) in
     let inside = spans_at-inside at framed.frame (piece ++ rest) framed.entries f.spans in
     record {
@@ -221,8 +221,8 @@ pub record Begins (tags : List (List ℕ)) (first : Bool) (bytes : List ℕ) (fr
   pub rest_is : rest ≡ drop framed.frame.length bytes
   pub is_record : IsRecord tags first piece framed.frame framed.entries
 
-pub record_at-sound : (tags : List (List ℕ)) (first : Bool) (at : ℕ) (bytes : List ℕ) (framed : Framed) → record_at tags first at bytes ≡ Ok framed → Begins tags first bytes framed
-record_at-sound tags first at bytes framed h =
+pub record_at-found : (tags : List (List ℕ)) (first : Bool) (at : ℕ) (bytes : List ℕ) (framed : Framed) → record_at tags first at bytes ≡ Ok framed → Begins tags first bytes framed
+record_at-found tags first at bytes framed h =
     let f = record_at-is tags first at bytes framed h in
     let whole = spans_at-whole at framed.frame bytes framed.entries f.spans in
     let piece : List ℕ = take framed.frame.length bytes in
@@ -316,7 +316,7 @@ after-ends tags first at bytes fault frame entries h leader directory spans (Err
       record {
         frame = frame;
         entries = entries;
-        has_directory = directory_at-sound at first frame bytes entries l.0 l.1 directory;
+        has_directory = directory_at-found at first frame bytes entries l.0 l.1 directory;
         whole = spans_at-whole at frame bytes entries spans;
         inside = spans_at-inside at frame bytes entries spans;
         count = b.2.0;
@@ -336,7 +336,7 @@ after-spans tags first at bytes fault frame entries h leader directory (Err foun
     let at_span : spans_at at frame bytes entries ≡ Err (Span (at + b.0)) = e ∙ ap (λ (f : FileFault). Err f) b.1 in
     let same : Span (at + b.0) ≡ fault = err_is {A = Framed} (sym (record_at-spans (Span (at + b.0)) tags first at bytes frame entries leader directory at_span) ∙ h) in
     to-fault tags first at bytes fault (Span (at + b.0)) (sym same)
-    (b.0, refl, record { frame = frame; entries = entries; has_directory = directory_at-sound at first frame bytes entries l.0 l.1 directory; breaks = b.2 })
+    (b.0, refl, record { frame = frame; entries = entries; has_directory = directory_at-found at first frame bytes entries l.0 l.1 directory; breaks = b.2 })
 
 after-directory : (tags : List (List ℕ)) (first : Bool) (at : ℕ) (bytes : List ℕ) (fault : FileFault) (frame : Frame) → record_at tags first at bytes ≡ Err fault
     → leader_at first at bytes ≡ Ok frame → (r : Result (List Entry) FileFault) → directory_at at frame bytes ≡ r → HasFrameFault tags first at bytes fault

@@ -21,7 +21,7 @@ use Rattle.chart_model.specs.Answers.{◌>>=◌, or_fault}
 use Rattle.iso8211_records.specs.Reading.{is_described, descriptors_in, values_by}
 use Rattle.iso8211_records.specs.Fault.{IsFirstWithout, Describes, IsDescribed}
 use Rattle.iso8211_records.proofs.Results.{bind_ok}
-use Rattle.iso8211_records.proofs.FieldLaws.{values_of-sound, values_of-again}
+use Rattle.iso8211_records.proofs.FieldLaws.{values_of-found, values_of-again}
 use Rattle.iso8211_records.proofs.Firsts.{IsTest, first-here}
 
 -- a descriptor is read exactly where one is spelled
@@ -42,16 +42,16 @@ pub err_bind : {A B : Type 0} (r : Result A FileFault) (f : A → Result B FileF
 err_bind (Ok x) f fault h = inr (x, refl, h)
 err_bind (Err found) f fault h = inl cc
 
-pub descriptors_in-sound : SpellingLaw → (frame : Frame) (bytes : List ℕ) (entries : List Entry) (pairs : List (List ℕ × Layout)) → descriptors_in frame bytes entries ≡ Ok pairs → AreDescriptors frame bytes entries pairs
+pub descriptors_in-found : SpellingLaw → (frame : Frame) (bytes : List ℕ) (entries : List Entry) (pairs : List (List ℕ × Layout)) → descriptors_in frame bytes entries ≡ Ok pairs → AreDescriptors frame bytes entries pairs
 unfolding descriptors_in
-descriptors_in-sound law frame bytes [] [] h = tt
-descriptors_in-sound law frame bytes [] (pair ∷ pairs) h = absurd cc
-descriptors_in-sound law frame bytes (entry ∷ entries) pairs h =
+descriptors_in-found law frame bytes [] [] h = tt
+descriptors_in-found law frame bytes [] (pair ∷ pairs) h = absurd cc
+descriptors_in-found law frame bytes (entry ∷ entries) pairs h =
     let p = bind_ok (or_fault (Descriptor entry.tag) (descriptor_of (field_bytes frame bytes entry))) (λ layout. descriptors_in frame bytes entries >>= λ pairs. Ok ((entry.tag, layout) ∷ pairs)) pairs h in
     let q = bind_ok (descriptors_in frame bytes entries) (λ pairs. Ok ((entry.tag, p.0) ∷ pairs)) pairs p.2 in
     let is : (entry.tag, p.0) ∷ q.0 ≡ pairs = cc in
     subst (λ (ps : List (List ℕ × Layout)). AreDescriptors frame bytes (entry ∷ entries) ps) is
-    (refl, (law (field_bytes frame bytes entry) p.0).0 (or_fault-some (Descriptor entry.tag) (descriptor_of (field_bytes frame bytes entry)) p.0 p.1), descriptors_in-sound law frame bytes entries q.0 q.1)
+    (refl, (law (field_bytes frame bytes entry) p.0).0 (or_fault-some (Descriptor entry.tag) (descriptor_of (field_bytes frame bytes entry)) p.0 p.1), descriptors_in-found law frame bytes entries q.0 q.1)
 
 pub descriptors_in-again : SpellingLaw → (frame : Frame) (bytes : List ℕ) (entries : List Entry) (pairs : List (List ℕ × Layout)) → AreDescriptors frame bytes entries pairs → descriptors_in frame bytes entries ≡ Ok pairs
 unfolding descriptors_in
@@ -120,12 +120,12 @@ text-of-ended : (text : List ℕ) → take (length (text ++ 30 ∷ []) - 1) (tex
 text-of-ended text = let less : length (text ++ 30 ∷ []) - 1 ≡ length text = omega (arith, length-append text (30 ∷ [])) in rw less (take-append_seam text (30 ∷ []))
 
 -- the values of an ended field
-pub values_by-sound : (o : Option Layout) (bytes : List ℕ) (values : List Value) → ((text : List ℕ) × (bytes ≡ text ++ 30 ∷ [])) → values_by o bytes ≡ Some values → (layout : Layout) × (o ≡ Some layout) × IsField (formats_in layout) values bytes
+pub values_by-found : (o : Option Layout) (bytes : List ℕ) (values : List Value) → ((text : List ℕ) × (bytes ≡ text ++ 30 ∷ [])) → values_by o bytes ≡ Some values → (layout : Layout) × (o ≡ Some layout) × IsField (formats_in layout) values bytes
 unfolding values_by
-values_by-sound None bytes values ended h = absurd cc
-values_by-sound (Some layout) bytes values ended h =
+values_by-found None bytes values ended h = absurd cc
+values_by-found (Some layout) bytes values ended h =
     let text_is : take (length bytes - 1) bytes ≡ ended.0 = ap (λ (l : List ℕ). take (length l - 1) l) ended.1 ∙ text-of-ended ended.0 in
-    (layout, refl, (ended.0, ended.1, subst (λ (t : List ℕ). IsFieldText (formats_in layout) values t) text_is (values_of-sound (formats_in layout) (take (length bytes - 1) bytes) values h)))
+    (layout, refl, (ended.0, ended.1, subst (λ (t : List ℕ). IsFieldText (formats_in layout) values t) text_is (values_of-found (formats_in layout) (take (length bytes - 1) bytes) values h)))
 
 pub values_by-again : (o : Option Layout) (layout : Layout) (bytes : List ℕ) (values : List Value) → o ≡ Some layout → IsField (formats_in layout) values bytes → values_by o bytes ≡ Some values
 unfolding values_by

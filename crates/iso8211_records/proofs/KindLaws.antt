@@ -25,7 +25,7 @@ use Rattle.iso8211_records.specs.Values.{values_of}
 use Rattle.chart_model.specs.Answers.{◌>>=◌, or_fault}
 use Rattle.iso8211_records.specs.Reading.{descriptors_in, descriptive_record_at, record_at, Framed, values_by, field_by, fields_of, data_record_at, data_records_at}
 use Rattle.iso8211_records.proofs.PassedTests.{both_parts}
-use Rattle.iso8211_records.proofs.FieldLaws.{values_of-sound}
+use Rattle.iso8211_records.proofs.FieldLaws.{values_of-found}
 use Rattle.iso8211_records.proofs.Results.{bind_ok}
 use Rattle.iso8211_records.proofs.Records.{data_record_at-is}
 
@@ -131,7 +131,7 @@ values_by-some number tag None bytes values h = absurd cc
 values_by-some number tag (Some layout) bytes values h = (
   layout,
   refl,
-  let text = values_of-sound (formats_in layout) (take (length bytes - 1) bytes) values (or_fault-ok (Subfield number tag) (values_of (formats_in layout) (take (length bytes - 1) bytes)) values h) in
+  let text = values_of-found (formats_in layout) (take (length bytes - 1) bytes) values (or_fault-ok (Subfield number tag) (values_of (formats_in layout) (take (length bytes - 1) bytes)) values h) in
       (text.0, AreSpelled-kinds (with_groups text.0 (formats_in layout)) values (take (length bytes - 1) bytes) text.1),
 )
   where

@@ -9,7 +9,7 @@ use Rattle.iso8211_records.specs.declared.fault.FieldFault.TheVariants.{Unspelle
 use Rattle.iso8211_formats.specs.Reading.{◌>>=◌}
 use Rattle.iso8211_records.specs.Values.{Lacks, before, before_all, value_at, values_at, groups_at}
 use Rattle.iso8211_formats.proofs.GivenValues.{bind_some}
-use Rattle.iso8211_records.proofs.FieldLaws.{values_at-sound, AreSpelled-shorter, groups_at-nil}
+use Rattle.iso8211_records.proofs.FieldLaws.{values_at-found, AreSpelled-shorter, groups_at-nil}
 
 regroup : (front : List Value) (value : Value) (read : Option (List Value × List ℕ)) → before front (read >>= λ x. Some (value ∷ x.0, x.1)) ≡ before (front ++ value ∷ []) read
 regroup front value (Some x) = ap (λ (values : List Value). Some (values, x.1)) (simp append_assoc)
@@ -49,7 +49,7 @@ values-all front formats i bytes total all so_far =
 -- values take a byte each at least
 pub values-shorter : (formats : List Format) (bytes : List ℕ) (values : List Value) (rest : List ℕ) → values_at formats bytes ≡ Some (values, rest) → length rest + length formats ≤ length bytes
 values-shorter formats bytes values rest h =
-    let p = values_at-sound formats bytes values rest h in
+    let p = values_at-found formats bytes values rest h in
     let some = AreSpelled-shorter formats values p.0 p.2 in
     let len : length bytes ≡ length p.0 + length rest = ap length p.1 ∙ length-append p.0 rest in
     omega arith

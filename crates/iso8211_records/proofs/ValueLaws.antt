@@ -22,9 +22,9 @@ pub record IsFront (size : ℕ) (bytes front rest : List ℕ) : Type 0 where
   pub len : length front ≡ size
   pub parts : bytes ≡ front ++ rest
 
-pub front_at-sound : (size : ℕ) (bytes front rest : List ℕ) → front_at size bytes ≡ Some (front, rest) → IsFront size bytes front rest
+pub front_at-found : (size : ℕ) (bytes front rest : List ℕ) → front_at size bytes ≡ Some (front, rest) → IsFront size bytes front rest
 unfolding front_at
-front_at-sound size bytes front rest h =
+front_at-found size bytes front rest h =
     let cut : take size bytes ≡ front = grind arith in
     let left : drop size bytes ≡ rest = grind arith in
     let test : (nat_lt 0 size && nat_le size (length bytes)) ≡ true = grind arith in
@@ -75,9 +75,9 @@ rejoined bytes text rest end inside cut left ends =
     let after : drop end bytes ≡ 31 ∷ rest = drop-cons bytes end 0 inside ∙ rw (ends, next) refl in
     sym (take-append-drop end bytes) ∙ rw (cut, after, append_assoc) refl
 
-pub open_text_at-sound : (bytes text rest : List ℕ) → open_text_at bytes ≡ Some (text, rest) → AllByRecursion IsTextByte text × (bytes ≡ (text ++ 31 ∷ []) ++ rest)
+pub open_text_at-found : (bytes text rest : List ℕ) → open_text_at bytes ≡ Some (text, rest) → AllByRecursion IsTextByte text × (bytes ≡ (text ++ 31 ∷ []) ++ rest)
 unfolding open_text_at
-open_text_at-sound bytes text rest h =
+open_text_at-found bytes text rest h =
     let p = bind_some (position is_terminator bytes) (λ end. cond {A = Option (List ℕ × List ℕ)} (eqb (get_or bytes end 0) 31) (Some (take end bytes, drop (end + 1) bytes)) None) (text, rest) h in
     let end : ℕ = p.0 in
     let found : cond {A = Option (List ℕ × List ℕ)} (eqb (get_or bytes end 0) 31) (Some (take end bytes, drop (end + 1) bytes)) None ≡ Some (text, rest) = p.2 in
@@ -136,39 +136,39 @@ number-some size front (inr (inr four)) len = omega arith
 
 -- ---- values
 
-pub value_at-sound : (format : Format) (bytes : List ℕ) (value : Value) (rest : List ℕ) → value_at format bytes ≡ Some (value, rest) → (front : List ℕ) × (bytes ≡ front ++ rest) × Spells format value front
+pub value_at-found : (format : Format) (bytes : List ℕ) (value : Value) (rest : List ℕ) → value_at format bytes ≡ Some (value, rest) → (front : List ℕ) × (bytes ≡ front ++ rest) × Spells format value front
 unfolding value_at
-value_at-sound TextOpen bytes value rest h =
+value_at-found TextOpen bytes value rest h =
     let p = bind_some (open_text_at bytes) (λ text. Some (Text text.0, text.1)) (value, rest) h in
     let is : Text p.0.0 ≡ value = grind arith in
     let left : p.0.1 ≡ rest = grind arith in
-    let spelled = open_text_at-sound bytes p.0.0 p.0.1 p.1 in
+    let spelled = open_text_at-found bytes p.0.0 p.0.1 p.1 in
     (p.0.0 ++ 31 ∷ [], spelled.1 ∙ ap (λ (l : List ℕ). (p.0.0 ++ 31 ∷ []) ++ l) left, subst (λ (v : Value). Spells TextOpen v (p.0.0 ++ 31 ∷ [])) is (spelled.0, refl))
-value_at-sound (TextOf width) bytes value rest h =
+value_at-found (TextOf width) bytes value rest h =
     let p = bind_some (front_at width bytes) (λ text. Some (Text text.0, text.1)) (value, rest) h in
     let is : Text p.0.0 ≡ value = grind arith in
     let left : p.0.1 ≡ rest = grind arith in
-    let found = front_at-sound width bytes p.0.0 p.0.1 p.1 in
+    let found = front_at-found width bytes p.0.0 p.0.1 p.1 in
     (p.0.0, found.parts ∙ ap (λ (l : List ℕ). p.0.0 ++ l) left, subst (λ (v : Value). Spells (TextOf width) v p.0.0) is (found.some, found.len, refl))
-value_at-sound (Unsigned size) bytes value rest h =
+value_at-found (Unsigned size) bytes value rest h =
     let p = bind_some (front_at (number_size size) bytes) (λ number. Some (Number (pos (unsigned number.0)), number.1)) (value, rest) h in
     let is : Number (pos (unsigned p.0.0)) ≡ value = grind arith in
     let left : p.0.1 ≡ rest = grind arith in
-    let found = front_at-sound (number_size size) bytes p.0.0 p.0.1 p.1 in
+    let found = front_at-found (number_size size) bytes p.0.0 p.0.1 p.1 in
     let number = number_size-is size found.some in
     (p.0.0, found.parts ∙ ap (λ (l : List ℕ). p.0.0 ++ l) left, subst (λ (v : Value). Spells (Unsigned size) v p.0.0) is (number.0, found.len ∙ number.1, refl))
-value_at-sound (Signed size) bytes value rest h =
+value_at-found (Signed size) bytes value rest h =
     let p = bind_some (front_at (number_size size) bytes) (λ number. Some (Number (signed number.0), number.1)) (value, rest) h in
     let is : Number (signed p.0.0) ≡ value = grind arith in
     let left : p.0.1 ≡ rest = grind arith in
-    let found = front_at-sound (number_size size) bytes p.0.0 p.0.1 p.1 in
+    let found = front_at-found (number_size size) bytes p.0.0 p.0.1 p.1 in
     let number = number_size-is size found.some in
     (p.0.0, found.parts ∙ ap (λ (l : List ℕ). p.0.0 ++ l) left, subst (λ (v : Value). Spells (Signed size) v p.0.0) is (number.0, found.len ∙ number.1, refl))
-value_at-sound (BitsOf count) bytes value rest h =
+value_at-found (BitsOf count) bytes value rest h =
     let p = bind_some (front_at (count / 8) bytes) (λ bits. Some (Bits bits.0, bits.1)) (value, rest) h in
     let is : Bits p.0.0 ≡ value = grind arith in
     let left : p.0.1 ≡ rest = grind arith in
-    let found = front_at-sound (count / 8) bytes p.0.0 p.0.1 p.1 in
+    let found = front_at-found (count / 8) bytes p.0.0 p.0.1 p.1 in
     (p.0.0, found.parts ∙ ap (λ (l : List ℕ). p.0.0 ++ l) left, subst (λ (v : Value). Spells (BitsOf count) v p.0.0) is (found.some, found.len, refl))
 
 pub value_at-again : (format : Format) (value : Value) (front rest : List ℕ) → Spells format value front → value_at format (front ++ rest) ≡ Some (value, rest)

@@ -81,7 +81,7 @@ HasFrameFault tags first at bytes (Terminator offset) =
     (place : ℕ) × (offset ≡ at + place) × BreaksEnd tags first bytes place
 HasFrameFault tags first at bytes fault = ⊥
 
--- a sound frame begins the bytes
+-- a whole frame begins the bytes
 pub record BeginsRecord (tags : List (List ℕ)) (first : Bool) (bytes piece : List ℕ) (frame : Frame)
     (entries : List Entry) : Type 0 where
   pub rest : List ℕ
@@ -123,20 +123,20 @@ HasDataFault tags descriptors number at bytes (Subfield record_number tag) =
     × (tag ≡ entry.tag)
 HasDataFault tags descriptors number at bytes fault = HasFrameFault tags false at bytes fault
 
--- a sound data descriptive record and sound data records stand before the first fault, which is that of the data
+-- a whole data descriptive record and whole data records stand before the first fault, which is that of the data
 -- record of this number
 pub record HasLaterFault (tags : List (List ℕ)) (bytes : List ℕ) (number : ℕ) (fault : FileFault) : Type 0 where
   pub first : List ℕ
-  pub sound : List ℕ
+  pub before : List ℕ
   pub rest : List ℕ
   pub descriptors : List (List ℕ × Layout)
   pub records : List (List RawField)
-  pub pieces : bytes ≡ first ++ (sound ++ rest)
+  pub pieces : bytes ≡ first ++ (before ++ rest)
   pub descriptive : IsDescriptiveRecord tags first descriptors
-  pub data_records : AreDataRecords tags descriptors sound records
+  pub data_records : AreDataRecords tags descriptors before records
   pub left : rest ≢ []
   pub number_is : number ≡ length records + 1
-  pub breaks : HasDataFault tags descriptors number (length first + length sound) rest fault
+  pub breaks : HasDataFault tags descriptors number (length first + length before) rest fault
 
 -- this is the first fault, and so many data records were come to, the faulty one among them
 abbrev pub HasFault : List (List ℕ) → List ℕ → ℕ → FileFault → Type 0

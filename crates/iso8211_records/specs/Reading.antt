@@ -171,7 +171,7 @@ abbrev pub or_zero : {A : Type 0} → (A → ℕ) → Result A FileFault → ℕ
 or_zero count (Ok x) = count x
 or_zero count (Err fault) = 0
 
--- how many data records are come to: one wherever bytes are left after the sound record before it
+-- how many data records are come to: one wherever bytes are left after the record before it
 unfoldable pub come_to : ℕ → List (List ℕ) → List (List ℕ × Layout) → ℕ → ℕ → List ℕ → ℕ
 come_to bound tags descriptors number at [] = 0
 come_to zero tags descriptors number at (byte ∷ bytes) = 0

@@ -1,3 +1,4 @@
+pub mod Widened
 pub mod Inside
 pub mod Turns
 pub mod Ends

@@ -28,27 +28,20 @@ part_of m n v y h e = record {
   at_y = e ∙ times_comm v (pos n);
 }
 
+-- as many parts of another way
+as_many : (u v x y a b c d : ℤ) (p : IsPart u v x y) → pos p.d *ℤ c ≡ pos p.t *ℤ a → pos p.d *ℤ d ≡ pos p.t *ℤ b → IsPart a b c d
+as_many u v x y a b c d p at_x at_y = record { d = p.d; t = p.t; parts = p.parts; on_the_way = p.on_the_way; at_x = at_x; at_y = at_y }
+
 -- the same way the other way round
 flipped : (u v x y : ℤ) → IsPart (neg_ℤ u) (neg_ℤ v) (neg_ℤ x) (neg_ℤ y) → IsPart u v x y
-flipped u v x y p = record {
-  d = p.d;
-  t = p.t;
-  parts = p.parts;
-  on_the_way = p.on_the_way;
-  at_x = omega (arith, ints, p.at_x, times_neg (pos p.d) x, times_neg (pos p.t) u);
-  at_y = omega (arith, ints, p.at_y, times_neg (pos p.d) y, times_neg (pos p.t) v);
-}
+flipped u v x y p =
+    as_many (neg_ℤ u) (neg_ℤ v) (neg_ℤ x) (neg_ℤ y) u v x y p
+    (omega (arith, ints, p.at_x, times_neg (pos p.d) x, times_neg (pos p.t) u))
+    (omega (arith, ints, p.at_y, times_neg (pos p.d) y, times_neg (pos p.t) v))
 
 -- the axes exchanged
 turned : (u v x y : ℤ) → IsPart v u y x → IsPart u v x y
-turned u v x y p = record {
-  d = p.d;
-  t = p.t;
-  parts = p.parts;
-  on_the_way = p.on_the_way;
-  at_x = p.at_y;
-  at_y = p.at_x;
-}
+turned u v x y p = as_many v u y x u v x y p p.at_y p.at_x
 
 -- a way to the right, and its part
 eastward : (u v x y : ℤ) → pos 0 <ℤ u → pos 0 ≤ℤ x → x ≤ℤ u → u *ℤ y ≡ v *ℤ x → IsPart u v x y

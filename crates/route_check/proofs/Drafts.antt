@@ -61,7 +61,7 @@ HasBox (first ∷ more) = (box : HalfWidths) × (box_of first ≡ Some box)
 
 -- what becomes of lines with one more that is taken
 pub record SaidTaken (said : List (List ℕ)) (line : List ℕ) (next : Draft) : Type 0 where
-  pub sound : is_misspelled said line ≡ false
+  pub faultless : is_misspelled said line ≡ false
   pub drafted : next ≡ draft_of (said ++ line ∷ [])
   pub boxed : HasBox (said ++ line ∷ [])
 
@@ -91,7 +91,7 @@ said_taken [] line number next boxed e = by (box_of line) refl e
         → SaidTaken [] line next
     by None is e = absurd cc
     by (Some box) is e = record {
-      sound = ap is_none is;
+      faultless = ap is_none is;
       drafted = sym (is_ok_of _ next e) ∙ ap (λ (o : Option HalfWidths). record { half_widths = o; points = take 1000 []; count = 0 }) (sym is);
       boxed = (box, is);
     }
@@ -103,7 +103,7 @@ said_taken (first ∷ more) line number next boxed e =
         → SaidTaken (first ∷ more) line next
     by None is e = absurd cc
     by (Some p) is e = record {
-      sound = ap is_none is;
+      faultless = ap is_none is;
       drafted = sym (is_ok_of _ next e) ∙ draft_more first line more p is;
       boxed = boxed;
     }
@@ -143,7 +143,7 @@ pub saying_more : (before : List (List ℕ)) (line : List ℕ) → is_silent lin
 saying_more before line is = saying_one before line false is
 
 pub record LineTaken (before : List (List ℕ)) (line : List ℕ) (next : Draft) : Type 0 where
-  pub sound : fault_at before line ≡ None
+  pub faultless : fault_at before line ≡ None
   pub drafted : next ≡ draft_of (saying (before ++ line ∷ []))
   pub boxed : HasBox (saying (before ++ line ∷ []))
 
@@ -165,7 +165,7 @@ line_taken before line next boxed e = by (is_silent line) refl e
     by true is e =
         let same = sym (saying_same before line is) in
         record {
-          sound = fault_silent before line is;
+          faultless = fault_silent before line is;
           drafted = sym (is_ok_of _ next e) ∙ ap draft_of same;
           boxed = subst HasBox same boxed;
         }
@@ -173,7 +173,7 @@ line_taken before line next boxed e = by (is_silent line) refl e
         let taken = said_taken (saying before) line (length before + 1) next boxed e in
         let more = sym (saying_more before line is) in
         record {
-          sound = fault_said before line false is taken.sound;
+          faultless = fault_said before line false is taken.faultless;
           drafted = taken.drafted ∙ ap draft_of more;
           boxed = subst HasBox more taken.boxed;
         }

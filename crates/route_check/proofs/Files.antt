@@ -109,9 +109,9 @@ IsWay [] = Unit {0}
 IsWay (first ∷ more) = ((box : HalfWidths) × (box_of first ≡ Some box)) × AllZip IsPoint more (filter_map point_of more)
 
 said_way : (said : List (List ℕ)) (line : List ℕ) → IsWay said → is_misspelled said line ≡ false → IsWay (said ++ line ∷ [])
-said_way [] line way sound = (there (box_of line) sound, tt)
-said_way (first ∷ more) line way sound =
-    let p = there (point_of line) sound in
+said_way [] line way faultless = (there (box_of line) faultless, tt)
+said_way (first ∷ more) line way faultless =
+    let p = there (point_of line) faultless in
     let points = filter_map-append point_of more (line ∷ []) ∙ ap (λ (o : Option Pt). filter_map point_of more ++ cons_option o []) p.1 in
     (way.0, subst (AllZip IsPoint (more ++ line ∷ [])) (sym points) (all_zipped_more IsPoint more (filter_map point_of more) line p.0 way.1 p.1))
 
@@ -120,7 +120,7 @@ is_false f true e = absurd cc
 is_false f false e = refl
 
 line_way : (before : List (List ℕ)) (line : List ℕ) → IsWay (saying before) → fault_at before line ≡ None → IsWay (saying (before ++ line ∷ []))
-line_way before line way sound = by (is_silent line) refl (is_false (BadLine (length before + 1)) (is_bad before line) sound)
+line_way before line way faultless = by (is_silent line) refl (is_false (BadLine (length before + 1)) (is_bad before line) faultless)
   where
     by : (b : Bool) → is_silent line ≡ b → (not b && is_misspelled (saying before) line) ≡ false → IsWay (saying (before ++ line ∷ []))
     by true is e = subst IsWay (sym (saying_same before line is)) way
@@ -132,14 +132,14 @@ none_first (Some f) b e = absurd cc
 
 way_behind : (before xs : List (List ℕ)) → IsWay (saying before) → first_fault fault_at before xs ≡ None → IsWay (saying (before ++ xs))
 unfolding first_fault
-way_behind before [] way sound = subst (λ (l : List (List ℕ)). IsWay (saying l)) (sym (append-nil before)) way
-way_behind before (x ∷ xs) way sound =
-    let here = none_first (fault_at before x) (first_fault fault_at (before ++ x ∷ []) xs) sound in
+way_behind before [] way faultless = subst (λ (l : List (List ℕ)). IsWay (saying l)) (sym (append-nil before)) way
+way_behind before (x ∷ xs) way faultless =
+    let here = none_first (fault_at before x) (first_fault fault_at (before ++ x ∷ []) xs) faultless in
     subst (λ (l : List (List ℕ)). IsWay (saying l)) (append_assoc before (x ∷ []) xs)
     (way_behind (before ++ x ∷ []) xs (line_way before x way here.0) here.1)
 
 way_of : (all : List (List ℕ)) → first_fault fault_at [] all ≡ None → IsWay (saying all)
-way_of all sound = way_behind [] all tt sound
+way_of all faultless = way_behind [] all tt faultless
 
 -- ---- as they are spelled
 
@@ -185,7 +185,7 @@ no_fault f true b e = ap (λ (c : Bool). when c f) e
 no_fault f false b e = refl
 
 understood-to : BoxesAreSpelled → PointsAreSpelled → (before : List (List ℕ)) (line : List ℕ) → fault_at before line ≡ None → IsUnderstood before line
-understood-to boxes law before line sound = by (is_silent line) refl (is_false (BadLine (length before + 1)) (is_bad before line) sound)
+understood-to boxes law before line faultless = by (is_silent line) refl (is_false (BadLine (length before + 1)) (is_bad before line) faultless)
   where
     said : (l : List (List ℕ)) → saying before ≡ l → is_misspelled l line ≡ false → IsUnderstood before line
     said [] is e = let box = there (box_of line) e in inr (inl (is, (box.0.w, box.0.h, (boxes line box.0.w box.0.h).0 box.1)))
@@ -237,7 +237,7 @@ first_bad-to boxes law all f e =
         rest = h.rest;
         whole = h.whole;
         number = refl;
-        understood = λ front back other whole. understood-to boxes law front other (h.sound front back other whole);
+        understood = λ front back other whole. understood-to boxes law front other (h.faultless front back other whole);
         bad = bad.0;
       },
       sym bad.1,
@@ -250,7 +250,7 @@ first_bad-from boxes law all n h =
       line = h.line;
       rest = h.rest;
       whole = h.whole;
-      sound = λ front back other whole. understood-from boxes law front other (h.understood front back other whole);
+      faultless = λ front back other whole. understood-from boxes law front other (h.understood front back other whole);
       here = bad-from boxes law h.before h.line h.bad ∙ ap (λ (k : ℕ). Some (BadLine k)) (sym h.number);
     })
 
@@ -292,14 +292,14 @@ silence_understood all none front back line whole = by (is_silent line) refl
 
 -- ---- the answers, from what the file is
 
-sound_route : (bytes : List ℕ) → first_fault fault_at [] (lines bytes) ≡ None → route_in bytes ≡ route_on (saying (lines bytes))
-sound_route bytes is = ap (λ (o : Option RouteFault). unless o (saying (lines bytes)) >>= route_on) is
+faultless_route : (bytes : List ℕ) → first_fault fault_at [] (lines bytes) ≡ None → route_in bytes ≡ route_on (saying (lines bytes))
+faultless_route bytes is = ap (λ (o : Option RouteFault). unless o (saying (lines bytes)) >>= route_on) is
 
 understood_route : BoxesAreSpelled → PointsAreSpelled → (bytes : List ℕ)
     → ((front back : List (List ℕ)) (line : List ℕ) → lines bytes ≡ front ++ line ∷ back → IsUnderstood front line)
     → route_in bytes ≡ route_on (saying (lines bytes))
 understood_route boxes law bytes understood =
-    sound_route bytes (no_fault-from fault_at (lines bytes) (λ front back line whole. understood-from boxes law front line (understood front back line whole)))
+    faultless_route bytes (no_fault-from fault_at (lines bytes) (λ front back line whole. understood-from boxes law front line (understood front back line whole)))
 
 way_route : BoxesAreSpelled → PointsAreSpelled → (bytes : List ℕ) (w h : ℕ) (points : List Pt) (o : Option RouteFault) → SpellsWay (saying (lines bytes)) w h points
     → count_fault (length points) ≡ o → route_in bytes ≡ unless o (record { w = w; h = h; points = points })
@@ -377,14 +377,14 @@ way_outcome boxes law bytes w h points way = by (counted (length points))
       },
     )))
 
-sound_outcome : BoxesAreSpelled → PointsAreSpelled → (bytes : List ℕ) → first_fault fault_at [] (lines bytes) ≡ None → Outcome bytes
-sound_outcome boxes law bytes sound = by (saying (lines bytes)) refl (way_of (lines bytes) sound)
+faultless_outcome : BoxesAreSpelled → PointsAreSpelled → (bytes : List ℕ) → first_fault fault_at [] (lines bytes) ≡ None → Outcome bytes
+faultless_outcome boxes law bytes faultless = by (saying (lines bytes)) refl (way_of (lines bytes) faultless)
   where
     by : (said : List (List ℕ)) → saying (lines bytes) ≡ said → IsWay said → Outcome bytes
     by [] is way = inr (inr (inl (
       0,
       record {
-        answer = sound_route bytes sound ∙ ap route_on is;
+        answer = faultless_route bytes faultless ∙ ap route_on is;
         points = inl (is, refl);
         range = omega arith;
       },
@@ -397,7 +397,7 @@ pub outcome : BoxesAreSpelled → PointsAreSpelled → (bytes : List ℕ) → Ou
 outcome boxes law bytes = by (first_fault fault_at [] (lines bytes)) refl
   where
     by : (o : Option RouteFault) → first_fault fault_at [] (lines bytes) ≡ o → Outcome bytes
-    by None is = sound_outcome boxes law bytes is
+    by None is = faultless_outcome boxes law bytes is
     by (Some f) is =
         let bad = first_bad-to boxes law (lines bytes) f is in
         inr (inl (

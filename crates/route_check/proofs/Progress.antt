@@ -16,7 +16,7 @@ use Rattle.route_check.specs.Draft.{draft_of, KeepsFirstPoints, line_in, finishe
 use Rattle.route_check.specs.Answers.{told, Answers}
 use Rattle.route_check.proofs.Drafts.{HasBox, kept, line_taken, line_refused, finished-draft_of}
 
--- the lines before the rest are sound, and say what the draft has
+-- the lines before the rest have no fault, and say what the draft has
 pub record IsReadSoFar (bytes : List ℕ) (draft : Draft) (number : ℕ) (rest : List ℕ) : Type 0 where
   pub before : List (List ℕ)
   pub passed : ArePassed fault_at bytes number rest before
@@ -77,7 +77,7 @@ read_more bytes rest others line draft next number so_far cut shorter e =
     let taken = line_taken so_far.before line next so_far.boxed (on_draft bytes rest line draft number so_far ∙ e) in
     record {
       before = so_far.before ++ line ∷ [];
-      passed = one_passed fault_at bytes rest others line number so_far.before so_far.passed cut taken.sound;
+      passed = one_passed fault_at bytes rest others line number so_far.before so_far.passed cut taken.faultless;
       room = omega (arith, so_far.room, shorter);
       drafted = taken.drafted;
       boxed = taken.boxed;

@@ -25,7 +25,7 @@ use Rattle.s57_records.specs.Rows.{ensure, reads_as, is_instruction, ruin_of, un
 use Rattle.s57_records.proofs.AnswerLemmas.{bind_ok, bind_then, ensure_ok, ok_is}
 
 -- what the lists of a record keep
-pub record AreSound (s : Subfields) : Type 0 where
+pub record AreWithinLimits (s : Subfields) : Type 0 where
   pub attrs : (tag : List ℕ) (attrs : List Attr) → s.attrs tag ≡ Ok attrs → All (λ attr. IsPlainText attr.value) attrs
   pub sg2d : (coords : List Coord) → s.coords (codes "SG2D") ≡ Ok coords → All IsCoord coords × All (λ coord. IsNone coord.z) coords
   pub sg3d : (coords : List Coord) → s.coords (codes "SG3D") ≡ Ok coords → All IsCoord coords × All (λ coord. IsSome coord.z) coords
@@ -96,16 +96,16 @@ either_absent false y e = inl refl
 either_absent true false e = inr refl
 either_absent true true e = absurd cc
 
-coords_are : (s : Subfields) → AreSound s → (ruin : ℕ) (coordinates soundings : List Coord) → unless_deleted ruin (s.coords (codes "SG2D")) ≡ Ok coordinates → unless_deleted ruin (s.coords (codes "SG3D")) ≡ Ok soundings → not (s.has (codes "SG2D") && s.has (codes "SG3D")) ≡ true → AreCoords (coordinates ++ soundings)
-coords_are s sound ruin coordinates soundings f d one =
-    let without_depth : AreWithoutDepth coordinates = kept AreWithoutDepth ruin (s.coords (codes "SG2D")) coordinates (All-nil _, All-nil _) sound.sg2d f in
-    let with_depth : AreWithDepth soundings = kept AreWithDepth ruin (s.coords (codes "SG3D")) soundings (All-nil _, All-nil _) sound.sg3d d in
+coords_are : (s : Subfields) → AreWithinLimits s → (ruin : ℕ) (coordinates soundings : List Coord) → unless_deleted ruin (s.coords (codes "SG2D")) ≡ Ok coordinates → unless_deleted ruin (s.coords (codes "SG3D")) ≡ Ok soundings → not (s.has (codes "SG2D") && s.has (codes "SG3D")) ≡ true → AreCoords (coordinates ++ soundings)
+coords_are s limits ruin coordinates soundings f d one =
+    let without_depth : AreWithoutDepth coordinates = kept AreWithoutDepth ruin (s.coords (codes "SG2D")) coordinates (All-nil _, All-nil _) limits.sg2d f in
+    let with_depth : AreWithDepth soundings = kept AreWithDepth ruin (s.coords (codes "SG3D")) soundings (All-nil _, All-nil _) limits.sg3d d in
     elim (either_absent (s.has (codes "SG2D")) (s.has (codes "SG3D")) one) [
       | inl no_coordinates ↦
-          let none : coordinates ≡ [] = kept (λ xs. xs ≡ []) ruin (s.coords (codes "SG2D")) coordinates refl (λ ys e. sound.absent (codes "SG2D") ys no_coordinates e) f in
+          let none : coordinates ≡ [] = kept (λ xs. xs ≡ []) ruin (s.coords (codes "SG2D")) coordinates refl (λ ys e. limits.absent (codes "SG2D") ys no_coordinates e) f in
           subst (λ (cs : List Coord). AreCoords (cs ++ soundings)) (sym none) (record { each = with_depth.0; alike = inl with_depth.1 })
       | inr no_soundings ↦
-          let none : soundings ≡ [] = kept (λ xs. xs ≡ []) ruin (s.coords (codes "SG3D")) soundings refl (λ ys e. sound.absent (codes "SG3D") ys no_soundings e) d in
+          let none : soundings ≡ [] = kept (λ xs. xs ≡ []) ruin (s.coords (codes "SG3D")) soundings refl (λ ys e. limits.absent (codes "SG3D") ys no_soundings e) d in
           subst (λ (cs : List Coord). AreCoords (coordinates ++ cs)) (sym none) (subst AreCoords (sym (append-nil coordinates)) (record { each = without_depth.0; alike = inr without_depth.1 }))
     ]
 
@@ -116,26 +116,26 @@ coords_read s ruin coordinates soundings f d one =
     λ i. f i >>= (λ cs. ensure (not (one i)) (Profile (codes "SG3D")) >>= (λ _. d i >>= (λ ss. Ok (cs ++ ss))))
 
 -- those of SG2D, where that field is there and the other isn't
-pub coords_of_sg2d : (s : Subfields) → AreSound s → (ruin : ℕ) (coordinates soundings : List Coord) → unless_deleted ruin (s.coords (codes "SG2D")) ≡ Ok coordinates → unless_deleted ruin (s.coords (codes "SG3D")) ≡ Ok soundings → s.has (codes "SG2D") ≡ true → s.has (codes "SG3D") ≡ false → coords_of ruin s ≡ Ok coordinates
-coords_of_sg2d s sound ruin coordinates soundings f d there no_soundings =
-    let none : soundings ≡ [] = kept (λ xs. xs ≡ []) ruin (s.coords (codes "SG3D")) soundings refl (λ ys e. sound.absent (codes "SG3D") ys no_soundings e) d in
+pub coords_of_sg2d : (s : Subfields) → AreWithinLimits s → (ruin : ℕ) (coordinates soundings : List Coord) → unless_deleted ruin (s.coords (codes "SG2D")) ≡ Ok coordinates → unless_deleted ruin (s.coords (codes "SG3D")) ≡ Ok soundings → s.has (codes "SG2D") ≡ true → s.has (codes "SG3D") ≡ false → coords_of ruin s ≡ Ok coordinates
+coords_of_sg2d s limits ruin coordinates soundings f d there no_soundings =
+    let none : soundings ≡ [] = kept (λ xs. xs ≡ []) ruin (s.coords (codes "SG3D")) soundings refl (λ ys e. limits.absent (codes "SG3D") ys no_soundings e) d in
     coords_read s ruin coordinates soundings f d (λ i. there i && no_soundings i)
     ∙ ap (λ (cs : List Coord). Ok (coordinates ++ cs)) none ∙ ap (λ (cs : List Coord). Ok cs) (append-nil coordinates)
 
 -- those of SG3D, where SG2D isn't there
-pub coords_of_sg3d : (s : Subfields) → AreSound s → (ruin : ℕ) (coordinates soundings : List Coord) → unless_deleted ruin (s.coords (codes "SG2D")) ≡ Ok coordinates → unless_deleted ruin (s.coords (codes "SG3D")) ≡ Ok soundings → s.has (codes "SG2D") ≡ false → coords_of ruin s ≡ Ok soundings
-coords_of_sg3d s sound ruin coordinates soundings f d no_coordinates =
-    let none : coordinates ≡ [] = kept (λ xs. xs ≡ []) ruin (s.coords (codes "SG2D")) coordinates refl (λ ys e. sound.absent (codes "SG2D") ys no_coordinates e) f in
+pub coords_of_sg3d : (s : Subfields) → AreWithinLimits s → (ruin : ℕ) (coordinates soundings : List Coord) → unless_deleted ruin (s.coords (codes "SG2D")) ≡ Ok coordinates → unless_deleted ruin (s.coords (codes "SG3D")) ≡ Ok soundings → s.has (codes "SG2D") ≡ false → coords_of ruin s ≡ Ok soundings
+coords_of_sg3d s limits ruin coordinates soundings f d no_coordinates =
+    let none : coordinates ≡ [] = kept (λ xs. xs ≡ []) ruin (s.coords (codes "SG2D")) coordinates refl (λ ys e. limits.absent (codes "SG2D") ys no_coordinates e) f in
     coords_read s ruin coordinates soundings f d (λ i. no_coordinates i && s.has (codes "SG3D"))
     ∙ ap (λ (cs : List Coord). Ok (cs ++ soundings)) none
 
-pub are_coords : (s : Subfields) → AreSound s → (ruin : ℕ) (coords : List Coord) → coords_of ruin s ≡ Ok coords → AreCoords coords
+pub are_coords : (s : Subfields) → AreWithinLimits s → (ruin : ℕ) (coords : List Coord) → coords_of ruin s ≡ Ok coords → AreCoords coords
 unfolding coords_of
-are_coords s sound ruin coords e =
+are_coords s limits ruin coords e =
     bind_then (unless_deleted ruin (s.coords (codes "SG2D"))) _ coords e (λ coordinates coordinates_e after_coordinates.
     bind_then (ensure (not (s.has (codes "SG2D") && s.has (codes "SG3D"))) (Profile (codes "SG3D"))) _ coords after_coordinates (λ _ one_e after_one.
     bind_then (unless_deleted ruin (s.coords (codes "SG3D"))) _ coords after_one (λ soundings soundings_e made.
-    subst AreCoords (ok_is (coordinates ++ soundings) coords made) (coords_are s sound ruin coordinates soundings coordinates_e soundings_e (ensure_ok _ _ _ one_e)))))
+    subst AreCoords (ok_is (coordinates ++ soundings) coords made) (coords_are s limits ruin coordinates soundings coordinates_e soundings_e (ensure_ok _ _ _ one_e)))))
 
 -- what a vector record's head keeps
 pub record IsVectorHead (base : Bool) (n : ℕ) (s : Subfields) (head : VectorHead) : Type 0 where
@@ -156,23 +156,23 @@ not_both : (rcnm : ℕ) → is_vector_kind rcnm ≡ true → rcnm ≡ 100 → �
 not_both rcnm vector feature = true≢false (sym vector ∙ ap is_vector_kind feature)
 
 -- a vector record's change, from its parts
-pub vector_made : (base : Bool) (n : ℕ) (s : Subfields) (sound : AreSound s) (head : VectorHead) (attrs : List Attr) (pointer_edit : Option Control) (pointers : List Pointer) (coord_edit : Option Control) (coords : List Coord) → IsVectorHead base n s head → unless_deleted head.ruin (s.attrs (codes "ATTV")) ≡ Ok attrs → IsEdit pointer_edit → IsEdit coord_edit → AreCoords coords → IsChange (vector_change head attrs pointer_edit pointers coord_edit coords)
-vector_made base n s sound head attrs pointer_edit pointers coord_edit coords is attrs_e pointer_e coord_e coords_e = record {
+pub vector_made : (base : Bool) (n : ℕ) (s : Subfields) (limits : AreWithinLimits s) (head : VectorHead) (attrs : List Attr) (pointer_edit : Option Control) (pointers : List Pointer) (coord_edit : Option Control) (coords : List Coord) → IsVectorHead base n s head → unless_deleted head.ruin (s.attrs (codes "ATTV")) ≡ Ok attrs → IsEdit pointer_edit → IsEdit coord_edit → AreCoords coords → IsChange (vector_change head attrs pointer_edit pointers coord_edit coords)
+vector_made base n s limits head attrs pointer_edit pointers coord_edit coords is attrs_e pointer_e coord_e coords_e = record {
   target = inl (vector_name head.target is.kind);
   ruin = ruin_is base n s (codes "VRID") head.ruin is.ruin;
   pointer_edit = pointer_e;
   coord_edit = coord_e;
   related_edit = tt;
-  attrs = kept (λ xs. All (λ attr. IsPlainText attr.value) xs) head.ruin (s.attrs (codes "ATTV")) attrs (All-nil _) (sound.attrs (codes "ATTV")) attrs_e;
+  attrs = kept (λ xs. All (λ attr. IsPlainText attr.value) xs) head.ruin (s.attrs (codes "ATTV")) attrs (All-nil _) (limits.attrs (codes "ATTV")) attrs_e;
   coords = coords_e;
   vector = λ _. record { prim = refl; grup = refl; class = refl; foid = refl; related_edit = refl; related = refl };
   feature = λ other. absurd (not_both head.target.rcnm is.kind other);
   insert = λ other _. absurd (not_both head.target.rcnm is.kind other);
 }
 
-pub vector_is_change : (base : Bool) (n : ℕ) (s : Subfields) (change : Change) → AreSound s → vector_of base n s ≡ Ok change → IsChange change
+pub vector_is_change : (base : Bool) (n : ℕ) (s : Subfields) (change : Change) → AreWithinLimits s → vector_of base n s ≡ Ok change → IsChange change
 unfolding vector_of
-vector_is_change base n s change sound e =
+vector_is_change base n s change limits e =
     bind_then (vector_head base n s) _ change e (λ head head_e after_head.
     bind_then (unless_deleted head.ruin (s.attrs (codes "ATTV"))) _ change after_head (λ attrs attrs_e after_attrs.
     bind_then (edit_of base head.ruin n s (codes "VRPC") (codes "VPUI") (codes "VPIX") (codes "NVPT")) _ change after_attrs (λ pointer_edit pointer_edit_e after_pointer_edit.
@@ -180,7 +180,7 @@ vector_is_change base n s change sound e =
     bind_then (edit_of base head.ruin n s (codes "SGCC") (codes "CCUI") (codes "CCIX") (codes "CCNC")) _ change after_pointers (λ coord_edit coord_edit_e after_coord_edit.
     bind_then (coords_of head.ruin s) _ change after_coord_edit (λ coords coords_e after_coords.
     bind_then (ensure (not (s.has (codes "ARCC"))) (Profile (codes "ARCC"))) _ change after_coords (λ _ arcs_e made.
-    subst IsChange (ok_is _ change made) (vector_made base n s sound head attrs pointer_edit pointers coord_edit coords (vector_head_is base n s head head_e) attrs_e (edit_is base head.ruin n s _ _ _ _ pointer_edit pointer_edit_e) (edit_is base head.ruin n s _ _ _ _ coord_edit coord_edit_e) (are_coords s sound head.ruin coords coords_e)))))))))
+    subst IsChange (ok_is _ change made) (vector_made base n s limits head attrs pointer_edit pointers coord_edit coords (vector_head_is base n s head head_e) attrs_e (edit_is base head.ruin n s _ _ _ _ pointer_edit pointer_edit_e) (edit_is base head.ruin n s _ _ _ _ coord_edit coord_edit_e) (are_coords s limits head.ruin coords coords_e)))))))))
 
 -- ---- features
 
@@ -239,27 +239,27 @@ feature_head_is base n s head e =
     subst (IsFeatureHead base n s) (ok_is _ head made) (record { kind = eqb-true rcnm 100 (ensure_ok _ _ _ kind_e); prim = ensure_ok _ _ _ listed_e; ruin = ruin_e }))))))))))
 
 -- a feature's change, from its parts
-pub feature_made : (base : Bool) (n : ℕ) (s : Subfields) (sound : AreSound s) (head : FeatureHead) (foid : Option Foid) (attrs : List Attr) (related_edit : Option Control) (related : List Related) (pointer_edit : Option Control) (pointers : List Pointer) → IsFeatureHead base n s head → foid_of head.ruin n s ≡ Ok foid → unless_deleted head.ruin (s.attrs (codes "ATTF")) ≡ Ok attrs → IsEdit related_edit → IsEdit pointer_edit → unless_deleted head.ruin (s.pointers (codes "FSPT")) ≡ Ok pointers → IsChange (feature_change head foid attrs related_edit related pointer_edit pointers)
-feature_made base n s sound head foid attrs related_edit related pointer_edit pointers is foid_e attrs_e related_edit_e pointer_edit_e pointers_e = record {
+pub feature_made : (base : Bool) (n : ℕ) (s : Subfields) (limits : AreWithinLimits s) (head : FeatureHead) (foid : Option Foid) (attrs : List Attr) (related_edit : Option Control) (related : List Related) (pointer_edit : Option Control) (pointers : List Pointer) → IsFeatureHead base n s head → foid_of head.ruin n s ≡ Ok foid → unless_deleted head.ruin (s.attrs (codes "ATTF")) ≡ Ok attrs → IsEdit related_edit → IsEdit pointer_edit → unless_deleted head.ruin (s.pointers (codes "FSPT")) ≡ Ok pointers → IsChange (feature_change head foid attrs related_edit related pointer_edit pointers)
+feature_made base n s limits head foid attrs related_edit related pointer_edit pointers is foid_e attrs_e related_edit_e pointer_edit_e pointers_e = record {
   target = inr is.kind;
   ruin = ruin_is base n s (codes "FRID") head.ruin is.ruin;
   pointer_edit = pointer_edit_e;
   coord_edit = tt;
   related_edit = related_edit_e;
-  attrs = kept (λ xs. All (λ attr. IsPlainText attr.value) xs) head.ruin (s.attrs (codes "ATTF")) attrs (All-nil _) (sound.attrs (codes "ATTF")) attrs_e;
+  attrs = kept (λ xs. All (λ attr. IsPlainText attr.value) xs) head.ruin (s.attrs (codes "ATTF")) attrs (All-nil _) (limits.attrs (codes "ATTF")) attrs_e;
   coords = record { each = All-nil _; alike = inl (All-nil _) };
   vector = λ other. absurd (vector_differs head.target.rcnm is.kind other);
   feature = λ _. record {
     coord_edit = refl;
     coords = refl;
-    topi = kept (λ xs. All (λ pointer. pointer.topi ≡ 255) xs) head.ruin (s.pointers (codes "FSPT")) pointers (All-nil _) sound.topi pointers_e;
+    topi = kept (λ xs. All (λ pointer. pointer.topi ≡ 255) xs) head.ruin (s.pointers (codes "FSPT")) pointers (All-nil _) limits.topi pointers_e;
   };
   insert = λ _ one. record { prim = prim_is base n s head.prim head.ruin is.prim is.ruin one; foid = foid_some head.ruin n s foid foid_e one };
 }
 
-pub feature_is_change : (base : Bool) (n : ℕ) (s : Subfields) (change : Change) → AreSound s → feature_of base n s ≡ Ok change → IsChange change
+pub feature_is_change : (base : Bool) (n : ℕ) (s : Subfields) (change : Change) → AreWithinLimits s → feature_of base n s ≡ Ok change → IsChange change
 unfolding feature_of
-feature_is_change base n s change sound e =
+feature_is_change base n s change limits e =
     bind_then (feature_head base n s) _ change e (λ head head_e after_head.
     bind_then (foid_of head.ruin n s) _ change after_head (λ foid foid_e after_foid.
     bind_then (unless_deleted head.ruin (s.attrs (codes "ATTF"))) _ change after_foid (λ attrs attrs_e after_attrs.
@@ -267,7 +267,7 @@ feature_is_change base n s change sound e =
     bind_then (unless_deleted head.ruin (s.related (codes "FFPT"))) _ change after_related_edit (λ related related_e after_related.
     bind_then (edit_of base head.ruin n s (codes "FSPC") (codes "FSUI") (codes "FSIX") (codes "NSPT")) _ change after_related (λ pointer_edit pointer_edit_e after_pointer_edit.
     bind_then (unless_deleted head.ruin (s.pointers (codes "FSPT"))) _ change after_pointer_edit (λ pointers pointers_e made.
-    subst IsChange (ok_is _ change made) (feature_made base n s sound head foid attrs related_edit related pointer_edit pointers (feature_head_is base n s head head_e) foid_e attrs_e (edit_is base head.ruin n s _ _ _ _ related_edit related_edit_e) (edit_is base head.ruin n s _ _ _ _ pointer_edit pointer_edit_e) pointers_e))))))))
+    subst IsChange (ok_is _ change made) (feature_made base n s limits head foid attrs related_edit related pointer_edit pointers (feature_head_is base n s head head_e) foid_e attrs_e (edit_is base head.ruin n s _ _ _ _ related_edit related_edit_e) (edit_is base head.ruin n s _ _ _ _ pointer_edit pointer_edit_e) pointers_e))))))))
 
 -- ---- a base file's records
 

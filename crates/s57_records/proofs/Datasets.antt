@@ -16,7 +16,7 @@ use Rattle.s57_subfields.specs.Number.{ONE_BYTE, TWO_BYTES}
 use Rattle.s57_records.specs.Rows.{ensure, reads_as, checked_edition, general_of, checked_structure, scale_of, vector_of, feature_of}
 use Rattle.s57_records.specs.Dataset.{Kind, general, parameters, vector, feature, other, kind_of, Said, change_is, scale_is, nothing, said_by, looked_at, all_of, change_in, scale_among, header_with, cancels, dataset_after, dataset_of}
 use Rattle.s57_records.proofs.AnswerLemmas.{bind_then, ensure_ok, ok_is}
-use Rattle.s57_records.proofs.Changes.{AreSound, HasKeys, vector_is_plain, feature_is_plain}
+use Rattle.s57_records.proofs.Changes.{AreWithinLimits, HasKeys, vector_is_plain, feature_is_plain}
 
 -- ---- general information
 
@@ -58,13 +58,13 @@ general_from s g e =
     })))))))))
 
 pub general_is :
-    (s : Subfields) (g : General) → AreSound s → IsKey g.key → general_of s ≡ Ok g → IsGeneral g
-general_is s g sound keyed e =
+    (s : Subfields) (g : General) → AreWithinLimits s → IsKey g.key → general_of s ≡ Ok g → IsGeneral g
+general_is s g limits keyed e =
     let from = general_from s g e in
     record {
       key = keyed;
-      edition = sound.digits _ _ g.edition from.edition;
-      update = sound.digits _ _ g.update from.update;
+      edition = limits.digits _ _ g.edition from.edition;
+      update = limits.digits _ _ g.update from.update;
       base = from.base;
     }
 
@@ -154,12 +154,12 @@ after_is_dataset g first rest value is e =
     ]
 
 pub dataset_is :
-    (records : List Subfields) (value : DatasetValue) → AllByRecursion AreSound records → AllByRecursion HasKeys records →
+    (records : List Subfields) (value : DatasetValue) → AllByRecursion AreWithinLimits records → AllByRecursion HasKeys records →
     dataset_of records ≡ Ok value → IsDataset value
 unfolding dataset_of
-dataset_is [] value sound keyed e = absurd cc
-dataset_is (first ∷ rest) value sound keyed e =
+dataset_is [] value limits keyed e = absurd cc
+dataset_is (first ∷ rest) value limits keyed e =
     elim (chosen (first.has (codes "DSID")) (general_of first >>= λ g. dataset_after g first rest) (Err NoGeneral) (Ok value) e) [
-      | inl h ↦ bind_then (general_of first) _ value h.1 (λ g g_e after_g. after_is_dataset g first rest value (general_is first g sound.0 (keyed.0 _ _ g.key (general_from first g g_e).key) g_e) after_g)
+      | inl h ↦ bind_then (general_of first) _ value h.1 (λ g g_e after_g. after_is_dataset g first rest value (general_is first g limits.0 (keyed.0 _ _ g.key (general_from first g g_e).key) g_e) after_g)
       | inr h ↦ absurd (let none = h.1 in cc)
     ]

@@ -25,7 +25,7 @@ use Rattle.s57_records.specs.Resolved.{Descriptors}
 use Rattle.iso8211_records.specs.declared.record.RawField.{RawField}
 use Rattle.s57_records.specs.Rows.{general_of}
 use Rattle.s57_records.proofs.AnswerLemmas.{bind_then, ok_is}
-use Rattle.s57_records.proofs.Sound.{subfields_sound}
+use Rattle.s57_records.proofs.WithinLimits.{subfields_within}
 use Rattle.s57_records.proofs.Datasets.{IsGeneral, general_is, dataset_made, cancelled, base_plain}
 
 first_of : Option ℕ → List ℕ → Option ℕ
@@ -171,7 +171,7 @@ gathered_same g first rest =
 
 reading_general : (r : DataRecord) (g : General) → IsKey g.key → general_of (reading r) ≡ Ok g → IsGeneral g
 reading_general r g keyed e =
-    general_is (reading r) g (subfields_sound (layout_at r.rows.now) r.number r.fields.now) keyed e
+    general_is (reading r) g (subfields_within (layout_at r.rows.now) r.number r.fields.now) keyed e
 
 pub cancelled_from : (r : DataRecord) (g : General) → IsKey g.key → general_of (reading r) ≡ Ok g → cancels g ≡ true → IsDataset (record { header = header_with g 0; base = false; cancels = true; changes = [] })
 cancelled_from r g keyed e cancel = cancelled g (reading_general r g keyed e) cancel

@@ -3,6 +3,6 @@ pub mod Changes
 pub mod Datasets
 mod KeptChanges
 mod Examples
-pub mod Sound
+pub mod WithinLimits
 pub mod Made
 pub mod Gathering

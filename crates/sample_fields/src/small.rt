@@ -415,23 +415,29 @@ fn reads_all_records_again(rt: HostRuntime) -> Result<(), Fail> {
     Ok(())
 }
 
-const SOUND: &[Field<'static>] = &[(TEST, b"\x01\x1e")];
+const READABLE: &[Field<'static>] = &[(TEST, b"\x01\x1e")];
 
 const UNREADABLE: &[Field<'static>] = &[(TEST, b"\x01\x02\x1e")];
 
 const OPEN: &[Field<'static>] = &[(TEST, b"\x01")];
 
 /// Three records, and how many records the file has or its first fault. The data descriptive record has 58 bytes, and a
-/// sound data record 35.
+/// data record 35 without a fault.
 static RECORDS: [([&[Field<'static>]; 3], Result<usize, FileFault>); 5] = [
-    ([SOUND, SOUND, SOUND], Ok(3)),
+    ([READABLE, READABLE, READABLE], Ok(3)),
     (
-        [SOUND, SOUND, UNREADABLE],
+        [READABLE, READABLE, UNREADABLE],
         Err(FileFault::Subfield(3, TEST)),
     ),
-    ([SOUND, UNREADABLE, OPEN], Err(FileFault::Subfield(2, TEST))),
-    ([OPEN, UNREADABLE, SOUND], Err(FileFault::Terminator(82))),
-    ([SOUND, OPEN, UNREADABLE], Err(FileFault::Terminator(117))),
+    (
+        [READABLE, UNREADABLE, OPEN],
+        Err(FileFault::Subfield(2, TEST)),
+    ),
+    ([OPEN, UNREADABLE, READABLE], Err(FileFault::Terminator(82))),
+    (
+        [READABLE, OPEN, UNREADABLE],
+        Err(FileFault::Terminator(117)),
+    ),
 ];
 
 /// How many records a file of these has, or its first fault.

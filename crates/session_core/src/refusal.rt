@@ -74,6 +74,13 @@ fn store_code(refusal: &StoreRefusal) -> u8
     }
 }
 
+/// Two numbers, parted by a single space.
+fn join_pair(alloc: Global, first: u64, second: u64) -> Result<Octets, AllocError>
+    ensures { IfOk result (λ values. values ≡ join_with_byte 32 (numbers (first ∷ second ∷ []))) }
+{
+    join(alloc, &[Value::Number(first), Value::Number(second)])
+}
+
 /// The name of a record and two numbers, parted by single spaces.
 fn join_named(alloc: Global, name: Name, first: u64, second: u64) -> Result<Octets, AllocError>
     ensures { IfOk result (λ values. values
@@ -131,18 +138,8 @@ fn store_values(alloc: Global, refusal: &StoreRefusal) -> Result<Octets, AllocEr
                 Value::Number(*update as u64),
             ],
         ),
-        StoreRefusal::Edition { held, given } => {
-            join(
-                alloc,
-                &[Value::Number(*held as u64), Value::Number(*given as u64)],
-            )
-        }
-        StoreRefusal::Gap { wanted, given } => {
-            join(
-                alloc,
-                &[Value::Number(*wanted), Value::Number(*given as u64)],
-            )
-        }
+        StoreRefusal::Edition { held, given } => join_pair(alloc, *held as u64, *given as u64),
+        StoreRefusal::Gap { wanted, given } => join_pair(alloc, *wanted, *given as u64),
         StoreRefusal::Present { name }
         | StoreRefusal::Absent { name }
         | StoreRefusal::NoControl { name }
@@ -179,9 +176,7 @@ fn store_values(alloc: Global, refusal: &StoreRefusal) -> Result<Octets, AllocEr
             join(alloc, &[Value::Number(*number)])
         }
         StoreRefusal::CellsFull(cells) => join(alloc, &[Value::Number(*cells as u64)]),
-        StoreRefusal::BankFull { length, need } => {
-            join(alloc, &[Value::Number(*length), Value::Number(*need)])
-        }
+        StoreRefusal::BankFull { length, need } => join_pair(alloc, *length, *need),
     }
 }
 

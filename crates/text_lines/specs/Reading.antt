@@ -10,8 +10,8 @@ module _ {F : Type 0} (fault_at : List (List ℕ) → List ℕ → Option F) whe
   first_fault before (line ∷ rest) = option_or (fault_at before line) (first_fault (before ++ line ∷ []) rest)
 
   -- no line has a fault
-  abbrev pub AreSound : List (List ℕ) → Type 0
-  AreSound before = (front back : List (List ℕ)) (line : List ℕ) →
+  abbrev pub AreFaultless : List (List ℕ) → Type 0
+  AreFaultless before = (front back : List (List ℕ)) (line : List ℕ) →
       before ≡ front ++ line ∷ back → fault_at front line ≡ None
 
   -- a line has the fault, and no line before it has one
@@ -20,5 +20,5 @@ module _ {F : Type 0} (fault_at : List (List ℕ) → List ℕ → Option F) whe
     pub line : List ℕ
     pub rest : List (List ℕ)
     pub whole : all ≡ before ++ line ∷ rest
-    pub sound : AreSound before
+    pub faultless : AreFaultless before
     pub here : fault_at before line ≡ Some fault

@@ -1,7 +1,7 @@
 //! The first fault among lines.
 
 ghost use Rattle.std.specs.Prelude.{◌≡◌, ◌↔◌, List, [], ℕ, Option, Some, None};
-ghost use Rattle.text_lines.specs.Reading.{first_fault, HasFirstFault, AreSound};
+ghost use Rattle.text_lines.specs.Reading.{first_fault, HasFirstFault, AreFaultless};
 
 /// The function that definitions cite gives the fault of a line that has one, where no line before it has one; and none
 /// exactly where no line has a fault.
@@ -9,5 +9,5 @@ pub fn first_faults_are_found<F>()
     ensures fault { (fault_at : List (List ℕ) → List ℕ → Option F) (all : List (List ℕ)) (fault : F) →
         (first_fault fault_at [] all ≡ Some fault) ↔ HasFirstFault fault_at all fault }
     ensures none { (fault_at : List (List ℕ) → List ℕ → Option F) (all : List (List ℕ)) →
-        (first_fault fault_at [] all ≡ None) ↔ AreSound fault_at all }
+        (first_fault fault_at [] all ≡ None) ↔ AreFaultless fault_at all }
 {}

@@ -15,7 +15,7 @@ use Rattle.update_sequence.specs.Reading.{data_set_in}
 use Rattle.update_sequence.specs.Judged.{judged, judged_base, judged_update, is_older}
 use Rattle.update_sequence.specs.Built.{built}
 use Rattle.update_sequence.specs.Rebuilt.{chart_with, chart_after, rebuilt, numbers_of, cancelled, held_with, held_after, held_by}
-use Rattle.update_sequence.specs.Sound.{Follows, IsSoundList, IsFileOf, Leaves}
+use Rattle.update_sequence.specs.Sequence.{Follows, IsUpdateSequence, IsFileOf, Leaves}
 use Rattle.update_sequence.proofs.DataSets.{ok_is}
 
 -- ---- what the effects say of a data set
@@ -98,14 +98,14 @@ module _
     (none : (held_by [] ≡ None) × (rebuilt [] ≡ None))
     (held_more : (files : List (List ℕ)) (file : List ℕ) → held_by (files ++ file ∷ []) ≡ held_after (held_by files) file)
     (chart_more : (files : List (List ℕ)) (file : List ℕ) → rebuilt (files ++ file ∷ []) ≡ chart_after (rebuilt files) file)
-    (sound_first : (key file : List ℕ) → Follows key [] file → IsSoundList key (file ∷ []))
-    (sound_next : (key : List ℕ) (files : List (List ℕ)) (file : List ℕ) → IsSoundList key files → Follows key files file → IsSoundList key (files ++ file ∷ []))
+    (sequence_first : (key file : List ℕ) → Follows key [] file → IsUpdateSequence key (file ∷ []))
+    (sequence_next : (key : List ℕ) (files : List (List ℕ)) (file : List ℕ) → IsUpdateSequence key files → Follows key files file → IsUpdateSequence key (files ++ file ∷ []))
   where
     pub replaced : (key file : List ℕ) (dataset : DatasetValue) (held : Option Held) → IsFileOf key file dataset → judged held dataset ≡ Ok Replace → IsOk (built None dataset)
         → Leaves key (file ∷ []) (Some (numbers_of dataset.header)) (result_ok (built None dataset))
     unfolding judged
     replaced key file dataset held is so builds = record {
-      sound = sound_first key file follows;
+      sequence = sequence_first key file follows;
       numbers = held_more [] file ∙ held-read (held_by []) file dataset is.reads ∙ held-is (held_by []) dataset false stands;
       builds = chart_more [] file ∙ ap (λ (c : Option CellValue). chart_after c file) none.1 ∙ chart-read None file dataset is.reads ∙ chart-is None dataset false stands;
     }
@@ -134,35 +134,35 @@ module _
           builds = λ _. ap is_ok (ap (λ (c : Option CellValue). built c dataset) none.1) ∙ builds;
         }
 
-    -- a file that is no base file, behind a sound list
-    behind : (key : List ℕ) (files : List (List ℕ)) (file : List ℕ) (dataset : DatasetValue) (effect : Effect) → IsSoundList key files → IsFileOf key file dataset → dataset.base ≡ false
+    -- a file that is no base file, behind an update sequence
+    behind : (key : List ℕ) (files : List (List ℕ)) (file : List ℕ) (dataset : DatasetValue) (effect : Effect) → IsUpdateSequence key files → IsFileOf key file dataset → dataset.base ≡ false
         → judged (held_by files) dataset ≡ Ok effect → (dataset.cancels ≡ false → IsOk (built (rebuilt files) dataset)) → Follows key files file
-    behind key files file dataset effect sound is other so builds = record {
+    behind key files file dataset effect sequence is other so builds = record {
       dataset = dataset;
       short = is.short;
       reads = is.reads;
       keyed = is.keyed;
-      first = (λ base. absurd (true≢false (sym base ∙ other)), λ empty. absurd (sound.some empty));
+      first = (λ base. absurd (true≢false (sym base ∙ other)), λ empty. absurd (sequence.some empty));
       accepted = ap is_ok so;
       builds = builds;
     }
 
-    pub extended : (key : List ℕ) (files : List (List ℕ)) (file : List ℕ) (dataset : DatasetValue) → IsSoundList key files → IsFileOf key file dataset → judged (held_by files) dataset ≡ Ok Extend
+    pub extended : (key : List ℕ) (files : List (List ℕ)) (file : List ℕ) (dataset : DatasetValue) → IsUpdateSequence key files → IsFileOf key file dataset → judged (held_by files) dataset ≡ Ok Extend
         → IsOk (built (rebuilt files) dataset) → Leaves key (files ++ file ∷ []) (Some (numbers_of dataset.header)) (result_ok (built (rebuilt files) dataset))
-    extended key files file dataset sound is so builds =
+    extended key files file dataset sequence is so builds =
         let kind = extends (held_by files) dataset so in
         record {
-          sound = sound_next key files file sound (behind key files file dataset Extend sound is kind.0 so (λ _. builds));
+          sequence = sequence_next key files file sequence (behind key files file dataset Extend sequence is kind.0 so (λ _. builds));
           numbers = held_more files file ∙ held-read (held_by files) file dataset is.reads ∙ held-is (held_by files) dataset false kind.1;
           builds = chart_more files file ∙ chart-read (rebuilt files) file dataset is.reads ∙ chart-is (rebuilt files) dataset false kind.1;
         }
 
-    pub cancelled_with : (key : List ℕ) (files : List (List ℕ)) (file : List ℕ) (dataset : DatasetValue) → IsSoundList key files → IsFileOf key file dataset → judged (held_by files) dataset ≡ Ok Cancel
+    pub cancelled_with : (key : List ℕ) (files : List (List ℕ)) (file : List ℕ) (dataset : DatasetValue) → IsUpdateSequence key files → IsFileOf key file dataset → judged (held_by files) dataset ≡ Ok Cancel
         → Leaves key (files ++ file ∷ []) (option_map cancelled (held_by files)) None
-    cancelled_with key files file dataset sound is so =
+    cancelled_with key files file dataset sequence is so =
         let kind = cancels (held_by files) dataset so in
         record {
-          sound = sound_next key files file sound (behind key files file dataset Cancel sound is kind.0 so (λ stands. absurd (true≢false (sym kind.1 ∙ stands))));
+          sequence = sequence_next key files file sequence (behind key files file dataset Cancel sequence is kind.0 so (λ stands. absurd (true≢false (sym kind.1 ∙ stands))));
           numbers = held_more files file ∙ held-read (held_by files) file dataset is.reads ∙ held-is (held_by files) dataset true kind.1;
           builds = chart_more files file ∙ chart-read (rebuilt files) file dataset is.reads ∙ chart-is (rebuilt files) dataset true kind.1;
         }
@@ -170,7 +170,7 @@ module _
 -- the same of files, numbers and a chart that are equal
 pub leaves-as : (key : List ℕ) (files after : List (List ℕ)) (held now : Option Held) (chart left : Option CellValue) → Leaves key files held chart → after ≡ files → now ≡ held → left ≡ chart → Leaves key after now left
 leaves-as key files after held now chart left is files_are held_are chart_are = record {
-  sound = subst (IsSoundList key) (sym files_are) is.sound;
+  sequence = subst (IsUpdateSequence key) (sym files_are) is.sequence;
   numbers = ap held_by files_are ∙ is.numbers ∙ sym held_are;
   builds = ap rebuilt files_are ∙ is.builds ∙ sym chart_are;
 }

@@ -1,4 +1,4 @@
--- What a sound list of files leaves can be held.
+-- What an update sequence leaves can be held.
 use Rattle.std.proofs.Common.{◌≡◌, ◌≢◌, inl, inr, ◌↔◌, ℕ, ◌+◌, ◌≤◌, Bool, true, false, cond, List, [], ◌∷◌, ◌++◌, length, get_or, take, drop, Option, Some, None, Result, Ok, Err, IfSome, All, refl, sym, ◌∙◌, ap, subst, arith}
 use Rattle.std.specs.Option.{option_map, option_and_then}
 use Rattle.std.specs.Result.{IsOk, result_ok}
@@ -17,7 +17,7 @@ use Rattle.update_sequence.specs.declared.fault.ReadFault.{ReadFault}
 use Rattle.update_sequence.specs.Reading.{data_set_in}
 use Rattle.update_sequence.specs.Built.{header_after, built}
 use Rattle.update_sequence.specs.Rebuilt.{chart_with, chart_after, rebuilt, numbers_of, cancelled, held_with, held_after, held_by}
-use Rattle.update_sequence.specs.Sound.{Follows, IsSoundList}
+use Rattle.update_sequence.specs.Sequence.{Follows, IsUpdateSequence}
 use Rattle.update_sequence.proofs.Charts.{begun-header}
 use Rattle.update_sequence.proofs.Lists.{moved}
 use Rattle.update_sequence.proofs.Places.{around_place}
@@ -125,49 +125,49 @@ module _
         subst (λ (n : Option Held). IsLeft key n (rebuilt (before ++ file ∷ []))) (sym (fold-append held_after None before (file ∷ [])))
         (subst (λ (c : Option CellValue). IsLeft key (held_after (held_by before) file) c) (sym (fold-append chart_after None before (file ∷ []))) l)
 
-    all_left : (key : List ℕ) (before rest : List (List ℕ)) → IsSoundList key (before ++ rest) → (before ≢ [] → IsLeft key (held_by before) (rebuilt before)) →
+    all_left : (key : List ℕ) (before rest : List (List ℕ)) → IsUpdateSequence key (before ++ rest) → (before ≢ [] → IsLeft key (held_by before) (rebuilt before)) →
         IsLeft key (held_by (before ++ rest)) (rebuilt (before ++ rest))
-    all_left key before [] sound left =
+    all_left key before [] sequence left =
         let same : before ++ [] ≡ before = append-nil before in
-        subst (λ (l : List (List ℕ)). IsLeft key (held_by l) (rebuilt l)) (sym same) (left (λ none. sound.some (same ∙ none)))
-    all_left key before (file ∷ rest) sound left =
+        subst (λ (l : List (List ℕ)). IsLeft key (held_by l) (rebuilt l)) (sym same) (left (λ none. sequence.some (same ∙ none)))
+    all_left key before (file ∷ rest) sequence left =
         let same = moved before rest file in
         subst (λ (l : List (List ℕ)). IsLeft key (held_by l) (rebuilt l)) same
-        (all_left key (before ++ file ∷ []) rest (subst (λ (l : List (List ℕ)). IsSoundList key l) (sym same) sound) (λ _. next_left key before file (sound.each before rest file refl) left))
+        (all_left key (before ++ file ∷ []) rest (subst (λ (l : List (List ℕ)). IsUpdateSequence key l) (sym same) sequence) (λ _. next_left key before file (sequence.each before rest file refl) left))
 
-    sound_left : (key : List ℕ) (files : List (List ℕ)) → IsSoundList key files → IsLeft key (held_by files) (rebuilt files)
-    sound_left key files sound = all_left key [] files sound (λ some. absurd (some refl))
+    sequence_left : (key : List ℕ) (files : List (List ℕ)) → IsUpdateSequence key files → IsLeft key (held_by files) (rebuilt files)
+    sequence_left key files sequence = all_left key [] files sequence (λ some. absurd (some refl))
 
     -- the key is that of the first file
-    is_key : (key : List ℕ) (files : List (List ℕ)) → IsSoundList key files → IsKey key
-    is_key key [] sound = absurd (sound.some refl)
-    is_key key (file ∷ files) sound =
-        let first = sound.each [] files file refl in
+    is_key : (key : List ℕ) (files : List (List ℕ)) → IsUpdateSequence key files → IsKey key
+    is_key key [] sequence = absurd (sequence.some refl)
+    is_key key (file ∷ files) sequence =
+        let first = sequence.each [] files file refl in
         subst IsKey first.keyed (data_sets file first.dataset first.reads).key
 
     some_file : (files : List (List ℕ)) → files ≢ [] → 1 ≤ length files
     some_file [] some = absurd (some refl)
     some_file (file ∷ files) some = omega arith
 
-    each_short : (key : List ℕ) (files : List (List ℕ)) → IsSoundList key files → All (λ file. IsFileLength (length file)) files
-    each_short key files sound k d below =
-        (sound.each (take k files) (drop (k + 1) files) (get_or files k d) (around_place files k (get_or files k d) below (get_or_default files k d (get_or files k d) below))).short
+    each_short : (key : List ℕ) (files : List (List ℕ)) → IsUpdateSequence key files → All (λ file. IsFileLength (length file)) files
+    each_short key files sequence k d below =
+        (sequence.each (take k files) (drop (k + 1) files) (get_or files k d) (around_place files k (get_or files k d) below (get_or_default files k d (get_or files k d) below))).short
 
-    pub sound-held : (key : List ℕ) (files : List (List ℕ)) → IsSoundList key files →
+    pub sequence-held : (key : List ℕ) (files : List (List ℕ)) → IsUpdateSequence key files →
         (held : Held) × (held_by files ≡ Some held) × IsHolding key (record { held = held; files = files; chart = rebuilt files })
-    sound-held key files sound =
-        let left = sound_left key files sound in (
+    sequence-held key files sequence =
+        let left = sequence_left key files sequence in (
           left.held,
           left.held_is,
           record {
-            keyed = is_key key files sound;
+            keyed = is_key key files sequence;
             held = left.is_held;
-            nonempty = some_file files sound.some;
-            files = each_short key files sound;
+            nonempty = some_file files sequence.some;
+            files = each_short key files sequence;
             cancelled = left.none;
             chart = left.chart;
           },
         )
 
-    pub sound-closed : (key : List ℕ) (files : List (List ℕ)) → IsSoundList key files → IfSome (rebuilt files) IsClosed
-    sound-closed key files sound = (sound_left key files sound).closed
+    pub sequence-closed : (key : List ℕ) (files : List (List ℕ)) → IsUpdateSequence key files → IfSome (rebuilt files) IsClosed
+    sequence-closed key files sequence = (sequence_left key files sequence).closed

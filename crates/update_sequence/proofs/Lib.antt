@@ -5,8 +5,8 @@ mod Places
 mod Folding
 mod Charts
 mod Rebuilding
-mod SoundLists
-mod SoundTests
+mod Sequences
+mod SequenceTests
 pub mod Accepted
 mod Held
 mod OneName

@@ -347,11 +347,11 @@ left-still cell change name local none leaves = by (eq_by_cmp name_cmp name chan
         })
 
 -- a record has no fault, or all changes leave what is under its name
-sound-or-left : (after : CellValue) (changes : List Change) → have_no_closure_fault after changes ≡ true →
+faultless-or-left : (after : CellValue) (changes : List Change) → have_no_closure_fault after changes ≡ true →
     (name : Name) → IsNone (fault_at after name) ⊎ AllByRecursion (Leaves name) changes
-sound-or-left after [] sound name = inr tt
-sound-or-left after (change ∷ rest) sound name =
-    by (asks_closure change) refl sound (λ sound. sound-or-left after rest sound name)
+faultless-or-left after [] faultless name = inr tt
+faultless-or-left after (change ∷ rest) faultless name =
+    by (asks_closure change) refl faultless (λ faultless. faultless-or-left after rest faultless name)
   where
     tell : Name → Bool
     tell name = is_none (fault_at after name)
@@ -372,10 +372,10 @@ sound-or-left after (change ∷ rest) sound name =
         list_all tell (cons_option (when b change.target) (filter_map asked_target rest)) ≡ true →
         (have_no_closure_fault after rest ≡ true → IsNone (fault_at after name) ⊎ AllByRecursion (Leaves name) rest) →
         IsNone (fault_at after name) ⊎ AllByRecursion (Leaves name) (change ∷ rest)
-    by true asks sound later =
-        let parts = and_parts (tell change.target) (have_no_closure_fault after rest) sound in
+    by true asks faultless later =
+        let parts = and_parts (tell change.target) (have_no_closure_fault after rest) faultless in
         looked (eq_by_cmp name_cmp name change.target) refl parts.0 (later parts.1)
-    by false asks sound later = left (inr asks) (later sound)
+    by false asks faultless later = left (inr asks) (later faultless)
 
 both : {A : Type 0} (P Q : A → Type 0) (xs : List A) → AllByRecursion P xs → AllByRecursion Q xs →
     AllByRecursion (λ x. P x × Q x) xs
@@ -388,12 +388,12 @@ pub stays-closed : ((before after : CellValue) → IsClosed before → KeepsReco
     (chart after : CellValue) (header : Header) (changes : List Change) → IsClosed chart →
     folded (begun (Some chart) header) changes ≡ Ok after → are_local changes ≡ true →
     have_no_closure_fault after changes ≡ true → IsClosed after
-stays-closed law chart after header changes closed made local sound =
-    law chart after closed (keeps-all chart after header changes local made) (λ name. sound-or-still name)
+stays-closed law chart after header changes closed made local faultless =
+    law chart after closed (keeps-all chart after header changes local made) (λ name. faultless-or-still name)
   where
-    sound-or-still : (name : Name) → IsNone (fault_at after name) ⊎ StandsAsBefore chart after name
-    sound-or-still name =
-        elim (sound-or-left after changes sound name) [
+    faultless-or-still : (name : Name) → IsNone (fault_at after name) ⊎ StandsAsBefore chart after name
+    faultless-or-still name =
+        elim (faultless-or-left after changes faultless name) [
           | inl none ↦ inl none
           | inr left ↦ inr (folded-keeps (λ cell. StandsAsBefore chart cell name)
               (λ change. (is_local change ≡ true) × Leaves name change)

@@ -15,7 +15,7 @@ use Rattle.update_sequence.specs.Reading.{data_set_in, tags_read}
 use Rattle.chart_model.specs.Answers.{unless, ◌>>=◌}
 use Rattle.update_sequence.specs.Built.{begun, folded, built}
 use Rattle.update_sequence.specs.Rebuilt.{chart_with, chart_after, rebuilt, data_records_of}
-use Rattle.update_sequence.specs.Sound.{IsSoundList}
+use Rattle.update_sequence.specs.Sequence.{IsUpdateSequence}
 use Rattle.update_sequence.proofs.Places.{around_place}
 
 -- what the last change leaves, by its fault of closure
@@ -53,11 +53,11 @@ data_records-within files i file h e =
 ok_is : {A E : Type 0} {x y : A} → ◌≡◌ {A = Result A E} (Ok x) (Ok y) → x ≡ y
 ok_is e = cc
 
--- the data set at a place of a sound list builds on the chart of the files before it
-pub builds-next : (key : List ℕ) (files : List (List ℕ)) → IsSoundList key files → (i : ℕ) (file : List ℕ) → i < length files → file ≡ get_or files i file →
+-- the data set at a place of an update sequence builds on the chart of the files before it
+pub builds-next : (key : List ℕ) (files : List (List ℕ)) → IsUpdateSequence key files → (i : ℕ) (file : List ℕ) → i < length files → file ≡ get_or files i file →
     (dataset : DatasetValue) → data_set_in file ≡ Ok dataset → dataset.cancels ≡ false → IsOk (built (rebuilt (take i files)) dataset)
-builds-next key files sound i file h e dataset reads stands =
-    let f = sound.each (take i files) (drop (i + 1) files) file (around_place files i file h e) in
+builds-next key files sequence i file h e dataset reads stands =
+    let f = sequence.each (take i files) (drop (i + 1) files) file (around_place files i file h e) in
     let same : f.dataset ≡ dataset = ok_is (sym f.reads ∙ reads) in
     let P : DatasetValue → Type 0 = λ d. IsOk (built (rebuilt (take i files)) d) in
     subst P same (f.builds (ap (λ (d : DatasetValue). d.cancels) same ∙ stands))

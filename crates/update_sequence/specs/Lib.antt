@@ -3,6 +3,6 @@ pub mod Reading
 pub mod Judged
 pub mod Built
 pub mod Rebuilt
-pub mod Sound
+pub mod Sequence
 pub mod Extended
 pub mod Others

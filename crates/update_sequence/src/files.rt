@@ -3,7 +3,7 @@
 ghost use Rattle.std.specs.Prelude.{◌≡◌, ◌+◌, ◌≤◌, false, List, ℕ, IfOk, OnOk, IsOk};
 ghost use Rattle.update_sequence.specs.Built.{built};
 ghost use Rattle.update_sequence.specs.Rebuilt.{chart_with, rebuilt, data_records_of};
-ghost use Rattle.update_sequence.specs.Sound.{IsSoundList};
+ghost use Rattle.update_sequence.specs.Sequence.{IsUpdateSequence};
 
 use crate::chart::{begin, make_all_owned};
 use crate::read::read_data_set;
@@ -31,14 +31,14 @@ fn follow(alloc: Global, chart: Option<Cell>, dataset: Dataset) -> Result<Option
 /// The chart that whole files build, one after the other from nothing; `None` where the last one
 /// cancels the cell. Each data record of the files is a step.
 ///
-/// The list is sound: its first file is a base file, the others are updates of that cell, and each was
+/// The list is an update sequence: its first file is a base file, the others are updates of that cell, and each was
 /// taken over after those before it. So only memory can be wanting.
 pub fn rebuild<C: Ledger>(
     alloc: Global,
     files: &FileList,
     steps: &mut Steps<C>,
 ) -> Result<Option<Cell>, AllocError>
-    requires { (key : List ℕ) × IsSoundList key files.now }
+    requires { (key : List ℕ) × IsUpdateSequence key files.now }
     ensures chart { IfOk result (λ chart. chart ≡ rebuilt files.now) }
     ensures counted { OnOk result (steps.new ≡ steps.old + data_records_of files.now) }
     ensures at_most { steps.new ≤ steps.old + data_records_of files.now }

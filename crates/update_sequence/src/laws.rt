@@ -21,7 +21,7 @@ ghost use Rattle.update_sequence.specs.Built.{built, folded, folded_after, heade
 ghost use Rattle.update_sequence.specs.Judged.{judged};
 ghost use Rattle.update_sequence.specs.declared.effect.Effect.TheVariants.{Replace, Extend, Cancel};
 ghost use Rattle.update_sequence.specs.Rebuilt.{chart_after, held_after, held_by, rebuilt, numbers_of, cancelled};
-ghost use Rattle.update_sequence.specs.Sound.{Follows, IsSoundList, IsFileOf, Leaves, is_sound};
+ghost use Rattle.update_sequence.specs.Sequence.{Follows, IsUpdateSequence, IsFileOf, Leaves, is_update_sequence};
 
 use chart_closure::first_is_least;
 use s57_records::{changes_are_kept, data_sets_are_kept};
@@ -75,46 +75,46 @@ pub fn one_file_more()
         ≡ chart_after (rebuilt files) file }
 {}
 
-/// A base file that may come first is a sound list, and so is a sound list with a file that may follow.
-/// Each sound list begins with sound lists.
-pub fn sound_lists_grow()
-    ensures first { (key file : List ℕ) → Follows key [] file → IsSoundList key (file ∷ []) }
-    ensures next { (key : List ℕ) (files : List (List ℕ)) (file : List ℕ) → IsSoundList key files →
-        Follows key files file → IsSoundList key (files ++ file ∷ []) }
-    ensures before { (key : List ℕ) (files rest : List (List ℕ)) → files ≢ [] → IsSoundList key (files ++ rest) →
-        IsSoundList key files }
+/// A base file that may come first is an update sequence, and so is an update sequence with a file that may follow.
+/// Each update sequence begins with update sequences.
+pub fn sequences_grow()
+    ensures first { (key file : List ℕ) → Follows key [] file → IsUpdateSequence key (file ∷ []) }
+    ensures next { (key : List ℕ) (files : List (List ℕ)) (file : List ℕ) → IsUpdateSequence key files →
+        Follows key files file → IsUpdateSequence key (files ++ file ∷ []) }
+    ensures before { (key : List ℕ) (files rest : List (List ℕ)) → files ≢ [] → IsUpdateSequence key (files ++ rest) →
+        IsUpdateSequence key files }
 {}
 
-/// What the test of lists says is whether they are sound.
-pub fn sound_lists_are_tested()
-    ensures { (key : List ℕ) (files : List (List ℕ)) → (is_sound key files ≡ true) ↔ IsSoundList key files }
+/// What the test of lists says is whether they are update sequences.
+pub fn sequences_are_tested()
+    ensures { (key : List ℕ) (files : List (List ℕ)) → (is_update_sequence key files ≡ true) ↔ IsUpdateSequence key files }
 {}
 
 /// What is live once a file is taken over: a base file stands alone, any other follows those before it.
-/// The files are a sound list, and what they leave is the held numbers and the chart of the file's effect.
+/// The files are an update sequence, and what they leave is the held numbers and the chart of the file's effect.
 pub fn accepted_files_follow()
     ensures replaces { (key file : List ℕ) (dataset : DatasetValue) (held : Option Held) → IsFileOf key file dataset →
         judged held dataset ≡ Ok Replace → IsOk (built None dataset) →
         Leaves key (file ∷ []) (Some (numbers_of dataset.header)) (result_ok (built None dataset)) }
     ensures extends { (key : List ℕ) (files : List (List ℕ)) (file : List ℕ) (dataset : DatasetValue) →
-        IsSoundList key files → IsFileOf key file dataset →
+        IsUpdateSequence key files → IsFileOf key file dataset →
         judged (held_by files) dataset ≡ Ok Extend → IsOk (built (rebuilt files) dataset) →
         Leaves key (files ++ file ∷ []) (Some (numbers_of dataset.header)) (result_ok (built (rebuilt files) dataset)) }
     ensures cancels { (key : List ℕ) (files : List (List ℕ)) (file : List ℕ) (dataset : DatasetValue) →
-        IsSoundList key files → IsFileOf key file dataset →
+        IsUpdateSequence key files → IsFileOf key file dataset →
         judged (held_by files) dataset ≡ Ok Cancel → Leaves key (files ++ file ∷ []) (option_map cancelled (held_by files)) None }
 {
     files_are_data_sets();
     one_file_more();
-    sound_lists_grow();
+    sequences_grow();
 }
 
-/// A sound list of files, the numbers that it leaves and the chart that it builds can be held under its
+/// An update sequence, the numbers that it leaves and the chart that it builds can be held under its
 /// key, and the chart is closed.
-pub fn sound_lists_are_held()
-    ensures held { (key : List ℕ) (files : List (List ℕ)) → IsSoundList key files →
+pub fn sequences_are_held()
+    ensures held { (key : List ℕ) (files : List (List ℕ)) → IsUpdateSequence key files →
         (held : Held) × (held_by files ≡ Some held) × IsHolding key (record { held = held; files = files; chart = rebuilt files }) }
-    ensures closed { (key : List ℕ) (files : List (List ℕ)) → IsSoundList key files → IfSome (rebuilt files) IsClosed }
+    ensures closed { (key : List ℕ) (files : List (List ℕ)) → IsUpdateSequence key files → IfSome (rebuilt files) IsClosed }
 {
     files_are_data_sets();
     charts_are_closed();

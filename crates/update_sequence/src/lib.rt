@@ -22,6 +22,6 @@ pub use files::rebuild;
 pub use laws::{
     accepted_files_follow, changes_are_made_in_turn, charts_are_cells, charts_are_closed,
     files_are_data_sets, headers_follow, named_records_differ, one_file_more, other_records_stay,
-    sound_lists_are_held, sound_lists_are_tested, sound_lists_grow,
+    sequences_are_held, sequences_are_tested, sequences_grow,
 };
 pub use read::read_data_set;

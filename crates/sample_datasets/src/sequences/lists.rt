@@ -3,7 +3,7 @@
 ghost use Rattle.std.specs.Prelude.{◌≡◌, ◌<◌, length, Some, IfOk, IsTrue};
 ghost use Rattle.chart_model.specs.State.{IsFileLength};
 ghost use Rattle.update_sequence.specs.Rebuilt.{numbers_of};
-ghost use Rattle.update_sequence.specs.Sound.{Leaves};
+ghost use Rattle.update_sequence.specs.Sequence.{Leaves};
 
 use super::charts::{Seen, seen};
 use super::files::{BASE, CANCELLING, GENERAL, MOVED, NEXT, POINTING, SECOND, file_of};

@@ -1,5 +1,5 @@
-use Rattle.bank_journal.proofs.Readings.{given, given_fault, reading_tells, fault_tells, either, never_both}
-use Rattle.bank_journal.proofs.Readings.{one_reading, one_fault}
+use Rattle.bank_journal.proofs.BankRead.{given, given_fault, reading_tells, fault_tells, either, never_both}
+use Rattle.bank_journal.proofs.BankRead.{one_reading, one_fault}
 use Rattle.bank_journal.proofs.laws.banks_are_read.Goals as goal
 
 pub returns-clause-reading : goal.returns-clause-reading

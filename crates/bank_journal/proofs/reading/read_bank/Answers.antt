@@ -1,5 +1,5 @@
 use Rattle.std.proofs.lemmas.Result.{err_from_is_err_and}
-use Rattle.bank_journal.proofs.Readings.{foreign_header}
+use Rattle.bank_journal.proofs.BankRead.{foreign_header}
 use Rattle.bank_journal.proofs.Walk.{bank_read, bank_foreign}
 use Rattle.bank_journal.proofs.reading.read_bank.Goals as goal
 

@@ -1,4 +1,4 @@
-use Rattle.cell_bytes.proofs.SoundFields.{feature_read, general_read, parameters_read, vector_read}
+use Rattle.cell_bytes.proofs.FieldsRead.{feature_read, general_read, parameters_read, vector_read}
 use Rattle.cell_bytes.proofs.laws.records_are_read.Goals as goal
 
 pub returns : goal.returns

@@ -1,6 +1,6 @@
 use Rattle.std.proofs.Common.{sym, ◌∙◌, ap}
 use Rattle.chart_closure.specs.Closed.{absent_target}
-use Rattle.chart_closure.proofs.Faults.{feature_dangling, feature_wrong, feature_open, feature_sound}
+use Rattle.chart_closure.proofs.Faults.{feature_dangling, feature_wrong, feature_open, feature_faultless}
 use Rattle.chart_closure.proofs.closure.check_feature.Goals as goal
 
 pub returns-in-Some : goal.returns-in-Some
@@ -26,4 +26,4 @@ returns c =
     let present = ap (absent_target c.args.cell.now) (sym c.as_slice-pointers.ensures) ∙ sym c.in_default.ensures in
     let right = rw c.as_slice-pointers.ensures at (sym c.feature_pointers_fit.ensures ∙ c.if-not-feature_pointers_fit.false) in
     let drawn = sym c.lacks_rings.ensures ∙ c.if-lacks_rings.false in
-    sym (feature_sound c.args.cell.now c.args.name c.args.feature.now present right drawn)
+    sym (feature_faultless c.args.cell.now c.args.name c.args.feature.now present right drawn)

@@ -1,6 +1,6 @@
 use Rattle.std.proofs.Common.{sym, ◌∙◌, ap}
 use Rattle.chart_closure.specs.Closed.{absent_target}
-use Rattle.chart_closure.proofs.Faults.{vector_dangling, vector_wrong, vector_nodes, vector_sound}
+use Rattle.chart_closure.proofs.Faults.{vector_dangling, vector_wrong, vector_nodes, vector_faultless}
 use Rattle.chart_closure.proofs.closure.check_vector.Goals as goal
 
 pub returns-in-Some : goal.returns-in-Some
@@ -26,4 +26,4 @@ returns c =
     let present = ap (absent_target c.args.cell.now) (sym c.as_slice-pointers.ensures) ∙ sym c.in_default.ensures in
     let right = rw c.as_slice-pointers.ensures at (sym c.vector_pointers_fit.ensures ∙ c.if-not-vector_pointers_fit.false) in
     let drawn = sym c.lacks_line.ensures ∙ c.if-lacks_line.false in
-    sym (vector_sound c.args.cell.now c.args.name c.args.vector.now present right drawn)
+    sym (vector_faultless c.args.cell.now c.args.name c.args.vector.now present right drawn)

@@ -1,5 +1,5 @@
 use Rattle.chart_store.proofs.Loading.{Laws}
-use Rattle.chart_store.proofs.Keeping.{Sounds}
+use Rattle.chart_store.proofs.Keeping.{Sequences}
 use Rattle.chart_store.proofs.Placing.{Holds}
 use Rattle.chart_store.proofs.Commanding.{after-live, state_with-live, charts-live}
 use Rattle.chart_store.proofs.laws.commands_leave_what_is_held.Goals as goal
@@ -7,16 +7,16 @@ use Rattle.chart_store.proofs.laws.commands_leave_what_is_held.Goals as goal
 pub returns : goal.returns
 returns c =
     let laws : Laws = record { none = c.one_file_more.ensures.none; follow = c.accepted_files_follow.ensures } in
-    let sounds : Sounds = record {
-      tested = c.sound_lists_are_tested.ensures;
-      before = c.sound_lists_grow.ensures.before;
+    let sequences : Sequences = record {
+      tested = c.sequences_are_tested.ensures;
+      before = c.sequences_grow.ensures.before;
     } in
     let holds : Holds = record {
-      held = c.sound_lists_are_held.ensures.held;
-      closed = c.sound_lists_are_held.ensures.closed;
+      held = c.sequences_are_held.ensures.held;
+      closed = c.sequences_are_held.ensures.closed;
     } in
     record {
-      live = after-live laws sounds holds;
-      more = state_with-live laws sounds holds;
+      live = after-live laws sequences holds;
+      more = state_with-live laws sequences holds;
       charts = charts-live laws;
     }

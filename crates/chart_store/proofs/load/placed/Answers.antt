@@ -13,8 +13,8 @@ made_by-requires c =
     let keyed = c.key_of-key.ensures in
     let found = chart-found c.args.live.now.cells _ _ _ _ _ c.chart_of-before.ensures c.get.ensures c.cells.ensures.cells keyed in
     let holds : Holds = record {
-      held = c.sound_lists_are_held.ensures.held;
-      closed = c.sound_lists_are_held.ensures.closed;
+      held = c.sequences_are_held.ensures.held;
+      closed = c.sequences_are_held.ensures.closed;
     } in
     subst (λ (chart : Option CellValue). MayBuild chart c.args.effect c.args.dataset) (sym found)
     (may-build holds c.args.dataset.header.key (map.get c.args.live.now.cells c.args.dataset.header.key)

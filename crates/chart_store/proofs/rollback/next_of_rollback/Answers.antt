@@ -1,4 +1,4 @@
--- The files of a cell that is held are sound, and what is kept of them is what a rollback keeps.
+-- The files of a cell that is held are an update sequence, and what is kept of them is what a rollback keeps.
 use Rattle.std.proofs.Common.{◌≡◌, Option, Some, IfSome, sym, ◌∙◌, ap, subst}
 use Rattle.std.specs.FinMap as map
 use Rattle.chart_model.specs.declared.state.Holding.{Holding}
@@ -16,7 +16,7 @@ next_with-requires-clause-kept g c =
     = subst (λ (o : Option Holding). IfSome o (IsLive c.args.key)) (sym c.in-Some.ensures) (c.cells.ensures.live c.args.key) in (
       c.args.number,
       subst (λ (o : Option KeptFiles). IfSome o (λ kept. kept_by c.args.key c.args.number c.in-Some.here.now.files ≡ Some kept.files))
-          c.in-Some-2.is (c.in_ok-kept.ensures.kept c.args.key live.sound),
+          c.in-Some-2.is (c.in_ok-kept.ensures.kept c.args.key live.sequence),
     )
 
 pub next_with-requires-clause-held : goal.next_with-requires-clause-held
@@ -24,16 +24,16 @@ next_with-requires-clause-held g c =
     let live : IsLive c.args.key c.in-Some.here.now
     = subst (λ (o : Option Holding). IfSome o (IsLive c.args.key)) (sym c.in-Some.ensures) (c.cells.ensures.live c.args.key) in
     subst (λ (o : Option KeptFiles). IfSome o (λ kept. held_by kept.files ≡ Some kept.held)) c.in-Some-2.is
-    (c.in_ok-kept.ensures.held c.args.key live.sound)
+    (c.in_ok-kept.ensures.held c.args.key live.sequence)
 
 pub returns-clause-after : goal.returns-clause-after
 returns-clause-after g c =
     let live : IsLive c.args.key c.in-Some.here.now
     = subst (λ (o : Option Holding). IfSome o (IsLive c.args.key)) (sym c.in-Some.ensures) (c.cells.ensures.live c.args.key) in
     let keeps = subst (λ (o : Option KeptFiles). IfSome o (λ kept. kept_by c.args.key c.args.number c.in-Some.here.now.files
-    ≡ Some kept.files)) c.in-Some-2.is (c.in_ok-kept.ensures.kept c.args.key live.sound) in
+    ≡ Some kept.files)) c.in-Some-2.is (c.in_ok-kept.ensures.kept c.args.key live.sequence) in
     let numbers = subst (λ (o : Option KeptFiles). IfSome o (λ kept. held_by kept.files ≡ Some kept.held)) c.in-Some-2.is
-    (c.in_ok-kept.ensures.held c.args.key live.sound) in
+    (c.in_ok-kept.ensures.held c.args.key live.sequence) in
     rolled-by c.args.live.now c.args.key c.args.number c.in-Some.here.now c.in-Some-2.kept.files c.in-Some-2.kept.held
     c.in_ok-next_with.field-0
     (sym (c.in-Some.ensures ∙ ap (λ (m : HoldingsByKey). map.get m c.args.key) c.cells.ensures.cells)) keeps numbers

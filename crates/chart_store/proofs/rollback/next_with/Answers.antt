@@ -8,7 +8,7 @@ use Rattle.chart_store.proofs.rollback.next_with.Goals as goal
 pub rebuild-requires : goal.rebuild-requires
 rebuild-requires g c =
     let b = kept-begins c.args.key c.requires.kept.0 c.args.here.now.files c.args.kept.files c.requires.kept.1 in
-    (c.args.key, (c.sound_lists_are_tested.ensures c.args.key c.args.kept.files).0 b.sound)
+    (c.args.key, (c.sequences_are_tested.ensures c.args.key c.args.kept.files).0 b.sequence)
 
 pub returns-in_err-chart-clause-at_most : goal.returns-in_err-chart-clause-at_most
 returns-in_err-chart-clause-at_most g c =
@@ -67,7 +67,7 @@ returns-clause-stands g c =
     let b = kept-begins c.args.key c.requires.kept.0 c.args.here.now.files c.args.kept.files c.requires.kept.1 in
     can-keep c.args.live.now.cells c.args.key c.args.here.now _ b.rest _ _ _ c.requires.here b.begins
     (record {
-      sound = (c.sound_lists_are_tested.ensures c.args.key c.args.kept.files).0 b.sound;
+      sequence = (c.sequences_are_tested.ensures c.args.key c.args.kept.files).0 b.sequence;
       numbers = c.requires.held;
       builds = sym c.in_ok-chart.ensures.chart;
     })

@@ -1,7 +1,7 @@
 use Rattle.std.proofs.lemmas.Result.{IfOk-weaker, MatchResult-weaker}
 use Rattle.chart_model.specs.declared.command.Command.TheVariants.{Load}
 use Rattle.command_codec.proofs.Spellings.{found}
-use Rattle.command_codec.proofs.Readings.{spelled_where_read, none_where_none}
+use Rattle.command_codec.proofs.CommandRead.{spelled_where_read, none_where_none}
 use Rattle.command_codec.proofs.decode.decode_command.Goals as goal
 
 pub returns-clause-found : goal.returns-clause-found

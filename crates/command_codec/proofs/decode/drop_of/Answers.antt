@@ -1,4 +1,4 @@
-use Rattle.command_codec.proofs.Readings.{drop_read, drop_missed}
+use Rattle.command_codec.proofs.CommandRead.{drop_read, drop_missed}
 use Rattle.command_codec.proofs.decode.drop_of.Goals as goal
 
 pub returns-in_err-key : goal.returns-in_err-key

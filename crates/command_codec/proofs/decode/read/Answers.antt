@@ -1,6 +1,6 @@
 use Rattle.std.proofs.Common.{arith}
 use Rattle.std.proofs.lemmas.Result.{MatchResult-weaker}
-use Rattle.command_codec.proofs.Readings.{loaded_first}
+use Rattle.command_codec.proofs.CommandRead.{loaded_first}
 use Rattle.command_codec.proofs.decode.read.Goals as goal
 
 pub returns-in-1-clause-memory : goal.returns-in-1-clause-memory

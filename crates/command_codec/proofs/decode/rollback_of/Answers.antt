@@ -1,5 +1,5 @@
 use Rattle.std.proofs.Common.{arith}
-use Rattle.command_codec.proofs.Readings.{rollback_read, rollback_missed, rollback_short}
+use Rattle.command_codec.proofs.CommandRead.{rollback_read, rollback_missed, rollback_short}
 use Rattle.command_codec.proofs.decode.rollback_of.Goals as goal
 
 pub returns-in_default : goal.returns-in_default

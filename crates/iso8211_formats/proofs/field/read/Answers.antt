@@ -27,4 +27,4 @@ returns c =
 pub invariant_of-result : goal.invariant_of-result
 invariant_of-result c =
     let whole = made c.args.field.now (c.in-Some.array.now, c.in-Some.controls.now) (c.in-Some-read_labels.labels.items, c.in-Some-read_labels.repeats_from) 64 _ (sym c.in-Some.ensures) (sym c.in-Some-read_labels.ensures) (sym c.in-Some-read_formats.ensures) (omega arith) (omega arith) in
-    (descriptor_of_found c.args.field.now _ whole).sound
+    (descriptor_of_found c.args.field.now _ whole).is_layout

@@ -8,7 +8,7 @@ use Rattle.update_sequence.proofs.extension.have_no_closure_fault.Goals as goal
 
 pub returns : goal.returns
 returns c =
-    let sound = λ (name : Name). is_none (fault_at c.args.chart.now name) in
+    let faultless = λ (name : Name). is_none (fault_at c.args.chart.now name) in
     c.have_no_fault.ensures
-    ∙ ap (list_all sound) c.as_slice.ensures.value
-    ∙ list_all-same sound c.in_ok-names.names.items (filter_map asked_target c.args.changes.now) c.in_ok-names.ensures
+    ∙ ap (list_all faultless) c.as_slice.ensures.value
+    ∙ list_all-same faultless c.in_ok-names.names.items (filter_map asked_target c.args.changes.now) c.in_ok-names.ensures

@@ -8,7 +8,7 @@ use Rattle.chart_store.proofs.Placing.{live-held-if}
 use Rattle.chart_store.proofs.live.LiveCells.set.Goals as goal
 
 pub set-requires : goal.set-requires
-set-requires c = live-held-if c.sound_lists_are_held.ensures.held c.args.key c.args.holding c.requires.live
+set-requires c = live-held-if c.sequences_are_held.ensures.held c.args.key c.args.holding c.requires.live
 
 pub invariant_of-self-2 : goal.invariant_of-self-2
 invariant_of-self-2 c =

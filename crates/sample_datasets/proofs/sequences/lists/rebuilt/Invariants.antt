@@ -1,5 +1,5 @@
 use Rattle.std.proofs.Common.{Some}
-use Rattle.update_sequence.specs.Sound.{Leaves}
+use Rattle.update_sequence.specs.Sequence.{Leaves}
 use Rattle.sample_datasets.proofs.sequences.lists.rebuilt.Given as goal
 
 -- what was taken over so far

@@ -37,7 +37,7 @@ use Rattle.s57_fields.specs.Fspt.{fspt_row, feature_pointers, feature_pointer_co
 use Rattle.s57_fields.specs.Sg2d.{sg2d_row, coordinates, coordinate_columns, coordinates_in}
 use Rattle.s57_fields.specs.Sg3d.{sg3d_row, soundings, sounding_columns, soundings_in}
 use Rattle.s57_records.specs.LayoutReadings.{widened, mapped, under, Layouts, has_field, coords_in, subfields_of, all_subfields}
-use Rattle.s57_records.proofs.Changes.{AreSound, HasKeys, All-nil}
+use Rattle.s57_records.proofs.Changes.{AreWithinLimits, HasKeys, All-nil}
 
 -- ---- steps
 
@@ -160,9 +160,9 @@ attributes_plain [] texts each = tt
 attributes_plain (code ∷ codes) [] each = tt
 attributes_plain (code ∷ codes) (text ∷ texts) each = (each.0, attributes_plain codes texts each.1)
 
-attrs_sound : (row : AttributeRow) (values : RowValues) (attrs : List Attr) → attributes_in row values ≡ Ok attrs → All (λ attr. IsPlainText attr.value) attrs
+attrs_within : (row : AttributeRow) (values : RowValues) (attrs : List Attr) → attributes_in row values ≡ Ok attrs → All (λ attr. IsPlainText attr.value) attrs
 unfolding attribute_columns
-attrs_sound row values attrs e =
+attrs_within row values attrs e =
     listed_read (λ xs. All (λ attr. IsPlainText attr.value) xs) values.fields (attribute_columns row values) attrs (All-nil _) (λ read.
     field_then (column_in (number_up_to 65535) values row.attl) _ attrs read (λ numbers numbers_e after_numbers.
     field_then (column_in plain_text values row.atvl) _ attrs after_numbers (λ texts texts_e made.
@@ -175,9 +175,9 @@ coordinates_each (y ∷ ys) (x ∷ xs) in_y in_x =
     let rest = coordinates_each ys xs in_y.1 in_x.1 in
     ((record { longitude = in_x.0; latitude = in_y.0; depth = tt }, rest.0), (refl, rest.1))
 
-coordinates_sound : (row : CoordinateRow) (values : RowValues) (coords : List Coord) → coordinates_in row values ≡ Ok coords → All IsCoord coords × All (λ coord. IsNone coord.z) coords
+coordinates_within : (row : CoordinateRow) (values : RowValues) (coords : List Coord) → coordinates_in row values ≡ Ok coords → All IsCoord coords × All (λ coord. IsNone coord.z) coords
 unfolding coordinate_columns
-coordinates_sound row values coords e =
+coordinates_within row values coords e =
     listed_read (λ cs. All IsCoord cs × All (λ coord. IsNone coord.z) cs) values.fields (coordinate_columns row values) coords (All-nil _, All-nil _) (λ read.
     field_then (column_in (number_within LATITUDE) values row.ycoo) _ coords read (λ ys ys_e after_ys.
     field_then (column_in (number_within LONGITUDE) values row.xcoo) _ coords after_ys (λ xs xs_e made.
@@ -219,9 +219,9 @@ topi_each (n ∷ names) (o ∷ ornts) [] masks = tt
 topi_each (n ∷ names) (o ∷ ornts) (u ∷ usags) [] = tt
 topi_each (n ∷ names) (o ∷ ornts) (u ∷ usags) (m ∷ masks) = (refl, topi_each names ornts usags masks)
 
-topi_sound : (row : FeaturePointerRow) (values : RowValues) (pointers : List Pointer) → feature_pointers_in row values ≡ Ok pointers → All (λ pointer. pointer.topi ≡ 255) pointers
+topi_within : (row : FeaturePointerRow) (values : RowValues) (pointers : List Pointer) → feature_pointers_in row values ≡ Ok pointers → All (λ pointer. pointer.topi ≡ 255) pointers
 unfolding feature_pointer_columns
-topi_sound row values pointers e =
+topi_within row values pointers e =
     listed_read (λ ps. All (λ pointer. pointer.topi ≡ 255) ps) values.fields (feature_pointer_columns row values) pointers (All-nil _) (λ read.
     field_then (column_in record_name values row.name) _ pointers read (λ names names_e after_names.
     field_then (column_in (number_up_to 255) values row.ornt) _ pointers after_names (λ ornts ornts_e after_ornts.
@@ -248,19 +248,19 @@ coords_absent layouts n fields tag coords absent e =
       | inr h ↦ listed_none (fields_in n tag fields).fields _ coords (no_fields n tag fields absent) h.1
     ]
 
-pub subfields_sound : (layouts : Layouts) (n : ℕ) (fields : List RawField) → AreSound (subfields_of layouts n fields)
-subfields_sound layouts n fields = record {
-  attrs = λ tag attrs e. attrs_sound (attribute_row (layouts tag)) (fields_in n tag fields) attrs (of_widened _ attrs e);
-  sg2d = λ coords e. coordinates_sound (sg2d_row (layouts (codes "SG2D"))) (fields_in n (codes "SG2D") fields) coords (of_widened _ coords e);
+pub subfields_within : (layouts : Layouts) (n : ℕ) (fields : List RawField) → AreWithinLimits (subfields_of layouts n fields)
+subfields_within layouts n fields = record {
+  attrs = λ tag attrs e. attrs_within (attribute_row (layouts tag)) (fields_in n tag fields) attrs (of_widened _ attrs e);
+  sg2d = λ coords e. coordinates_within (sg2d_row (layouts (codes "SG2D"))) (fields_in n (codes "SG2D") fields) coords (of_widened _ coords e);
   sg3d = λ coords e. soundings_sound (sg3d_row (layouts (codes "SG3D"))) (fields_in n (codes "SG3D") fields) coords (of_widened _ coords e);
   absent = λ tag coords absent e. coords_absent layouts n fields tag coords absent (of_widened _ coords e);
   digits = λ tag label number e. let r = once_read nine_digits (fields_in n tag fields) (subfield_of (layouts tag) label) number (of_widened _ number e) in digits_are_small r.0 number r.1;
-  topi = λ pointers e. topi_sound (fspt_row (layouts (codes "FSPT"))) (fields_in n (codes "FSPT") fields) pointers (of_widened _ pointers e);
+  topi = λ pointers e. topi_within (fspt_row (layouts (codes "FSPT"))) (fields_in n (codes "FSPT") fields) pointers (of_widened _ pointers e);
 }
 
-pub all_sound : (layouts : Layouts) (n : ℕ) (records : List (List RawField)) → AllByRecursion AreSound (all_subfields layouts n records)
-all_sound layouts n [] = tt
-all_sound layouts n (fields ∷ records) = (subfields_sound layouts n fields, all_sound layouts (suc n) records)
+pub all_within : (layouts : Layouts) (n : ℕ) (records : List (List RawField)) → AllByRecursion AreWithinLimits (all_subfields layouts n records)
+all_within layouts n [] = tt
+all_within layouts n (fields ∷ records) = (subfields_within layouts n fields, all_within layouts (suc n) records)
 
 -- ---- keys
 

@@ -24,7 +24,7 @@ pub record Follows (key : List ℕ) (before : List (List ℕ)) (file : List ℕ)
   pub builds : dataset.cancels ≡ false → IsOk (built (rebuilt before) dataset)
 
 -- there is a file, and each may follow those before it
-pub record IsSoundList (key : List ℕ) (files : List (List ℕ)) : Type 0 where
+pub record IsUpdateSequence (key : List ℕ) (files : List (List ℕ)) : Type 0 where
   pub some : files ≢ []
   pub each : (before after : List (List ℕ)) (file : List ℕ) → files ≡ before ++ file ∷ after → Follows key before file
 
@@ -36,7 +36,7 @@ pub record IsFileOf (key file : List ℕ) (dataset : DatasetValue) : Type 0 wher
 
 -- files that can be taken over, and what they leave of their cell: the held numbers and the chart
 pub record Leaves (key : List ℕ) (files : List (List ℕ)) (held : Option Held) (chart : Option CellValue) : Type 0 where
-  pub sound : IsSoundList key files
+  pub sequence : IsUpdateSequence key files
   pub numbers : held_by files ≡ held
   pub builds : rebuilt files ≡ chart
 
@@ -69,6 +69,6 @@ may_all_follow key before (file ∷ rest) =
     may_follow key before file && may_all_follow key (before ++ file ∷ []) rest
 
 -- whether there is a file, and each may follow those before it
-unfoldable pub is_sound : List ℕ → List (List ℕ) → Bool
-is_sound key [] = false
-is_sound key (file ∷ rest) = may_all_follow key [] (file ∷ rest)
+unfoldable pub is_update_sequence : List ℕ → List (List ℕ) → Bool
+is_update_sequence key [] = false
+is_update_sequence key (file ∷ rest) = may_all_follow key [] (file ∷ rest)

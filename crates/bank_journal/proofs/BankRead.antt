@@ -35,16 +35,16 @@ header_from bytes test =
     record { layout = eqb-true _ _ parts.0; fits = ltb-true _ _ parts.1 }
 
 header_false : (bytes : List ℕ) → ¬ HasHeader bytes → header_test bytes ≡ false
-header_false bytes unsound = false_from_ne_true (header_test bytes) (λ test. unsound (header_from bytes test))
+header_false bytes foreign = false_from_ne_true (header_test bytes) (λ test. foreign (header_from bytes test))
 
 pub foreign_header : (bytes : List ℕ) → 9 < length bytes → ¬ HasHeader bytes → bank_of bytes ≡ Err 0
 unfolding bank_of
-foreign_header bytes long unsound = rw (lt-leb (length bytes) 9 long, header_false bytes unsound) refl
+foreign_header bytes long foreign = rw (lt-leb (length bytes) 9 long, header_false bytes foreign) refl
 
-pub sound_header : (bytes : List ℕ) → 9 < length bytes → HasHeader bytes
+pub whole_header : (bytes : List ℕ) → 9 < length bytes → HasHeader bytes
     → bank_of bytes ≡ content_of bytes (bodies_in 0 (drop (8 + checkpoint_length bytes) bytes))
 unfolding bank_of
-sound_header bytes long header =
+whole_header bytes long header =
     rw (lt-leb (length bytes) 9 long, header_true bytes header, passed (8 + checkpoint_length bytes) bytes) refl
 
 -- ---- what is given holds
@@ -115,11 +115,11 @@ says_long bytes long =
     elim (cases_Bool (header_test bytes)) [
       | inl test ↦
           let header = header_from bytes test in
-          subst (Says bytes) (sym (sound_header bytes long header))
+          subst (Says bytes) (sym (whole_header bytes long header))
           (says_content bytes _ long header (tells (8 + checkpoint_length bytes) bytes header.fits))
       | inr test ↦
-          let unsound : ¬ HasHeader bytes = λ header. let is = header_true bytes header in absurd (cc) in
-          subst (Says bytes) (sym (foreign_header bytes long unsound)) (long, inl (unsound, refl))
+          let foreign : ¬ HasHeader bytes = λ header. let is = header_true bytes header in absurd (cc) in
+          subst (Says bytes) (sym (foreign_header bytes long foreign)) (long, inl (foreign, refl))
     ]
 
 pub says : (bytes : List ℕ) → Says bytes (bank_of bytes)
@@ -186,7 +186,7 @@ pub given_content : (bytes : List ℕ) (content : BankContent) → 9 < length by
     → bank_of bytes ≡ Ok content
 given_content bytes content long has =
     let t = told bytes content has in
-    sound_header bytes long t.header
+    whole_header bytes long t.header
     ∙ ap (content_of bytes) (read_bodies _ _ t.reads)
     ∙ ap (λ (l : List ℕ). Ok (record { checkpoint = l; bodies = content.bodies })) t.checkpoint
 
@@ -201,7 +201,7 @@ given_fault bytes offset (long, inr (header, cut)) =
     let left : LeavesCut (drop (8 + checkpoint_length bytes) bytes) (length cut.rest) =
     record { bodies = cut.bodies; rest = cut.rest; records = cut.records; cut = cut.cut; counted = refl } in
     let place : length bytes - length cut.rest ≡ offset = omega (arith, cut.place) in
-    sound_header bytes long header ∙ ap (content_of bytes) (read_cut _ _ left) ∙ ap (λ (n : ℕ). Err n) place
+    whole_header bytes long header ∙ ap (content_of bytes) (read_cut _ _ left) ∙ ap (λ (n : ℕ). Err n) place
 
 -- ---- the law
 

@@ -1,4 +1,4 @@
--- The tests of lists of files say whether they are sound.
+-- The tests of lists of files say whether they are update sequences.
 use Rattle.std.proofs.Common.{◌≡◌, ◌≤◌, ℕ, Bool, true, false, ◌&&◌, ◌||◌, leb, List, [], ◌∷◌, ◌++◌, length}
 use Rattle.std.proofs.Common.{Result, Ok, Err, refl, sym, ◌∙◌, ap, subst, arith}
 use Rattle.std.proofs.lemmas.Bool.{true≢false, and_parts, and_from, not-true}
@@ -16,8 +16,8 @@ use Rattle.chart_model.proofs.Keys.{key_cmp-total, key_cmp-IsAntisymmetric}
 use Rattle.update_sequence.specs.Reading.{data_set_in}
 use Rattle.update_sequence.specs.Judged.{judged}
 use Rattle.update_sequence.specs.Rebuilt.{held_by}
-use Rattle.update_sequence.specs.Sound.{Follows, IsSoundList, is_in_order, is_next_read, may_follow, may_all_follow}
-use Rattle.update_sequence.specs.Sound.{is_sound}
+use Rattle.update_sequence.specs.Sequence.{Follows, IsUpdateSequence, is_in_order, is_next_read, may_follow, may_all_follow}
+use Rattle.update_sequence.specs.Sequence.{is_update_sequence}
 use Rattle.update_sequence.specs.declared.fault.ReadFault.{ReadFault}
 use Rattle.update_sequence.proofs.Lists.{cons_is, no_item}
 
@@ -122,12 +122,12 @@ all-tested key front (first ∷ rest) h =
 
 -- ---- lists
 
-pub sound-is : (key : List ℕ) (files : List (List ℕ)) → is_sound key files ≡ true → IsSoundList key files
-unfolding is_sound
-sound-is key [] e = absurd (true≢false (sym e))
-sound-is key (file ∷ rest) e = record { some = λ none. cc; each = all-follow key [] (file ∷ rest) e }
+pub sequence-is : (key : List ℕ) (files : List (List ℕ)) → is_update_sequence key files ≡ true → IsUpdateSequence key files
+unfolding is_update_sequence
+sequence-is key [] e = absurd (true≢false (sym e))
+sequence-is key (file ∷ rest) e = record { some = λ none. cc; each = all-follow key [] (file ∷ rest) e }
 
-pub sound-tested : (key : List ℕ) (files : List (List ℕ)) → IsSoundList key files → is_sound key files ≡ true
-unfolding is_sound
-sound-tested key [] h = absurd (h.some refl)
-sound-tested key (file ∷ rest) h = all-tested key [] (file ∷ rest) h.each
+pub sequence-tested : (key : List ℕ) (files : List (List ℕ)) → IsUpdateSequence key files → is_update_sequence key files ≡ true
+unfolding is_update_sequence
+sequence-tested key [] h = absurd (h.some refl)
+sequence-tested key (file ∷ rest) h = all-tested key [] (file ∷ rest) h.each

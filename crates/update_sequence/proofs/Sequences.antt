@@ -1,4 +1,4 @@
--- Lists of files that are sound.
+-- Update sequences.
 use Rattle.std.proofs.Common.{◌≡◌, ◌≢◌, inl, inr, ℕ, true, List, [], ◌∷◌, ◌++◌, length, Option, None, Ok, refl, sym, ◌∙◌, ap, subst}
 use Rattle.std.proofs.lemmas.List.{append_assoc}
 use Rattle.std.specs.Result.{is_ok}
@@ -11,16 +11,16 @@ use Rattle.update_sequence.specs.Reading.{data_set_in}
 use Rattle.update_sequence.specs.Judged.{judged}
 use Rattle.update_sequence.specs.Built.{built}
 use Rattle.update_sequence.specs.Rebuilt.{held_by, rebuilt}
-use Rattle.update_sequence.specs.Sound.{Follows, IsSoundList}
+use Rattle.update_sequence.specs.Sequence.{Follows, IsUpdateSequence}
 use Rattle.update_sequence.proofs.Lists.{split_more}
 
 no_files : (files : List (List ℕ)) (file : List ℕ) → files ++ file ∷ [] ≢ []
 no_files [] file e = cc
 no_files (first ∷ files) file e = cc
 
-pub sound-next : (key : List ℕ) (files : List (List ℕ)) (file : List ℕ) → ((before after : List (List ℕ)) (file : List ℕ) → files ≡ before ++ file ∷ after → Follows key before file) →
-    Follows key files file → IsSoundList key (files ++ file ∷ [])
-sound-next key files file each follows = record {
+pub sequence-next : (key : List ℕ) (files : List (List ℕ)) (file : List ℕ) → ((before after : List (List ℕ)) (file : List ℕ) → files ≡ before ++ file ∷ after → Follows key before file) →
+    Follows key files file → IsUpdateSequence key (files ++ file ∷ [])
+sequence-next key files file each follows = record {
   some = no_files files file;
   each = λ before after other e.
       elim (split_more files file before after other e) [
@@ -33,13 +33,13 @@ none_before : (before after : List (List ℕ)) (file : List ℕ) → [] ≢ befo
 none_before [] after file e = cc
 none_before (first ∷ before) after file e = cc
 
-pub sound-first : (key file : List ℕ) → Follows key [] file → IsSoundList key (file ∷ [])
-sound-first key file follows = sound-next key [] file (λ before after other e. absurd (none_before before after other e)) follows
+pub sequence-first : (key file : List ℕ) → Follows key [] file → IsUpdateSequence key (file ∷ [])
+sequence-first key file follows = sequence-next key [] file (λ before after other e. absurd (none_before before after other e)) follows
 
-pub sound-before : (key : List ℕ) (files rest : List (List ℕ)) → files ≢ [] → IsSoundList key (files ++ rest) → IsSoundList key files
-sound-before key files rest some sound = record {
+pub sequence-before : (key : List ℕ) (files rest : List (List ℕ)) → files ≢ [] → IsUpdateSequence key (files ++ rest) → IsUpdateSequence key files
+sequence-before key files rest some sequence = record {
   some = some;
-  each = λ before after file e. sound.each before (after ++ rest) file (ap (λ (l : List (List ℕ)). l ++ rest) e ∙ append_assoc before (file ∷ after) rest);
+  each = λ before after file e. sequence.each before (after ++ rest) file (ap (λ (l : List (List ℕ)). l ++ rest) e ∙ append_assoc before (file ∷ after) rest);
 }
 
 -- a base file that is read, judged and built alone may come first
