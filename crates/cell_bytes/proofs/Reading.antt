@@ -1,12 +1,13 @@
 -- A record that is written is a record that is read: its leader, its directory and its fields.
 use Rattle.std.proofs.Common.{◌≡◌, ℕ, zero, suc, ◌+◌, ◌-◌, ◌/◌, ◌%◌, ◌^◌, ◌<◌, ◌≤◌, true, false, List, [], ◌∷◌, ◌++◌, length, take, drop, get_or, refl, sym, ap, subst, ◌∙◌, arith, append_assoc, append-nil, length-append, map, lit≤}
-use Rattle.std.specs.Char.{is_ascii_digit}
+use Rattle.std.specs.Char.{is_ascii_digit, digit_value}
 use Rattle.std.specs.List.{AllByRecursion, slice_range}
+use Rattle.std.specs.Str.Parse.{digits_value}
 use Rattle.std.proofs.lemmas.List.{take_at, drop_at, drop-drop, get_or_at}
 use Rattle.std.proofs.lemmas.Bool.{false≢true}
 use Rattle.std.proofs.lemmas.Bool.Decides.{nat_tests}
 use Rattle.chart_model.specs.Codes.{FIELD_TERMINATOR}
-use Rattle.iso8211_leader.specs.Digits.{AreDigits, number_of}
+use Rattle.iso8211_leader.specs.Digits.{AreDigits}
 use Rattle.iso8211_leader.specs.Leader.{Frame, HasLeader, frame_of}
 use Rattle.iso8211_leader.specs.Entry.{IsEntry, entry_of}
 use Rattle.iso8211_leader.specs.declared.entry.Entry.{Entry}
@@ -27,9 +28,14 @@ digits_are (suc count) n =
     let small : n / 10 ^ count % 10 < 10 = omega arith in
     rw (digit_test (n / 10 ^ count % 10) small) (digits_are count n)
 
-number_of-five : (n : ℕ) → n < 100000 → number_of (digits 5 n) ≡ n
-unfolding digits number_of
-number_of-five n small = omega arith
+digit_value-of : (d : ℕ) → d < 10 → digit_value (48 + d) ≡ d
+digit_value-of d small = grind (arith, nat_tests)
+
+value-five : (n : ℕ) → n < 100000 → digits_value 10 (digits 5 n) ≡ n
+unfolding digits
+value-five n small =
+    let at = λ (unit : ℕ). digit_value-of (n / unit % 10) (omega arith) in
+    omega (arith, at 10000, at 1000, at 100, at 10, at 1)
 
 -- ---- the leader
 
@@ -41,9 +47,9 @@ has_leader base bytes low within small = record {
   kind = refl;
   control_length = λ e. absurd (false≢true e);
   base_in_digits = digits_are 5 base;
-  directory = subst (λ (n : ℕ). 25 ≤ n) (sym (number_of-five base (omega arith))) low;
-  field_area = subst (λ (n : ℕ). n ≤ number_of (digits 5 bytes)) (sym (number_of-five base (omega arith)))
-      (subst (λ (n : ℕ). base ≤ n) (sym (number_of-five bytes small)) within);
+  directory = subst (λ (n : ℕ). 25 ≤ n) (sym (value-five base (omega arith))) low;
+  field_area = subst (λ (n : ℕ). n ≤ digits_value 10 (digits 5 bytes)) (sym (value-five base (omega arith)))
+      (subst (λ (n : ℕ). base ≤ n) (sym (value-five bytes small)) within);
   size_of_length = (lit≤ tt, lit≤ tt);
   size_of_position = (lit≤ tt, lit≤ tt);
   size_of_tag = refl;
@@ -57,8 +63,8 @@ leader_says : (base bytes : ℕ) → base < 100000 → bytes < 100000 → frame_
 unfolding frame_of leader_of digits
 leader_says base bytes small small' =
     λ i. record {
-      length = number_of-five bytes small' i;
-      base = number_of-five base small i;
+      length = value-five bytes small' i;
+      base = value-five base small i;
       size_length = 5;
       size_position = 5;
     }
@@ -120,8 +126,8 @@ module _ (base bytes position : ℕ) (one : Field) (tag : length one.0 ≡ 4) wh
   entry_says small small' =
       λ i. record {
         tag = sym (ap (take 4) (entry_split position one) ∙ take_at one.0 (digits 5 (length one.1) ++ digits 5 position) 4 tag) i;
-        length = sym (ap number_of length_digits ∙ number_of-five (length one.1) small') i;
-        position = sym (ap number_of position_digits ∙ number_of-five position small) i;
+        length = sym (ap (digits_value 10) length_digits ∙ value-five (length one.1) small') i;
+        position = sym (ap (digits_value 10) position_digits ∙ value-five position small) i;
       }
 
 is_directory : (base bytes position : ℕ) (fields : List Field) → position < 100000 → Fit position fields

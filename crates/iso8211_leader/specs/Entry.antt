@@ -2,7 +2,8 @@
 -- field's length and its position.
 use Rattle.std.specs.Prelude.{◌≡◌, ℕ, ◌+◌, ◌-◌, ◌≤◌, List, length, take, drop}
 use Rattle.std.specs.List.{slice_range}
-use Rattle.iso8211_leader.specs.Digits.{AreDigits, number_of}
+use Rattle.std.specs.Str.Parse.{digits_value}
+use Rattle.iso8211_leader.specs.Digits.{AreDigits}
 use Rattle.iso8211_leader.specs.Leader.{Frame}
 use Rattle.iso8211_leader.specs.declared.entry.Entry.{Entry}
 
@@ -37,6 +38,6 @@ pub record HasEntry (frame : Frame) (bytes : List ℕ) (at place : ℕ) : Type 0
 unfoldable pub entry_of : Frame → List ℕ → Entry
 entry_of frame text = record {
   tag = take 4 text;
-  length = number_of (field_length frame text);
-  position = number_of (field_position frame text);
+  length = digits_value 10 (field_length frame text);
+  position = digits_value 10 (field_position frame text);
 }

@@ -1,8 +1,9 @@
 -- The leader of a record (ISO/IEC 8211, leader): 24 bytes, each field of it at its place.
 use Rattle.std.specs.Prelude.{◌≡◌, ℕ, ◌-◌, ◌≤◌, Bool, true, List, length, slice_index, take, drop, codes, if◌then◌else◌}
 use Rattle.std.specs.List.{slice_range}
+use Rattle.std.specs.Str.Parse.{digits_value}
 use Rattle.std.specs.Int.{IsInRange}
-use Rattle.iso8211_leader.specs.Digits.{AreDigits, number_of}
+use Rattle.iso8211_leader.specs.Digits.{AreDigits}
 use Rattle.iso8211_leader.specs.declared.leader.Leader.{Leader}
 
 -- what there is of the 24 bytes from a place on
@@ -28,8 +29,8 @@ pub record HasLeader (first : Bool) (text : List ℕ) : Type 0 where
   pub kind : slice_index text 6 ≡ identifier first
   pub control_length : first ≡ true → slice_range text 10 12 ≡ codes "09"
   pub base_in_digits : AreDigits (base_digits text)
-  pub directory : 25 ≤ number_of (base_digits text)
-  pub field_area : number_of (base_digits text) ≤ number_of (length_digits text)
+  pub directory : 25 ≤ digits_value 10 (base_digits text)
+  pub field_area : digits_value 10 (base_digits text) ≤ digits_value 10 (length_digits text)
   pub size_of_length : IsInRange 49 57 (slice_index text 20)
   pub size_of_position : IsInRange 49 57 (slice_index text 21)
   pub size_of_tag : slice_index text 23 ≡ 52
@@ -45,8 +46,8 @@ pub record Frame : Type 0 where
 -- what the leader's bytes say
 unfoldable pub frame_of : List ℕ → Frame
 frame_of text = record {
-  length = number_of (length_digits text);
-  base = number_of (base_digits text);
+  length = digits_value 10 (length_digits text);
+  base = digits_value 10 (base_digits text);
   size_length = slice_index text 20 - 48;
   size_position = slice_index text 21 - 48;
 }

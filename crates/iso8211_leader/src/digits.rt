@@ -3,12 +3,13 @@
 ghost use Rattle.std.specs.Prelude.{◌-◌, ◌≤◌, ◌<◌, ◌^◌, length, IfSome};
 ghost use Rattle.std.specs.Int.{IsInRange};
 ghost use Rattle.std.specs.Option.{SomeIff};
-ghost use Rattle.iso8211_leader.specs.Digits.{AreDigits, number_of};
+ghost use Rattle.std.specs.Str.Parse.{digits_value};
+ghost use Rattle.iso8211_leader.specs.Digits.{AreDigits};
 
 /// The number of a text that is decimal digits and nothing else.
 pub(crate) fn number_in(text: &[u8]) -> Option<u32>
     requires { length text.now ≤ 9 }
-    ensures value { SomeIff result (AreDigits text.now) (number_of text.now) }
+    ensures value { SomeIff result (AreDigits text.now) (digits_value 10 text.now) }
     ensures below { IfSome result (λ number. number < 10 ^ length text.now) }
 {
     let mut number: u32 = 0;

@@ -5,7 +5,8 @@ use Rattle.std.specs.List.{list_all, slice_range}
 use Rattle.std.specs.Char.{is_ascii_digit}
 use Rattle.std.specs.Int.{IsInRange, is_in_range}
 use Rattle.std.proofs.lemmas.Bool.Decides.{nat_tests}
-use Rattle.iso8211_leader.specs.Digits.{AreDigits, number_of}
+use Rattle.std.specs.Str.Parse.{digits_value}
+use Rattle.iso8211_leader.specs.Digits.{AreDigits}
 use Rattle.iso8211_leader.specs.Leader.{Frame, HasLeader, identifier, length_digits, base_digits}
 use Rattle.iso8211_leader.specs.Entry.{IsEntry, entry_size, field_length, field_position}
 use Rattle.iso8211_records.specs.Frames.{is_leader, is_entry}
@@ -82,7 +83,7 @@ is_leader-is first text h =
     let p = ten_parts
     (eqb (length text) 24) (list_all is_ascii_digit (length_digits text)) (eqb (slice_index text 6) (identifier first))
     (not first || (eqb (slice_index text 10) 48 && eqb (slice_index text 11) 57)) (list_all is_ascii_digit (base_digits text))
-    (leb 25 (number_of (base_digits text))) (leb (number_of (base_digits text)) (number_of (length_digits text)))
+    (leb 25 (digits_value 10 (base_digits text))) (leb (digits_value 10 (base_digits text)) (digits_value 10 (length_digits text)))
     (is_in_range 49 57 (slice_index text 20)) (is_in_range 49 57 (slice_index text 21)) (eqb (slice_index text 23) 52) h in
     record {
       whole = eq-is _ _ p.first;

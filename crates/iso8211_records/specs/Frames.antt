@@ -3,7 +3,7 @@ use Rattle.std.specs.Prelude.{◌==◌, ℕ, Bool, not, ◌&&◌, ◌||◌, nat_
 use Rattle.std.specs.List.{list_all}
 use Rattle.std.specs.Char.{is_ascii_digit}
 use Rattle.std.specs.Int.{is_in_range}
-use Rattle.iso8211_leader.specs.Digits.{number_of}
+use Rattle.std.specs.Str.Parse.{digits_value}
 use Rattle.iso8211_leader.specs.Leader.{Frame, identifier, length_digits, base_digits}
 use Rattle.iso8211_leader.specs.Entry.{entry_size, field_length, field_position}
 
@@ -15,8 +15,8 @@ is_leader first text =
     && (slice_index text 6 == identifier first)
     && (not first || ((slice_index text 10 == 48) && (slice_index text 11 == 57)))
     && list_all is_ascii_digit (base_digits text)
-    && nat_le 25 (number_of (base_digits text))
-    && nat_le (number_of (base_digits text)) (number_of (length_digits text))
+    && nat_le 25 (digits_value 10 (base_digits text))
+    && nat_le (digits_value 10 (base_digits text)) (digits_value 10 (length_digits text))
     && is_in_range 49 57 (slice_index text 20)
     && is_in_range 49 57 (slice_index text 21)
     && (slice_index text 23 == 52)

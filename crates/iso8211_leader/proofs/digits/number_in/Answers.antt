@@ -1,11 +1,11 @@
-use Rattle.std.proofs.Common.{◌<◌, sym, arith}
-use Rattle.iso8211_leader.proofs.DigitsLemmas.{AreDigits-none, number_of-none, AreDigits-more, number_of-more, AreDigits-other, room, below-more}
+use Rattle.std.proofs.Common.{◌<◌, refl, sym, arith}
+use Rattle.iso8211_leader.proofs.DigitsLemmas.{AreDigits-none, AreDigits-more, value-more, AreDigits-other, room, below-more}
 use Rattle.iso8211_leader.proofs.digits.number_in.Goals as goal
 
 pub loop-byte-init : goal.loop-byte-init
 loop-byte-init c = record {
   digits = AreDigits-none c.args.text.now;
-  value = number_of-none c.args.text.now;
+  value = refl;
   below = omega arith;
 }
 
@@ -26,6 +26,6 @@ overflow_add-number c =
 pub loop-byte-preserved : goal.loop-byte-preserved
 loop-byte-preserved c = record {
   digits = AreDigits-more _ _ c.loop-byte-test.true c.loop-byte.invariant.digits (sym c.if-not-is_ascii_digit.ensures.value);
-  value = rw (number_of-more c.args.text.now c.loop-byte.byte-index c.loop-byte-test.true, ← c.loop-byte.invariant.value);
+  value = rw (value-more c.args.text.now c.loop-byte.byte-index c.loop-byte-test.true (sym c.if-not-is_ascii_digit.ensures.value), ← c.loop-byte.invariant.value);
   below = below-more _ _ _ c.loop-byte.invariant.below c.if-not-is_ascii_digit.ensures.cases.1;
 }
