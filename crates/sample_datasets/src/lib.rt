@@ -6,6 +6,4 @@
 #![tactic(auto)]
 
 #[cfg(test)]
-mod datasets;
-#[cfg(test)]
-mod sequences;
+mod tests;

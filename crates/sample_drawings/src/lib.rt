@@ -9,12 +9,4 @@
 #![tactic(auto)]
 
 #[cfg(test)]
-mod contours;
-#[cfg(test)]
-mod depth_areas;
-#[cfg(test)]
-mod drawings;
-#[cfg(test)]
-mod soundings;
-#[cfg(test)]
-mod users;
+mod tests;

@@ -6,10 +6,4 @@
 #![tactic(auto)]
 
 #[cfg(test)]
-mod fields;
-#[cfg(test)]
-mod overlaps;
-#[cfg(test)]
-mod records;
-#[cfg(test)]
-mod small;
+mod tests;

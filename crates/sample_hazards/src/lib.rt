@@ -9,16 +9,4 @@
 #![tactic(auto)]
 
 #[cfg(test)]
-mod area_depths;
-#[cfg(test)]
-mod areas_under;
-#[cfg(test)]
-mod digits;
-#[cfg(test)]
-mod hazard_depths;
-#[cfg(test)]
-mod hazards;
-#[cfg(test)]
-mod safety;
-#[cfg(test)]
-mod squares;
+mod tests;

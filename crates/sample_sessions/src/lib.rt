@@ -5,6 +5,4 @@
 #![tactic(auto)]
 
 #[cfg(test)]
-mod refusals;
-#[cfg(test)]
-mod turns;
+mod tests;

@@ -6,6 +6,4 @@
 #![tactic(auto)]
 
 #[cfg(test)]
-mod catalogues;
-#[cfg(test)]
-mod tables;
+mod tests;

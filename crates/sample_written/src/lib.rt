@@ -6,12 +6,4 @@
 #![tactic(auto)]
 
 #[cfg(test)]
-mod ends;
-#[cfg(test)]
-mod limits;
-#[cfg(test)]
-mod records;
-#[cfg(test)]
-mod trials;
-#[cfg(test)]
-mod whole;
+mod tests;

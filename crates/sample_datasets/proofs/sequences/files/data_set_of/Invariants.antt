@@ -1,5 +1,0 @@
--- the counter's ledger is that of its blank
-use Rattle.sample_datasets.proofs.sequences.files.data_set_of.Given as goal
-
-abbrev pub ghosts-read_with : goal.ghosts-read_with
-ghosts-read_with a = record { name = a.blank.name; parts = a.blank.parts }

@@ -1,5 +1,0 @@
--- the counter's ledger is that of its blank
-use Rattle.sample_datasets.proofs.sequences.lists.lists_are_rebuilt.Given as goal
-
-abbrev pub ghosts-rebuilt : goal.ghosts-rebuilt
-ghosts-rebuilt g a = record { name = a.blank.name; parts = a.blank.parts }

@@ -1,0 +1,2 @@
+mod datasets;
+mod sequences;

@@ -1,0 +1,5 @@
+mod contours;
+mod depth_areas;
+mod drawings;
+mod soundings;
+mod users;

@@ -1,0 +1,4 @@
+mod fields;
+mod overlaps;
+mod records;
+mod small;

@@ -1,0 +1,2 @@
+mod catalogues;
+mod tables;

@@ -1,0 +1,5 @@
+mod ends;
+mod limits;
+mod records;
+mod trials;
+mod whole;
