@@ -1,3 +1,4 @@
+mod Spans
 mod Tagged
 mod PassedTests
 mod ValueLaws

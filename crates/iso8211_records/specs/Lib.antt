@@ -9,4 +9,5 @@ pub mod Frames
 pub mod Values
 pub mod Reading
 pub mod RecordFile
+pub mod Draft
 pub mod Fault

@@ -1,6 +1,6 @@
 //! Data records: what their fields hold.
 
-ghost use Rattle.std.specs.Prelude.{◌≡◌, ◌+◌, ◌≤◌, ◌<◌, ◌^◌, length, IfOk, Some, if◌then◌else◌};
+ghost use Rattle.std.specs.Prelude.{◌≡◌, ◌+◌, ◌≤◌, ◌<◌, ◌^◌, [], length, IfOk, OnOk, Some, if◌then◌else◌};
 ghost use Rattle.std.specs.List.{AllByRecursion};
 ghost use Rattle.iso8211_leader.specs.Leader.{frame};
 ghost use Rattle.iso8211_records.specs.Answers.{Gives, GivesBy};
@@ -15,47 +15,60 @@ ghost use Rattle.iso8211_records.specs.Reading.{is_described, unless_undescribed
 
 use crate::budget::Budget;
 use crate::descriptors::DescriptorMap;
+use crate::draft::Draft;
 use crate::fault::{FieldFault, FileFault};
 use crate::frame::{field_in, is_in_list, read_frame};
-use crate::record::{RawField, RawRecord};
-use crate::value::ValueList;
+use crate::value::Value;
 use crate::values::read_values;
 use iso8211_formats::{Descriptor, Format};
 use iso8211_leader::{Entry, Leader};
 use std::alloc::Global;
 
-/// Reads the data record of this number that begins the bytes, which stand at the place `at` of the
-/// file, and gives how many bytes it has. Its directory is put in place of the entries, so that one vector serves each
-/// record.
+/// What serves each record in turn, so that it takes memory once.
+#[derive(Debug, Drop)]
+pub(crate) struct Scratch {
+    /// The entries of a directory.
+    pub(crate) entries: Vec<Entry>,
+    /// The values of a field.
+    pub(crate) values: Vec<Value>,
+}
+
+/// Reads the fields of the data record that begins the bytes, which stand at the place `at` of the file, into the draft,
+/// and gives how many bytes the record has.
 #[tactic(auto, unfolding(crate::specs::Reading::data_record_at))]
 pub(crate) fn read_data_record(
     alloc: Global,
     bytes: &[u8],
     at: usize,
-    number: usize,
     tags: &[[u8; 4]],
     descriptors: &DescriptorMap,
     budget: &mut Budget,
-    entries: &mut Vec<Entry>,
-) -> Result<(RawRecord, usize), FileFault>
+    scratch: &mut Scratch,
+    draft: &mut Draft,
+) -> Result<usize, FileFault>
     requires low { at ≤ 2 ^ 63 }
     requires listed { AreListed tags.now descriptors.now }
-    ensures read { Gives result (data_record_at tags.now descriptors.now number at bytes.now) }
-    ensures within { IfOk result (λ read. read.1 ≤ length bytes.now) }
-    ensures some { IfOk result (λ read. 0 < read.1) }
+    requires ended { draft.old.begun ≡ [] }
+    ensures read { GivesBy (λ size. (draft.new.begun, size)) result
+        (data_record_at tags.now descriptors.now (length draft.old.records + 1) at bytes.now) }
+    ensures records { OnOk result (draft.new.records ≡ draft.old.records) }
+    ensures within { IfOk result (λ size. size ≤ length bytes.now) }
+    ensures some { IfOk result (λ size. 0 < size) }
 {
-    let leader = read_frame(bytes, at, tags, false, entries)?;
-    check_described(tags, descriptors, entries.as_slice())?;
-    let fields = read_fields(
+    let leader = read_frame(bytes, at, tags, false, &mut scratch.entries)?;
+    let entries = scratch.entries.as_slice();
+    check_described(tags, descriptors, entries)?;
+    read_fields(
         alloc,
         bytes,
-        number,
         descriptors,
         budget,
         &leader,
-        entries.as_slice(),
+        entries,
+        &mut scratch.values,
+        draft,
     )?;
-    Ok((RawRecord::from_vec(fields), leader.length as usize))
+    Ok(leader.length as usize)
 }
 
 /// Checks that each field with a tag of the list has a descriptor.
@@ -81,32 +94,36 @@ fn has_descriptor(tags: &[[u8; 4]], descriptors: &DescriptorMap, entry: &Entry) 
     descriptors.contains(&entry.tag) || !is_in_list(tags, &entry.tag)
 }
 
-/// Reads the fields that the entries name in the data record of this number, which begins the bytes: of those with a
+/// Reads the fields that the entries name in the data record that begins the bytes, into the draft: of those with a
 /// descriptor the values, whose bytes are taken from the budget.
 fn read_fields(
     alloc: Global,
     bytes: &[u8],
-    number: usize,
     descriptors: &DescriptorMap,
     budget: &mut Budget,
     leader: &Leader,
     entries: &[Entry],
-) -> Result<Vec<RawField>, FileFault>
+    values: &mut Vec<Value>,
+    draft: &mut Draft,
+) -> Result<(), FileFault>
     requires whole { leader.now.length ≤ length bytes.now }
     requires inside { AllByRecursion (IsInside (frame leader.now)) entries.now }
-    ensures read { GivesBy (λ fields. fields.items) result
-        (fields_of (tags_of descriptors.now) descriptors.now number (frame leader.now) bytes.now entries.now) }
+    requires ended { draft.old.begun ≡ [] }
+    ensures read { GivesBy (λ _. draft.new.begun) result (fields_of (tags_of descriptors.now) descriptors.now
+        (length draft.old.records + 1) (frame leader.now) bytes.now entries.now) }
+    ensures records { OnOk result (draft.new.records ≡ draft.old.records) }
     ensures taken { IfOk result (λ _. budget.new + listed_bytes (tags_of descriptors.now) entries.now ≡ budget.old) }
 {
-    let mut fields = Vec::with_capacity(alloc, entries.len())?;
+    let number = draft.len() + 1;
     for entry in entries {
         let field = field_in(bytes, leader, entry);
-        fields.push(read_field(alloc, field, number, descriptors, budget, entry.tag)?)?;
+        read_field(alloc, field, number, descriptors, budget, entry.tag, values)?;
+        draft.add_field(entry.tag, values)?;
     }
-    Ok(fields)
+    Ok(())
 }
 
-/// Reads the field with this tag of the data record of this number.
+/// Reads the values of the field with this tag of the data record of this number, in place of those before.
 #[tactic(auto, unfolding(crate::specs::Reading::field_by))]
 fn read_field(
     alloc: Global,
@@ -115,34 +132,37 @@ fn read_field(
     descriptors: &DescriptorMap,
     budget: &mut Budget,
     tag: [u8; 4],
-) -> Result<RawField, FileFault>
-    ensures read { Gives result (field_by (tags_of descriptors.now) descriptors.now number tag field.now) }
+    values: &mut Vec<Value>,
+) -> Result<(), FileFault>
+    ensures read { GivesBy (λ _. record { tag = tag; values = values.new.items }) result
+        (field_by (tags_of descriptors.now) descriptors.now number tag field.now) }
     ensures taken { IfOk result (λ _.
         budget.new + (if is_listed (tags_of descriptors.now) tag then length field.now else 0) ≡ budget.old) }
 {
     let descriptor = match descriptors.get(&tag) {
         Some(descriptor) => descriptor,
         None => {
-            let values = ValueList::new(alloc);
-            return Ok(RawField { tag, values });
+            values.clear();
+            return Ok(());
         }
     };
-    match read_by(alloc, field, descriptor, budget) {
-        Ok(values) => Ok(RawField { tag, values }),
+    match read_by(alloc, field, descriptor, budget, values) {
+        Ok(()) => Ok(()),
         Err(FieldFault::Unspelled) => Err(FileFault::Subfield(number, tag)),
         Err(FieldFault::NoMemory) => Err(FileFault::NoMemory),
     }
 }
 
-/// Reads the values of a field by its descriptor, and takes its bytes from the budget.
+/// Reads the values of a field by its descriptor, in place of those before, and takes its bytes from the budget.
 #[tactic(auto, unfolding(crate::specs::Reading::values_by))]
 fn read_by(
     alloc: Global,
     field: &[u8],
     descriptor: &Descriptor,
     budget: &mut Budget,
-) -> Result<ValueList, FieldFault>
-    ensures read { Finds (λ values. values) result (values_by (Some descriptor.now) field.now) }
+    values: &mut Vec<Value>,
+) -> Result<(), FieldFault>
+    ensures read { Finds (λ _. values.new.items) result (values_by (Some descriptor.now) field.now) }
     ensures taken { IfOk result (λ _. budget.new + length field.now ≡ budget.old) }
 {
     budget.take(field.len())?;
@@ -151,7 +171,7 @@ fn read_by(
         [] => field,
     };
     let (once, group) = formats_of(descriptor);
-    read_values(alloc, text, once, group)
+    read_values(alloc, text, once, group, values)
 }
 
 /// The formats of the subfields that stand once, and those of the group.

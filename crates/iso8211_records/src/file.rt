@@ -10,9 +10,10 @@ ghost use Rattle.iso8211_records.specs.RecordFile.{IsRecordFile, record_file_of,
 ghost use Rattle.iso8211_records.specs.Fault.{HasFault};
 
 use crate::budget::Budget;
-use crate::data::read_data_record;
+use crate::data::{Scratch, read_data_record};
 use crate::descriptive::read_descriptive_record;
 use crate::descriptors::DescriptorMap;
+use crate::draft::Draft;
 use crate::fault::FileFault;
 use crate::laws::{faults_each, reads_each};
 use crate::record::{RawList, RecordFile};
@@ -95,26 +96,28 @@ fn read_data_records<C: Ledger>(
         → steps.new ≡ steps.old + come_to (length bytes.now) tags.now descriptors.now 1 at bytes.now }
     ensures at_most { steps.new ≤ steps.old + come_to (length bytes.now) tags.now descriptors.now 1 at bytes.now }
 {
-    let mut records = RawList::new(alloc);
-    let mut entries = Vec::new(alloc);
+    let mut draft = Draft::new(alloc);
+    let mut scratch = Scratch {
+        entries: Vec::new(alloc),
+        values: Vec::new(alloc),
+    };
     let mut place = at;
     let mut rest = bytes;
     while !rest.is_empty() {
         steps.tick();
-        let number = records.as_slice().len() + 1;
-        let (record, length) = read_data_record(
+        let length = read_data_record(
             alloc,
             rest,
             place,
-            number,
             tags,
             descriptors,
             budget,
-            &mut entries,
+            &mut scratch,
+            &mut draft,
         )?;
-        records.push(record)?;
+        draft.end_record()?;
         place += length;
         rest = rest.split_at(length).1;
     }
-    Ok(records)
+    Ok(draft.finish(alloc)?)
 }

@@ -1,6 +1,7 @@
 //! Records as they are read: fields with their values, and lists of them.
 
 use crate::descriptors::DescriptorMap;
+use crate::part::Part;
 use crate::value::ValueList;
 use chart_model::Sequence;
 use std::marker::Model;
@@ -13,7 +14,7 @@ pub struct RawField {
 }
 
 /// The fields of a data record, in the order of its directory.
-pub type RawRecord = Sequence<RawField>;
+pub type RawRecord = Part<RawField>;
 
 /// The data records of a file, in order.
 pub type RawList = Sequence<RawRecord>;

@@ -1,6 +1,7 @@
 //! The values of a field.
 
-use chart_model::{Octets, Sequence};
+use crate::part::Part;
+use chart_model::Octets;
 
 /// The value of a subfield.
 #[derive(Debug, Drop)]
@@ -14,4 +15,4 @@ pub enum Value {
 }
 
 /// The values of a field, in order.
-pub type ValueList = Sequence<Value>;
+pub type ValueList = Part<Value>;

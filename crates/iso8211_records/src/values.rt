@@ -7,15 +7,15 @@ ghost use Rattle.iso8211_records.specs.Values.{Finds, front_at, open_text_at, va
 ghost use Rattle.iso8211_records.specs.Values.{values_of, number_size, is_terminator, before, before_all};
 
 use crate::fault::FieldFault;
-use crate::value::{Value, ValueList};
+use crate::value::Value;
 use byteorder::{ByteOrder, LittleEndian};
 use chart_model::Octets;
 use chart_model::codes::{FIELD_TERMINATOR, UNIT_TERMINATOR};
 use iso8211_formats::Format;
 use std::alloc::{AllocError, Global};
 
-/// Reads the values of a field's text: one by each of the formats `once`, and then whole groups of
-/// values by the formats `group` up to the text's end.
+/// Reads the values of a field's text, in place of those before: one by each of the formats `once`, and then whole
+/// groups of values by the formats `group` up to the text's end.
 ///
 /// # Errors
 ///
@@ -26,37 +26,14 @@ pub(crate) fn read_values(
     text: &[u8],
     once: &[Format],
     group: &[Format],
-) -> Result<ValueList, FieldFault>
-    ensures { Finds (λ values. values) result (values_of (record { once = once.now; group = group.now }) text.now) }
+    values: &mut Vec<Value>,
+) -> Result<(), FieldFault>
+    ensures { Finds (λ _. values.new.items) result
+        (values_of (record { once = once.now; group = group.now }) text.now) }
 {
-    let mut values = Vec::with_capacity(alloc, values_expected(once, group, text.len()))?;
-    let rest = read_each(alloc, text, once, &mut values)?;
-    read_groups(alloc, rest, group, &mut values)?;
-    Ok(ValueList::from_vec(values))
-}
-
-/// How many bytes a group has, where none of its texts is open.
-fn group_width(group: &[Format]) -> Option<usize> {
-    let mut width: usize = 0;
-    for format in group {
-        let size = match *format {
-            Format::TextOpen => return None,
-            Format::Text(size) => size as usize,
-            Format::Unsigned(size) | Format::Signed(size) => size as usize,
-            Format::Bits(count) => count as usize / 8,
-        };
-        width = width.checked_add(size)?;
-    }
-    Some(width)
-}
-
-/// How many values so many bytes have at most, where that can be told beforehand: room for them is made at once.
-fn values_expected(once: &[Format], group: &[Format], count: usize) -> usize {
-    let in_groups = match group_width(group) {
-        Some(width) if width != 0 => (count / width).saturating_mul(group.len()),
-        _ => 0,
-    };
-    once.len().saturating_add(in_groups)
+    values.clear();
+    let rest = read_each(alloc, text, once, values)?;
+    read_groups(alloc, rest, group, values)
 }
 
 /// Reads whole groups up to the end of the bytes, and puts their values behind the others.

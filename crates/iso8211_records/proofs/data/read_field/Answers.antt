@@ -3,7 +3,7 @@ use Rattle.iso8211_records.proofs.ListedTags.{field_by-none, field_by-some, list
 use Rattle.iso8211_records.proofs.data.read_field.Goals as goal
 
 pub returns-in-None-clause-read : goal.returns-in-None-clause-read
-returns-in-None-clause-read c = rw c.new-values.ensures (field_by-none _ _ _ _ c.in-None.ensures)
+returns-in-None-clause-read c = rw c.clear.ensures.items (field_by-none _ _ _ _ c.in-None.ensures)
 
 pub returns-in-None-clause-taken : goal.returns-in-None-clause-taken
 returns-in-None-clause-taken c = rw (listed-by _ _ None c.in-None.ensures) (omega arith)

@@ -8,6 +8,7 @@ use Rattle.iso8211_records.proofs.data.read_fields.Given as goal
 
 abbrev pub invariant-loop-entry : goal.invariant-loop-entry
 invariant-loop-entry l = record {
-  read : behind l.fields.items (fields_of (tags_of l.descriptors) l.descriptors l.number (frame l.leader) l.bytes (drop l.entry-index l.entries)) ≡ fields_of (tags_of l.descriptors) l.descriptors l.number (frame l.leader) l.bytes l.entries;
+  records : l.draft.records ≡ l.initial.draft.records;
+  read : behind l.draft.begun (fields_of (tags_of l.descriptors) l.descriptors l.number (frame l.leader) l.bytes (drop l.entry-index l.entries)) ≡ fields_of (tags_of l.descriptors) l.descriptors l.number (frame l.leader) l.bytes l.entries;
   taken : l.budget + listed_bytes (tags_of l.descriptors) l.entries ≡ l.initial.budget + listed_bytes (tags_of l.descriptors) (drop l.entry-index l.entries);
 }
