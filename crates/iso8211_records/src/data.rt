@@ -24,7 +24,7 @@ use iso8211_formats::{Descriptor, Format};
 use iso8211_leader::{Entry, Leader};
 use std::alloc::Global;
 
-/// What serves each record in turn, so that it takes memory once.
+/// Lists that serve each record in turn, so that they take memory once.
 #[derive(Debug, Drop)]
 pub(crate) struct Scratch {
     /// The entries of a directory.
