@@ -1,7 +1,7 @@
 //! Data records as they are read.
 //!
-//! A file has many short fields. The values of all of them stand in one list, and the fields of all records in another:
-//! a list of its own for each would take most of the time of a reading.
+//! A file has many short fields. The values of all of them stand in one list, and the fields of all records in another,
+//! so that no field and no record takes memory of its own.
 
 ghost use Rattle.std.specs.Prelude.{◌≡◌, ◌++◌, ◌∷◌, ◌<◌, ◌^◌, [], length, map, IfOk, OnOk};
 ghost use Rattle.iso8211_records.specs.Draft.{AreFieldSpans, AreSpans, fields_in, part};
@@ -14,9 +14,9 @@ use std::rc::Rc;
 
 /// Where a part of a list begins, and where it ends.
 #[derive(Clone, Copy, Debug)]
-pub struct Span {
-    pub from: usize,
-    pub to: usize,
+pub(crate) struct Span {
+    from: usize,
+    to: usize,
 }
 
 /// Data records as they are read. Contracts see the records that are ended, and the fields of the one that isn't yet.
