@@ -1,4 +1,4 @@
-use Rattle.std.proofs.Common.{Err, sym, ◌∙◌, ap}
+use Rattle.std.proofs.Common.{Err, refl, sym, ◌∙◌, ap}
 use Rattle.std.proofs.lemmas.Result.{err_from_is_err_and}
 use Rattle.update_sequence.specs.Reading.{data_set_in, fault_of_file}
 use Rattle.update_sequence.proofs.Failing.{file_fails, records_fail, err_is}
@@ -20,3 +20,13 @@ unfolding data_set_in
 returns-in_err-read_dataset-clause-exact g c =
     let p = err_from_is_err_and c.from_residual-in_err-read_dataset.result c.from_residual-in_err-read_dataset.ensures.1 in
     rw (p.1, p.2) (rw c.in_ok-file.ensures.exact (records_fail c.in_err-read_dataset.field-0.0 _ c.in_err-read_dataset.ensures))
+
+pub returns-in_err-read_dataset-clause-come_to : goal.returns-in_err-read_dataset-clause-come_to
+returns-in_err-read_dataset-clause-come_to g c = λ _. c.in_ok-file.ensures.come_to (λ e. cc)
+
+pub returns-clause-exact : goal.returns-clause-exact
+unfolding data_set_in
+returns-clause-exact g c = rw (c.in_ok-file.ensures.exact, c.in_ok-read_dataset.ensures) refl
+
+pub returns-clause-come_to : goal.returns-clause-come_to
+returns-clause-come_to g c = λ _. c.in_ok-file.ensures.come_to (λ e. cc)
