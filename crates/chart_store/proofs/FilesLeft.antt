@@ -9,7 +9,7 @@ use Rattle.bank_journal.specs.declared.fault.BankFault.TheVariants as banks
 use Rattle.bank_journal.specs.Bank.{gate_of, nothing}
 use Rattle.bank_journal.specs.Fault as of_bank
 use Rattle.bank_journal.specs.Reading.{bank_of}
-use Rattle.bank_journal.proofs.Readings.{short_bank}
+use Rattle.bank_journal.proofs.BankRead.{short_bank}
 use Rattle.chart_store.specs.Images.{Place, read_of}
 use Rattle.chart_store.specs.Loaded.{nothing_held}
 use Rattle.chart_store.specs.Opened.{ForeignHas, fault_of_bank}

@@ -202,9 +202,9 @@ soundings_each (y ∷ ys) (x ∷ xs) (z ∷ zs) in_y in_x in_z =
     let rest = soundings_each ys xs zs in_y.1 in_x.1 in_z.1 in
     ((record { longitude = in_x.0; latitude = in_y.0; depth = in_z.0 }, rest.0), (refl, rest.1))
 
-soundings_sound : (row : SoundingRow) (values : RowValues) (coords : List Coord) → soundings_in row values ≡ Ok coords → All IsCoord coords × All (λ coord. IsSome coord.z) coords
+soundings_within : (row : SoundingRow) (values : RowValues) (coords : List Coord) → soundings_in row values ≡ Ok coords → All IsCoord coords × All (λ coord. IsSome coord.z) coords
 unfolding sounding_columns
-soundings_sound row values coords e =
+soundings_within row values coords e =
     listed_read (λ cs. All IsCoord cs × All (λ coord. IsSome coord.z) cs) values.fields (sounding_columns row values) coords (All-nil _, All-nil _) (λ read.
     field_then (column_in (number_within LATITUDE) values row.ycoo) _ coords read (λ ys ys_e after_ys.
     field_then (column_in (number_within LONGITUDE) values row.xcoo) _ coords after_ys (λ xs xs_e after_xs.
@@ -252,7 +252,7 @@ pub subfields_within : (layouts : Layouts) (n : ℕ) (fields : List RawField) �
 subfields_within layouts n fields = record {
   attrs = λ tag attrs e. attrs_within (attribute_row (layouts tag)) (fields_in n tag fields) attrs (of_widened _ attrs e);
   sg2d = λ coords e. coordinates_within (sg2d_row (layouts (codes "SG2D"))) (fields_in n (codes "SG2D") fields) coords (of_widened _ coords e);
-  sg3d = λ coords e. soundings_sound (sg3d_row (layouts (codes "SG3D"))) (fields_in n (codes "SG3D") fields) coords (of_widened _ coords e);
+  sg3d = λ coords e. soundings_within (sg3d_row (layouts (codes "SG3D"))) (fields_in n (codes "SG3D") fields) coords (of_widened _ coords e);
   absent = λ tag coords absent e. coords_absent layouts n fields tag coords absent (of_widened _ coords e);
   digits = λ tag label number e. let r = once_read nine_digits (fields_in n tag fields) (subfield_of (layouts tag) label) number (of_widened _ number e) in digits_are_small r.0 number r.1;
   topi = λ pointers e. topi_within (fspt_row (layouts (codes "FSPT"))) (fields_in n (codes "FSPT") fields) pointers (of_widened _ pointers e);
