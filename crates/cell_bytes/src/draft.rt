@@ -3,7 +3,7 @@
 ghost use Rattle.std.specs.Prelude.{◌≡◌, [], OnOk};
 ghost use Rattle.cell_bytes.specs.Record.{field, list_field, no_fields, with_fields};
 
-use crate::fields::{Fields, clear};
+use crate::fields::Fields;
 use chart_model::Octets;
 use std::alloc::{AllocError, Global};
 
@@ -27,33 +27,33 @@ impl Draft {
     }
 
     /// Takes all fields out. It takes no memory.
-    pub(crate) fn clear(&mut self, alloc: Global)
+    pub(crate) fn clear(&mut self)
         ensures fields { self.new.fields ≡ no_fields }
         ensures text { self.new.text ≡ [] }
     {
-        self.fields.clear(alloc);
-        clear(alloc, &mut self.text);
+        self.fields.clear();
+        self.text.clear();
     }
 
     /// Ends the field whose text was written.
-    pub(crate) fn end_field(&mut self, alloc: Global, tag: [u8; 4]) -> Result<(), AllocError>
+    pub(crate) fn end_field(&mut self, tag: [u8; 4]) -> Result<(), AllocError>
         ensures fields { OnOk result (self.new.fields ≡ with_fields self.old.fields (field tag self.old.text)) }
         ensures text { OnOk result (self.new.text ≡ []) }
     {
         self.fields.add(tag, self.text.as_slice())?;
-        clear(alloc, &mut self.text);
+        self.text.clear();
         Ok(())
     }
 
     /// Ends the field of a list whose items were written. A list without an item gets no field.
     #[tactic(auto, unfolding(crate::specs::Record::list_field))]
-    pub(crate) fn end_list(&mut self, alloc: Global, tag: [u8; 4]) -> Result<(), AllocError>
+    pub(crate) fn end_list(&mut self, tag: [u8; 4]) -> Result<(), AllocError>
         ensures fields { OnOk result (self.new.fields ≡ with_fields self.old.fields (list_field tag self.old.text)) }
         ensures text { OnOk result (self.new.text ≡ []) }
     {
         if self.text.as_slice().is_empty() {
             return Ok(());
         }
-        self.end_field(alloc, tag)
+        self.end_field(tag)
     }
 }

@@ -6,7 +6,6 @@ ghost use Rattle.cell_bytes.specs.Record.{base_of, digits, field, framed, leader
 use chart_model::Octets;
 use chart_model::codes::FIELD_TERMINATOR;
 use std::alloc::{AllocError, Global};
-use std::mem;
 
 /// What the leader of a record says beside lengths.
 #[derive(Clone, Copy, Debug)]
@@ -79,16 +78,6 @@ fn leader(kind: Kind, base: usize, length: usize) -> [u8; 24]
     ]
 }
 
-/// Takes the bytes out. Their room stays.
-pub(crate) fn clear(alloc: Global, octets: &mut Octets)
-    ensures { octets.new ≡ [] }
-{
-    let empty = Octets::from_vec(Vec::new(alloc));
-    let mut bytes = mem::replace(octets, empty).into_vec();
-    bytes.clear();
-    *octets = Octets::from_vec(bytes);
-}
-
 impl Fields {
     /// No field yet. It takes no memory.
     pub(crate) fn new(alloc: Global) -> Fields
@@ -101,11 +90,11 @@ impl Fields {
     }
 
     /// Takes all fields out. It takes no memory.
-    pub(crate) fn clear(&mut self, alloc: Global)
+    pub(crate) fn clear(&mut self)
         ensures { self.new ≡ no_fields }
     {
-        clear(alloc, &mut self.directory);
-        clear(alloc, &mut self.area);
+        self.directory.clear();
+        self.area.clear();
     }
 
     /// Adds a field: its entry to the directory, and its text and a field terminator to the field area.

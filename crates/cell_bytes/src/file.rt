@@ -94,31 +94,26 @@ impl CellFile {
 
     /// Adds the record of a base file's parameters.
     #[tactic(auto, using(crate::proofs::Framed::framed_alone))]
-    pub(crate) fn put_parameters(&mut self, alloc: Global, cell: &Cell) -> Result<(), AllocError>
+    pub(crate) fn put_parameters(&mut self, cell: &Cell) -> Result<(), AllocError>
         ensures bytes { OnOk result (self.new.bytes
             ≡ self.old.bytes ++ record_of of_data (parameter_fields self.old.number cell.now.header.scale)) }
         ensures number { OnOk result (self.new.number ≡ next_number self.old.number) }
         ensures scale { OnOk result (IsFourBytes cell.now.header.scale) }
     {
-        draft_parameters(alloc, &mut self.draft, self.number, cell.header.scale)?;
+        draft_parameters(&mut self.draft, self.number, cell.header.scale)?;
         self.put_record()?;
         Ok(())
     }
 
     /// Adds the record of a vector, and answers what is wrong with it.
     #[tactic(auto, using(crate::proofs::Framed::framed_alone), unfolding(crate::specs::Written::vector_record))]
-    fn put_vector(
-        &mut self,
-        alloc: Global,
-        name: Name,
-        vector: &Vector,
-    ) -> Result<Option<WriteFault>, AllocError>
+    fn put_vector(&mut self, name: Name, vector: &Vector) -> Result<Option<WriteFault>, AllocError>
         ensures bytes { OnOk result (self.new.bytes ≡ self.old.bytes ++ vector_record name vector.now self.old.number) }
         ensures number { OnOk result (self.new.number ≡ next_number self.old.number) }
         ensures fault { IfOk result (λ fault. fault ≡ record_fault name (vector_record name vector.now)) }
         ensures in_range { OnOk result (IsVector name vector.now → IsVectorInRange (name, vector.now)) }
     {
-        draft_vector(alloc, &mut self.draft, self.number, name, vector)?;
+        draft_vector(&mut self.draft, self.number, name, vector)?;
         let bytes = self.put_record()?;
         Ok(fault_of(name, bytes))
     }
@@ -127,7 +122,6 @@ impl CellFile {
     #[tactic(auto, using(crate::proofs::Framed::framed_alone), unfolding(crate::specs::Written::feature_record))]
     fn put_feature(
         &mut self,
-        alloc: Global,
         name: Name,
         feature: &Feature,
     ) -> Result<Option<WriteFault>, AllocError>
@@ -137,18 +131,14 @@ impl CellFile {
         ensures fault { IfOk result (λ fault. fault ≡ record_fault name (feature_record name feature.now)) }
         ensures in_range { OnOk result (IsFeature name feature.now → IsFeatureEntryInRange (name, feature.now)) }
     {
-        draft_feature(alloc, &mut self.draft, self.number, name, feature)?;
+        draft_feature(&mut self.draft, self.number, name, feature)?;
         let bytes = self.put_record()?;
         Ok(fault_of(name, bytes))
     }
 
     /// Adds the records of the vectors, and answers the first fault of one.
     #[tactic(auto, using(crate::proofs::RecordFaults::first_more), unfolding(crate::specs::Written::vector_records, crate::specs::Written::vector_faults, crate::specs::Written::numbered, crate::specs::Written::number_behind))]
-    pub(crate) fn put_vectors(
-        &mut self,
-        alloc: Global,
-        cell: &Cell,
-    ) -> Result<Option<WriteFault>, AllocError>
+    pub(crate) fn put_vectors(&mut self, cell: &Cell) -> Result<Option<WriteFault>, AllocError>
         ensures bytes { OnOk result (self.new.bytes
             ≡ self.old.bytes ++ numbered self.old.number (vector_records cell.now)) }
         ensures number { OnOk result (self.new.number ≡ number_behind self.old.number (vector_records cell.now)) }
@@ -157,18 +147,14 @@ impl CellFile {
     {
         let mut first = None;
         for (name, vector) in cell.vectors.iter() {
-            first = first.or(self.put_vector(alloc, *name, vector)?);
+            first = first.or(self.put_vector(*name, vector)?);
         }
         Ok(first)
     }
 
     /// Adds the records of the features, and answers the first fault of one.
     #[tactic(auto, using(crate::proofs::RecordFaults::first_more), unfolding(crate::specs::Written::feature_records, crate::specs::Written::feature_faults, crate::specs::Written::numbered, crate::specs::Written::number_behind))]
-    pub(crate) fn put_features(
-        &mut self,
-        alloc: Global,
-        cell: &Cell,
-    ) -> Result<Option<WriteFault>, AllocError>
+    pub(crate) fn put_features(&mut self, cell: &Cell) -> Result<Option<WriteFault>, AllocError>
         ensures bytes { OnOk result (self.new.bytes
             ≡ self.old.bytes ++ numbered self.old.number (feature_records cell.now)) }
         ensures number { OnOk result (self.new.number ≡ number_behind self.old.number (feature_records cell.now)) }
@@ -177,7 +163,7 @@ impl CellFile {
     {
         let mut first = None;
         for (name, feature) in cell.features.iter() {
-            first = first.or(self.put_feature(alloc, *name, feature)?);
+            first = first.or(self.put_feature(*name, feature)?);
         }
         Ok(first)
     }

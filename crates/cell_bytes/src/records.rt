@@ -24,13 +24,13 @@ use std::alloc::{AllocError, Global};
 
 /// Begins a record, with its number.
 #[tactic(auto, unfolding(crate::specs::Vector::identified))]
-pub(crate) fn begin(alloc: Global, draft: &mut Draft, number: u16) -> Result<(), AllocError>
+pub(crate) fn begin(draft: &mut Draft, number: u16) -> Result<(), AllocError>
     ensures fields { OnOk result (draft.new.fields ≡ alone (identified number)) }
     ensures text { OnOk result (draft.new.text ≡ []) }
 {
-    draft.clear(alloc);
+    draft.clear();
     put_b12(&mut draft.text, number)?;
-    draft.end_field(alloc, *b"0001")
+    draft.end_field(*b"0001")
 }
 
 /// Adds the identifier of a vector record.
@@ -44,7 +44,7 @@ fn put_vector_identifier(out: &mut Octets, name: Name, version: u16) -> Result<(
 }
 
 /// Adds the fields of coordinates: one for those without a depth, and one for soundings.
-fn put_coordinates(alloc: Global, draft: &mut Draft, coords: &[Coord]) -> Result<(), AllocError>
+fn put_coordinates(draft: &mut Draft, coords: &[Coord]) -> Result<(), AllocError>
     requires { draft.old.text ≡ [] }
     ensures fields { OnOk result (draft.new.fields ≡ with_fields draft.old.fields
         (list_field (codes "SG2D") (flat_map point coords.now)
@@ -53,15 +53,14 @@ fn put_coordinates(alloc: Global, draft: &mut Draft, coords: &[Coord]) -> Result
     ensures in_range { OnOk result (AllByRecursion IsCoordInRange coords.now) }
 {
     put_points(&mut draft.text, coords)?;
-    draft.end_list(alloc, *b"SG2D")?;
+    draft.end_list(*b"SG2D")?;
     put_soundings(&mut draft.text, coords)?;
-    draft.end_list(alloc, *b"SG3D")
+    draft.end_list(*b"SG3D")
 }
 
 /// Makes the record of a vector.
 #[tactic(auto, unfolding(crate::specs::Vector::vector_fields))]
 pub(crate) fn draft_vector(
-    alloc: Global,
     draft: &mut Draft,
     number: u16,
     name: Name,
@@ -70,14 +69,14 @@ pub(crate) fn draft_vector(
     ensures fields { OnOk result (draft.new.fields ≡ alone (vector_fields number name vector.now)) }
     ensures in_range { OnOk result (IsVector name vector.now → IsVectorInRange (name, vector.now)) }
 {
-    begin(alloc, draft, number)?;
+    begin(draft, number)?;
     put_vector_identifier(&mut draft.text, name, vector.version)?;
-    draft.end_field(alloc, *b"VRID")?;
+    draft.end_field(*b"VRID")?;
     put_attributes(&mut draft.text, &vector.attrs)?;
-    draft.end_list(alloc, *b"ATTV")?;
+    draft.end_list(*b"ATTV")?;
     put_vector_pointers(&mut draft.text, vector.pointers.as_slice())?;
-    draft.end_list(alloc, *b"VRPT")?;
-    put_coordinates(alloc, draft, vector.coords.as_slice())
+    draft.end_list(*b"VRPT")?;
+    put_coordinates(draft, vector.coords.as_slice())
 }
 
 /// Adds the identifier of a feature record.
@@ -97,7 +96,6 @@ fn put_feature_identifier(out: &mut Octets, name: Name, feature: &Feature) -> Re
 /// Makes the record of a feature.
 #[tactic(auto, unfolding(crate::specs::Feature::feature_fields))]
 pub(crate) fn draft_feature(
-    alloc: Global,
     draft: &mut Draft,
     number: u16,
     name: Name,
@@ -106,17 +104,17 @@ pub(crate) fn draft_feature(
     ensures fields { OnOk result (draft.new.fields ≡ alone (feature_fields number name feature.now)) }
     ensures in_range { OnOk result (IsFeature name feature.now → IsFeatureEntryInRange (name, feature.now)) }
 {
-    begin(alloc, draft, number)?;
+    begin(draft, number)?;
     put_feature_identifier(&mut draft.text, name, feature)?;
-    draft.end_field(alloc, *b"FRID")?;
+    draft.end_field(*b"FRID")?;
     put_foid(&mut draft.text, feature.foid)?;
-    draft.end_field(alloc, *b"FOID")?;
+    draft.end_field(*b"FOID")?;
     put_attributes(&mut draft.text, &feature.attrs)?;
-    draft.end_list(alloc, *b"ATTF")?;
+    draft.end_list(*b"ATTF")?;
     put_related(&mut draft.text, feature.related.as_slice())?;
-    draft.end_list(alloc, *b"FFPT")?;
+    draft.end_list(*b"FFPT")?;
     put_feature_pointers(&mut draft.text, feature.pointers.as_slice())?;
-    draft.end_list(alloc, *b"FSPT")
+    draft.end_list(*b"FSPT")
 }
 
 /// Makes the record of a base file's general information.
@@ -132,26 +130,21 @@ pub(crate) fn draft_general(
     ensures header { OnOk result (IsFourBytes cell.now.header.scale → IsHeaderInRange cell.now.header) }
     ensures counts { OnOk result (AreCountsInRange cell.now) }
 {
-    begin(alloc, draft, number)?;
+    begin(draft, number)?;
     put_identification(alloc, &mut draft.text, Purpose::NewDataSet, &cell.header)?;
-    draft.end_field(alloc, *b"DSID")?;
+    draft.end_field(*b"DSID")?;
     put_structure(&mut draft.text, cell)?;
-    draft.end_field(alloc, *b"DSSI")
+    draft.end_field(*b"DSSI")
 }
 
 /// Makes the record of a base file's parameters.
 #[tactic(auto, unfolding(crate::specs::DataSet::parameter_fields))]
-pub(crate) fn draft_parameters(
-    alloc: Global,
-    draft: &mut Draft,
-    number: u16,
-    scale: u32,
-) -> Result<(), AllocError>
+pub(crate) fn draft_parameters(draft: &mut Draft, number: u16, scale: u32) -> Result<(), AllocError>
     ensures { OnOk result (draft.new.fields ≡ alone (parameter_fields number scale)) }
 {
-    begin(alloc, draft, number)?;
+    begin(draft, number)?;
     put_parameters(&mut draft.text, scale)?;
-    draft.end_field(alloc, *b"DSPM")
+    draft.end_field(*b"DSPM")
 }
 
 /// Makes the record of an update's general information.
@@ -164,7 +157,7 @@ pub(crate) fn draft_revision(
 ) -> Result<(), AllocError>
     ensures { OnOk result (draft.new.fields ≡ alone (revision_fields number header.now)) }
 {
-    begin(alloc, draft, number)?;
+    begin(draft, number)?;
     put_identification(alloc, &mut draft.text, Purpose::Revision, header)?;
-    draft.end_field(alloc, *b"DSID")
+    draft.end_field(*b"DSID")
 }

@@ -58,11 +58,11 @@ fn draft_area(
     ensures { OnOk result (draft.new.fields ≡ alone (modified_fields update area number)) }
 {
     let depth = decimal(alloc, update % 50)?;
-    begin(alloc, draft, number)?;
+    begin(draft, number)?;
     put_identifier(&mut draft.text, update, area)?;
-    draft.end_field(alloc, *b"FRID")?;
+    draft.end_field(*b"FRID")?;
     put_attribute(&mut draft.text, DRVAL1, depth.as_slice())?;
-    draft.end_field(alloc, *b"ATTF")
+    draft.end_field(*b"ATTF")
 }
 
 /// Adds the record of the general information.

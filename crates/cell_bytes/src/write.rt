@@ -47,8 +47,8 @@ pub fn spell_cell(alloc: Global, cell: &Cell) -> Result<Octets, WriteFault>
     let mut file = CellFile::new(alloc);
     put_descriptive_record(&mut file.bytes)?;
     file.put_general(alloc, cell)?;
-    file.put_parameters(alloc, cell)?;
-    let of_vectors = file.put_vectors(alloc, cell)?;
-    let of_features = file.put_features(alloc, cell)?;
+    file.put_parameters(cell)?;
+    let of_vectors = file.put_vectors(cell)?;
+    let of_features = file.put_features(cell)?;
     finish(file.into_bytes(), of_features.or(of_vectors))
 }

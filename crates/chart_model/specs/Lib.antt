@@ -1,4 +1,5 @@
 pub mod Answers
+pub mod Octets
 pub mod Codes
 pub mod Key
 pub mod Keys

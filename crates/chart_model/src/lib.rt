@@ -20,6 +20,7 @@ mod record;
 mod sequence;
 mod settings;
 mod shared;
+mod short;
 mod state;
 mod update_record;
 

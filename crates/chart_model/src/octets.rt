@@ -3,25 +3,37 @@
 //! Contracts see an `Octets` as a list of bytes, so that two of them are equal where their bytes are,
 //! whatever room each has left.
 
-ghost use Rattle.std.specs.Prelude.{◌≡◌, ◌++◌, IfOk, OnOk, OnErr, nat_eq};
+ghost use Rattle.std.specs.Prelude.{◌≡◌, ◌++◌, [], IfOk, OnOk, OnErr, nat_eq};
 ghost use Rattle.std.specs.Cmp.{partial_equiv_from_equiv};
 ghost use Rattle.std.specs.Cmp.Lexicographic.{pointwise, nat_list_eq_equiv};
+ghost use Rattle.chart_model.specs.Octets.{bytes_of};
 
+use crate::short::Short;
 use std::alloc::{AllocError, Global};
+use std::fmt::{Debug, Formatter, Write};
 use std::marker::Model;
 
-/// A list of bytes.
-#[derive(Debug, Drop)]
+/// A list of bytes. A few stand in place, since most values of charts are short texts and names.
+#[derive(Drop)]
 pub struct Octets {
-    bytes: Vec<u8>,
+    bytes: Bytes,
+}
+
+/// Where the bytes are.
+#[derive(Drop)]
+enum Bytes {
+    /// In place, and where more would take their memory.
+    Short(Short, Global),
+    Long(Vec<u8>),
 }
 
 impl Model for Octets {
     ghost use Rattle.std.specs.Prelude.{List, ℕ};
+    ghost use Rattle.chart_model.specs.Octets.{bytes_of};
 
     ghost Value = { List ℕ };
 
-    ghost view = { λ octets. octets.bytes.items };
+    ghost view = { λ octets. bytes_of octets.bytes };
 }
 
 impl Octets {
@@ -29,16 +41,20 @@ impl Octets {
     pub fn from_vec(bytes: Vec<u8>) -> Octets
         ensures { result ≡ bytes.items }
     {
-        Octets { bytes }
+        Octets {
+            bytes: Bytes::Long(bytes),
+        }
     }
 
     /// A copy of bytes, with no room beyond them.
     pub fn from_slice(alloc: Global, bytes: &[u8]) -> Result<Octets, AllocError>
         ensures { IfOk result (λ octets. octets ≡ bytes.now) }
     {
-        Ok(Octets {
-            bytes: Vec::from_slice(alloc, bytes)?,
-        })
+        let bytes = match Short::of(bytes) {
+            Some(short) => Bytes::Short(short, alloc),
+            None => Bytes::Long(Vec::from_slice(alloc, bytes)?),
+        };
+        Ok(Octets { bytes })
     }
 
     /// Adds bytes at the end. Where there is no memory nothing changes.
@@ -46,21 +62,49 @@ impl Octets {
         ensures ok { OnOk result (self.new ≡ self.old ++ bytes.now) }
         ensures err { OnErr result (self.new ≡ self.old) }
     {
-        self.bytes.extend_from_slice(bytes)
+        match &mut self.bytes {
+            Bytes::Long(all) => all.extend_from_slice(bytes),
+            Bytes::Short(short, alloc) => {
+                let all = joined(*alloc, short.as_slice(), bytes)?;
+                self.bytes = Bytes::Long(all);
+                Ok(())
+            }
+        }
     }
 
-    /// Gives the bytes back as a vector. It takes no memory.
-    pub fn into_vec(self) -> Vec<u8>
-        ensures { result.items ≡ self }
+    /// Takes the bytes out. The room of a long list stays.
+    pub fn clear(&mut self)
+        ensures { self.new ≡ [] }
     {
-        self.bytes
+        match &mut self.bytes {
+            Bytes::Long(all) => all.clear(),
+            Bytes::Short(_, alloc) => self.bytes = Bytes::Long(Vec::new(*alloc)),
+        }
     }
 
     /// The bytes. It takes no memory.
     pub fn as_slice(&self) -> &[u8]
         ensures { result.now ≡ self.now }
     {
-        self.bytes.as_slice()
+        match &self.bytes {
+            Bytes::Short(short, _) => short.as_slice(),
+            Bytes::Long(all) => all.as_slice(),
+        }
+    }
+}
+
+/// Bytes with others behind them.
+fn joined(alloc: Global, first: &[u8], then: &[u8]) -> Result<Vec<u8>, AllocError>
+    ensures { IfOk result (λ all. all.items ≡ first.now ++ then.now) }
+{
+    let mut all = Vec::from_slice(alloc, first)?;
+    all.extend_from_slice(then)?;
+    Ok(all)
+}
+
+impl Debug for Octets {
+    fn fmt<W: Write>(&self, f: &mut Formatter<W>) -> std::fmt::Result {
+        Debug::fmt(&self.as_slice(), f)
     }
 }
 
@@ -78,8 +122,10 @@ impl Clone for Octets {
     ghost is_clone = { λ octets copy. copy ≡ octets };
 
     fn clone(&self) -> Result<Octets, AllocError> {
-        Ok(Octets {
-            bytes: self.bytes.clone()?,
-        })
+        let bytes = match &self.bytes {
+            Bytes::Short(short, alloc) => Bytes::Short(short.copy(), *alloc),
+            Bytes::Long(all) => Bytes::Long(all.clone()?),
+        };
+        Ok(Octets { bytes })
     }
 }

@@ -27,9 +27,27 @@ fn keys(rt: HostRuntime) -> Result<(), Fail> {
 fn octets_give_their_bytes_back(rt: HostRuntime) -> Result<(), Fail> {
     let octets = Octets::from_vec(Vec::from_slice(rt.alloc(), b"\x00\xFF")?);
     assert_eq!(rt; octets.as_slice(), b"\x00\xFF".as_slice());
-    assert_eq!(rt; octets.into_vec().as_slice(), b"\x00\xFF".as_slice());
-    let copy = Octets::from_slice(rt.alloc(), b"\x00\xFF")?;
-    assert_eq!(rt; copy.as_slice(), b"\x00\xFF".as_slice());
+    Ok(())
+}
+
+#[test]
+fn octets_in_place_and_beyond(rt: HostRuntime) -> Result<(), Fail> {
+    let text = [7; 60];
+    for count in [0, 1, 21, 22, 23, 24, 60] {
+        let bytes = &text[..count];
+        let mut octets = Octets::from_slice(rt.alloc(), bytes)?;
+        assert_eq!(rt; octets.as_slice(), bytes, "{count}");
+        let copy = octets.clone()?;
+        octets.extend_from_slice(b"xy")?;
+        let mut all = Vec::from_slice(rt.alloc(), bytes)?;
+        all.extend_from_slice(b"xy")?;
+        assert_eq!(rt; octets.as_slice(), all.as_slice(), "{count}");
+        octets.clear();
+        assert_eq!(rt; octets.as_slice(), b"".as_slice(), "{count}");
+        octets.extend_from_slice(b"z")?;
+        assert_eq!(rt; octets.as_slice(), b"z".as_slice(), "{count}");
+        assert_eq!(rt; copy.as_slice(), bytes, "{count}");
+    }
     Ok(())
 }
 
