@@ -11,7 +11,7 @@ use Rattle.iso8211_records.specs.Kinds.{AreListed, layout_at, tags_of}
 use Rattle.iso8211_records.specs.Record.{field_bytes}
 use Rattle.chart_model.specs.Answers.{◌>>=◌, or_fault}
 use Rattle.iso8211_records.specs.declared.fault.FileFault.TheVariants.{Subfield}
-use Rattle.iso8211_records.specs.Reading.{first_without, is_described, unless_undescribed, Framed, record_at, values_by, field_by, fields_of, data_record_at}
+use Rattle.iso8211_records.specs.Reading.{first_without, is_described, undescribed, unless_undescribed, Framed, record_at, values_by, field_by, fields_of, data_record_at}
 use Rattle.iso8211_records.specs.Answers.{Fails}
 use Rattle.iso8211_records.specs.declared.record.RawField.{RawField}
 use Rattle.iso8211_records.specs.declared.fault.FileFault.{FileFault}
@@ -106,3 +106,49 @@ data_record-fails fault tags pairs number at bytes framed is_framed listed descr
     let step : data_record_at tags pairs number at bytes ≡ (fields_of tags pairs number framed.frame bytes framed.entries >>= λ fields. Ok (fields, framed.frame.length)) = rw (is_framed, described) refl in
     Fails-same fault _ _ (sym step)
     (Fails-bind fault _ _ (Fails-same fault _ _ (described_fields tags pairs number framed.frame bytes framed.entries listed described) fails))
+
+-- ---- the tags without a descriptor
+
+or-true : (b : Bool) → (b || true) ≡ true
+or-true true = refl
+or-true false = refl
+
+-- a tag is not one of these exactly where it isn't listed or has a descriptor
+described-test : (tags : List (List ℕ)) (pairs : List (List ℕ × Layout)) (tag : List ℕ)
+    → not (is_listed (undescribed tags pairs) tag) ≡ (not (is_listed tags tag) || is_some (layout_at pairs tag))
+described-test [] pairs tag = refl
+described-test (first ∷ tags) pairs tag =
+    by (bytes_eq first tag) (is_some (layout_at pairs first)) refl refl (described-test tags pairs tag)
+  where
+    by : (same has : Bool) → bytes_eq first tag ≡ same → is_some (layout_at pairs first) ≡ has
+        → not (is_listed (undescribed tags pairs) tag) ≡ (not (is_listed tags tag) || is_some (layout_at pairs tag))
+        → not (is_listed (undescribed (first ∷ tags) pairs) tag) ≡ (not (is_listed (first ∷ tags) tag) || is_some (layout_at pairs tag))
+    by true true e h more =
+        let is : first ≡ tag = (bytes_eq-Decides first tag).0 e in
+        let here : is_some (layout_at pairs tag) ≡ true = subst (λ (t : List ℕ). is_some (layout_at pairs t) ≡ true) is h in
+        rw (h, e, here) (more ∙ rw here (or-true (not (is_listed tags tag))))
+    by true false e h more =
+        let is : first ≡ tag = (bytes_eq-Decides first tag).0 e in
+        let here : is_some (layout_at pairs tag) ≡ false = subst (λ (t : List ℕ). is_some (layout_at pairs t) ≡ false) is h in
+        rw (h, e, here) refl
+    by false true e h more = rw (h, e) more
+    by false false e h more = rw (h, e) more
+
+first_without-same : (passes other : Entry → Bool) (entries : List Entry) → ((entry : Entry) → passes entry ≡ other entry) → first_without passes entries ≡ first_without other entries
+first_without-same passes other [] same = refl
+first_without-same passes other (entry ∷ entries) same = rw (same entry, first_without-same passes other entries same) refl
+
+-- so they tell which fields have none
+pub described-by : (tags without : List (List ℕ)) (pairs : List (List ℕ × Layout)) (entries : List Entry) → without ≡ undescribed tags pairs
+    → unless_undescribed (first_without (λ (entry : Entry). not (is_listed without entry.tag)) entries) ≡ unless_undescribed (first_without (is_described tags pairs) entries)
+described-by tags without pairs entries is =
+    ap unless_undescribed
+    (first_without-same (λ (entry : Entry). not (is_listed without entry.tag)) (is_described tags pairs) entries
+    (λ entry. rw is (described-test tags pairs entry.tag)))
+
+pub data_record-undescribed : (fault : FileFault) (tags : List (List ℕ)) (pairs : List (List ℕ × Layout)) (number at : ℕ) (bytes : List ℕ) (framed : Framed) → record_at tags false at bytes ≡ Ok framed
+    → Fails fault (unless_undescribed (first_without (is_described tags pairs) framed.entries)) → Fails fault (data_record_at tags pairs number at bytes)
+unfolding data_record_at
+data_record-undescribed fault tags pairs number at bytes framed is_framed bad =
+    let step : data_record_at tags pairs number at bytes ≡ (unless_undescribed (first_without (is_described tags pairs) framed.entries) >>= λ _. fields_of tags pairs number framed.frame bytes framed.entries >>= λ fields. Ok (fields, framed.frame.length)) = rw is_framed refl in
+    Fails-same fault _ _ (sym step) (Fails-bind fault _ _ bad)

@@ -7,7 +7,8 @@ use Rattle.iso8211_records.specs.declared.value.Value.{Value}
 use Rattle.iso8211_records.specs.declared.fault.FieldFault.{FieldFault}
 use Rattle.iso8211_records.specs.declared.fault.FieldFault.TheVariants.{Unspelled, NoMemory}
 use Rattle.iso8211_formats.specs.Reading.{◌>>=◌}
-use Rattle.iso8211_records.specs.Values.{Lacks, before, before_all, value_at, values_at, groups_at}
+use Rattle.iso8211_records.specs.Spelling.{FieldFormats}
+use Rattle.iso8211_records.specs.Values.{Lacks, before, before_all, value_at, values_at, groups_at, values_of}
 use Rattle.iso8211_formats.proofs.GivenValues.{bind_some}
 use Rattle.iso8211_records.proofs.FieldLaws.{values_at-found, AreSpelled-shorter, groups_at-nil}
 
@@ -71,17 +72,23 @@ groups-bound (suc bound) (suc other) group (byte ∷ bytes) enough enough_too so
     after-values bound other group bytes None same = refl
     after-values bound other group bytes (Some x) same = rw (same x.0 x.1 refl) refl
 
-join_groups : (front : List Value) (read : Option (List Value × List ℕ)) (values : List Value) (after : List ℕ) (bound : ℕ) (group : List Format) → before front read ≡ Some (values, after)
-    → before_all front (read >>= λ x. groups_at bound group x.1 >>= λ more. Some (x.0 ++ more)) ≡ before_all values (groups_at bound group after)
+-- values and then groups, at most so many by the bytes that are left
+pub join_groups : (front : List Value) (read : Option (List Value × List ℕ)) (values : List Value) (after : List ℕ) (bound : List ℕ → ℕ) (group : List Format) → before front read ≡ Some (values, after)
+    → before_all front (read >>= λ x. groups_at (bound x.1) group x.1 >>= λ more. Some (x.0 ++ more)) ≡ before_all values (groups_at (bound after) group after)
 join_groups front None values after bound group h = absurd cc
 join_groups front (Some x) values after bound group h =
     let is : front ++ x.0 ≡ values = grind arith in
     let left : x.1 ≡ after = grind arith in
-    rw (← is, ← left) (append_front front x.0 (groups_at bound group x.1))
+    rw (← is, ← left) (append_front front x.0 (groups_at (bound x.1) group x.1))
   where
     append_front : (front values : List Value) (read : Option (List Value)) → before_all front (read >>= λ more. Some (values ++ more)) ≡ before_all (front ++ values) read
     append_front front values None = refl
     append_front front values (Some more) = ap (λ (vs : List Value). Some vs) (sym (append_assoc front values more))
+
+pub no_groups : (front : List Value) (read : Option (List Value × List ℕ)) (bound : List ℕ → ℕ) (group : List Format) → before front read ≡ None
+    → before_all front (read >>= λ x. groups_at (bound x.1) group x.1 >>= λ more. Some (x.0 ++ more)) ≡ None
+no_groups front None bound group h = refl
+no_groups front (Some x) bound group h = absurd cc
 
 pub before-shorter : (front values : List Value) (group : List Format) (bytes after : List ℕ) → before front (values_at group bytes) ≡ Some (values, after) → length after + length group ≤ length bytes
 before-shorter front values group bytes after h =
@@ -101,7 +108,7 @@ groups-more front values group (byte ∷ bytes) after total some left one so_far
     let shorter : length after + length group ≤ length (byte ∷ bytes) = before-shorter front values group (byte ∷ bytes) after one in
     let less : length after ≤ length bytes = omega arith in
     let bound : groups_at (length bytes) group after ≡ groups_at (length after) group after = groups-bound (length bytes) (length after) group after less (omega arith) some in
-    ap (before_all values) (sym bound) ∙ sym (join_groups front (values_at group (byte ∷ bytes)) values after (length bytes) group one) ∙ so_far
+    ap (before_all values) (sym bound) ∙ sym (join_groups front (values_at group (byte ∷ bytes)) values after (λ _. length bytes) group one) ∙ so_far
 
 -- or none
 pub groups-fail : (fault : FieldFault) (front : List Value) (group : List Format) (bytes : List ℕ) (total : Option (List Value))
@@ -111,12 +118,7 @@ unfolding groups_at
 groups-fail NoMemory front group bytes total left none so_far = tt
 groups-fail Unspelled front group [] total left none so_far = absurd (omega arith)
 groups-fail Unspelled front group (byte ∷ bytes) total left none so_far =
-    sym so_far ∙ no_group front (values_at group (byte ∷ bytes)) (length bytes) group none
-  where
-    no_group : (front : List Value) (read : Option (List Value × List ℕ)) (bound : ℕ) (group : List Format) → before front read ≡ None
-        → before_all front (read >>= λ x. groups_at bound group x.1 >>= λ more. Some (x.0 ++ more)) ≡ None
-    no_group front None bound group h = refl
-    no_group front (Some x) bound group h = absurd cc
+    sym so_far ∙ no_groups front (values_at group (byte ∷ bytes)) (λ _. length bytes) group none
 
 -- and all of them
 pub groups-all : (front : List Value) (group : List Format) (bytes : List ℕ) (total : Option (List Value))
@@ -137,3 +139,18 @@ groups-none front (format ∷ group) bytes empty left = absurd (omega arith)
 
 pub shorter-rest : (after rest group : ℕ) → 0 < group → after + group ≤ rest → after < rest
 shorter-rest after rest group some less = omega arith
+
+pub longer : (least : ℕ) (front more : List Value) → least ≤ length front → least ≤ length (front ++ more)
+longer least front more long = omega (arith, length-append front more)
+
+-- ---- the values of a text
+
+pub values_of-joined : (front : List Value) (formats : FieldFormats) (text : List ℕ) (values : List Value) (after : List ℕ) → before front (values_at formats.once text) ≡ Some (values, after)
+    → before_all values (groups_at (length after) formats.group after) ≡ before_all front (values_of formats text)
+unfolding values_of
+values_of-joined front formats text values after h = sym (join_groups front (values_at formats.once text) values after length formats.group h)
+
+pub values_of-fails : (fault : FieldFault) (front : List Value) (formats : FieldFormats) (text : List ℕ) → Lacks fault (before front (values_at formats.once text)) → Lacks fault (before_all front (values_of formats text))
+unfolding values_of
+values_of-fails NoMemory front formats text h = tt
+values_of-fails Unspelled front formats text h = no_groups front (values_at formats.once text) length formats.group h

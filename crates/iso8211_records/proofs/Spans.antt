@@ -1,10 +1,12 @@
 -- Parts of a list that grows at its end.
-use Rattle.std.proofs.Common.{◌≡◌, ℕ, suc, zero, ◌-◌, List, [], ◌∷◌, ◌++◌, length, map, take, drop, get_or, refl, sym, ◌∙◌, ap, arith, length-append, length-drop}
+use Rattle.std.proofs.Common.{◌≡◌, ℕ, suc, zero, ◌-◌, ◌≤◌, List, [], ◌∷◌, ◌++◌, length, map, take, drop, get_or, Option, Some, None, Result, Ok, Err, OnOk, refl, sym, ◌∙◌, ap, subst, arith, length-drop}
 use Rattle.std.specs.List.{All}
-use Rattle.std.proofs.lemmas.List.{append-nil, drop-append-le, map-append, take-append-le, take_at}
-use Rattle.std.proofs.Math.Seq.{drop-append_seam}
+use Rattle.std.proofs.lemmas.List.{append-nil, drop-append-le, length-map, map-append, take-append-le, take_at}
 use Rattle.iso8211_records.specs.Draft.{AreFieldSpans, AreSpans, FieldSpan, IsSpan, field_of, fields_in, part}
 use Rattle.iso8211_records.specs.declared.draft.Span.{Span}
+use Rattle.iso8211_records.specs.Values.{Finds, before_all}
+use Rattle.iso8211_records.specs.declared.fault.FieldFault.{FieldFault}
+use Rattle.iso8211_records.specs.declared.fault.FieldFault.TheVariants.{Unspelled, NoMemory}
 use Rattle.iso8211_records.specs.declared.record.RawField.{RawField}
 use Rattle.iso8211_records.specs.declared.value.Value.{Value}
 
@@ -26,21 +28,53 @@ fields-kept spans values more are =
     same_of_each (field_of (values ++ more)) (field_of values) spans
     (λ k d below. ap (λ (part_values : List Value). record { tag = (get_or spans k d).0; values = part_values }) (part-kept values more (get_or spans k d).1 (are k d below)))
 
-pub records-kept : (spans : List Span) (fields more : List RawField) → AreSpans (length fields) spans → map (part (fields ++ more)) spans ≡ map (part fields) spans
+records-kept : (spans : List Span) (fields more : List RawField) → AreSpans (length fields) spans → map (part (fields ++ more)) spans ≡ map (part fields) spans
 records-kept spans fields more are =
     same_of_each (part (fields ++ more)) (part fields) spans (λ k d below. part-kept fields more (get_or spans k d) (are k d below))
 
--- what comes behind a list is the part from its end on
-pub part-last : {A : Type 0} (all more : List A) → part (all ++ more) (record { from = length all; to = length (all ++ more) }) ≡ more
-part-last all more =
-    ap (take (length (all ++ more) - length all)) (drop-append_seam all more)
-    ∙ (let count : length (all ++ more) - length all ≡ length more = omega (arith, length-append all more) in
-    rw count (ap (take (length more)) (sym (append-nil more)) ∙ take_at more [] (length more) refl))
+-- what stands behind a place is the part from there up to the end
+pub part-rest : {A : Type 0} (all : List A) (from : ℕ) → part all (record { from = from; to = length all }) ≡ drop from all
+part-rest all from =
+    (let count : length all - from ≡ length (drop from all) = sym (length-drop from all) in
+    rw count (ap (take (length (drop from all))) (sym (append-nil (drop from all))) ∙ take_at (drop from all) [] (length (drop from all)) refl))
 
--- a field more
-pub fields-more : (spans : List FieldSpan) (values more : List Value) (tag : List ℕ) → AreFieldSpans (length values) spans
-    → fields_in (spans ++ (tag, record { from = length values; to = length (values ++ more) }) ∷ []) (values ++ more)
-    ≡ fields_in spans values ++ record { tag = tag; values = more } ∷ []
-fields-more spans values more tag are =
-    map-append (field_of (values ++ more)) spans ((tag, record { from = length values; to = length (values ++ more) }) ∷ [])
-    ∙ rw (fields-kept spans values more are, part-last values more) refl
+-- a field more, of the values behind a place
+pub fields-more : (spans new : List FieldSpan) (values : List Value) (tag : List ℕ) (from to : ℕ)
+    → new ≡ spans ++ (tag, record { from = from; to = to }) ∷ [] → to ≡ length values
+    → fields_in new values ≡ fields_in spans values ++ record { tag = tag; values = drop from values } ∷ []
+fields-more spans new values tag from to more end =
+    ap (λ (all : List FieldSpan). fields_in all values) (rw end at more)
+    ∙ map-append (field_of values) spans ((tag, record { from = from; to = length values }) ∷ [])
+    ∙ rw (part-rest values from) refl
+
+-- leaves the records that are ended
+pub records-stay : (records : List Span) (spans : List FieldSpan) (values : List Value) (field : RawField) → AreSpans (length spans) records
+    → map (part (fields_in spans values ++ field ∷ [])) records ≡ map (part (fields_in spans values)) records
+records-stay records spans values field are =
+    records-kept records (fields_in spans values) (field ∷ []) (subst (λ n. AreSpans n records) (sym (length-map spans (field_of values))) are)
+
+-- and is the last of the record that isn't
+pub begun-more : (from : ℕ) (spans : List FieldSpan) (values : List Value) (field : RawField) → from ≤ length spans
+    → drop from (fields_in spans values ++ field ∷ []) ≡ drop from (fields_in spans values) ++ field ∷ []
+begun-more from spans values field inside =
+    drop-append-le from (fields_in spans values) (field ∷ []) (omega (arith, inside, length-map spans (field_of values)))
+
+-- values more, of the field that isn't ended yet
+pub values-more : {X : Type 0} (result : Result X FieldFault) (values new : List Value) (from : ℕ) (read : Option (List Value)) → from ≤ length values
+    → Finds (λ _. new) result (before_all values read) → Finds (λ _. drop from new) result (before_all (drop from values) read)
+values-more (Ok x) values new from None inside h = absurd cc
+values-more (Ok x) values new from (Some more) inside h =
+    let is : values ++ more ≡ new = grind arith in
+    ap (λ (l : List Value). Some l) (sym (drop-append-le from values more inside) ∙ ap (drop from) is)
+values-more (Err NoMemory) values new from read inside h = tt
+values-more (Err Unspelled) values new from None inside h = refl
+values-more (Err Unspelled) values new from (Some more) inside h = absurd cc
+
+-- and the fields before it stay
+pub fields-stay : {X : Type 0} (result : Result X FieldFault) (spans : List FieldSpan) (values new : List Value) (read : Option (List Value)) → AreFieldSpans (length values) spans
+    → Finds (λ _. new) result (before_all values read) → OnOk result (fields_in spans new ≡ fields_in spans values)
+fields-stay (Ok x) spans values new None are h = absurd cc
+fields-stay (Ok x) spans values new (Some more) are h =
+    let is : values ++ more ≡ new = grind arith in
+    ap (fields_in spans) (sym is) ∙ fields-kept spans values more are
+fields-stay (Err fault) spans values new read are h = tt

@@ -30,11 +30,17 @@ field_of values one = record { tag = one.0; values = part values one.1 }
 abbrev pub fields_in : List FieldSpan → List Value → List RawField
 fields_in spans values = map (field_of values) spans
 
--- the records that are ended, and the fields of the one that isn't yet
+-- the records that are ended, the fields of the one that isn't yet, and the values of its field that isn't yet
 pub record DraftValue : Type 0 where
   pub records : List (List RawField)
   pub begun : List RawField
+  pub values : List Value
 
--- the records of these fields, where the one that isn't ended yet begins at this place
-abbrev pub drafted : List Span → ℕ → List RawField → DraftValue
-drafted spans place fields = record { records = map (part fields) spans; begun = drop place fields }
+-- the records of these fields and values, where the record that isn't ended yet begins at one place among the fields, and
+-- the field that isn't at another among the values
+abbrev pub drafted : List Span → ℕ → List RawField → ℕ → List Value → DraftValue
+drafted spans fields_from fields values_from values = record {
+  records = map (part fields) spans;
+  begun = drop fields_from fields;
+  values = drop values_from values;
+}

@@ -10,4 +10,5 @@ pub mod Values
 pub mod Reading
 pub mod RecordFile
 pub mod Draft
+pub mod Wanted
 pub mod Fault

@@ -1,7 +1,7 @@
 -- Reading records from left to right, to the first fault.
 use Rattle.std.specs.Prelude.{ℕ, zero, suc, ◌+◌, ◌-◌, Bool, true, false, not, ◌&&◌, ◌||◌, ◌==◌, nat_lt, nat_le, List}
 use Rattle.std.specs.Prelude.{[], ◌∷◌, length, take, drop, slice_index, Option, Some, None, is_some, Result, Ok, Err}
-use Rattle.std.specs.Prelude.{if◌then◌else◌}
+use Rattle.std.specs.Prelude.{if◌then◌else◌, filter}
 use Rattle.chart_model.specs.Answers.{◌>>=◌, or_fault}
 use Rattle.iso8211_leader.specs.Leader.{Frame, frame_of}
 use Rattle.iso8211_leader.specs.Entry.{entry_size, entry_of, entry_text}
@@ -121,6 +121,10 @@ descriptive_record_at tags bytes = do
 -- whether the field has a descriptor, where its tag is listed
 abbrev pub is_described : List (List ℕ) → List (List ℕ × Layout) → Entry → Bool
 is_described tags descriptors entry = not (is_listed tags entry.tag) || is_some (layout_at descriptors entry.tag)
+
+-- the listed tags without a descriptor
+abbrev pub undescribed : List (List ℕ) → List (List ℕ × Layout) → List (List ℕ)
+undescribed tags descriptors = filter (λ tag. not (is_some (layout_at descriptors tag))) tags
 
 abbrev pub unless_undescribed : Option Entry → Result (Unit {0}) FileFault
 unless_undescribed None = Ok tt

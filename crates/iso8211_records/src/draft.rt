@@ -5,9 +5,13 @@
 
 ghost use Rattle.std.specs.Prelude.{◌≡◌, ◌++◌, ◌∷◌, ◌<◌, ◌^◌, [], length, map, IfOk, OnOk};
 ghost use Rattle.iso8211_records.specs.Draft.{AreFieldSpans, AreSpans, fields_in, part};
+ghost use Rattle.iso8211_records.specs.Values.{Finds, before_all, values_of};
 
+use crate::fault::FieldFault;
 use crate::record::{RawField, RawList, RawRecord};
 use crate::value::{Value, ValueList};
+use crate::values::read_values;
+use iso8211_formats::Format;
 use std::alloc::{AllocError, Global};
 use std::marker::Model;
 use std::rc::Rc;
@@ -19,7 +23,8 @@ pub(crate) struct Span {
     to: usize,
 }
 
-/// Data records as they are read. Contracts see the records that are ended, and the fields of the one that isn't yet.
+/// Data records as they are read. Contracts see the records that are ended, the fields of the one that isn't yet, and the
+/// values of the field that isn't yet.
 #[derive(Debug, Drop)]
 pub(crate) struct Draft {
     /// The values of the fields.
@@ -29,7 +34,9 @@ pub(crate) struct Draft {
     /// Where the fields of each record stand.
     records: Vec<Span>,
     /// Where the fields of the record begin that isn't ended yet.
-    begun: usize,
+    fields_from: usize,
+    /// Where the values of the field begin that isn't ended yet.
+    values_from: usize,
 }
 
 impl Model for Draft {
@@ -38,12 +45,13 @@ impl Model for Draft {
 
     ghost Value = { DraftValue };
 
-    ghost view = { λ draft. drafted draft.records.items draft.begun
-        (fields_in draft.fields.items draft.values.items) };
+    ghost view = { λ draft. drafted draft.records.items draft.fields_from
+        (fields_in draft.fields.items draft.values.items) draft.values_from draft.values.items };
 
     ghost invariant = { λ draft. AreFieldSpans (length draft.values.items) draft.fields.items
         × AreSpans (length draft.fields.items) draft.records.items
-        × (draft.begun ≤ length draft.fields.items) };
+        × (draft.fields_from ≤ length draft.fields.items)
+        × (draft.values_from ≤ length draft.values.items) };
 }
 
 impl Draft {
@@ -51,12 +59,14 @@ impl Draft {
     pub(crate) fn new(alloc: Global) -> Draft
         ensures records { result.records ≡ [] }
         ensures begun { result.begun ≡ [] }
+        ensures values { result.values ≡ [] }
     {
         Draft {
             values: Vec::new(alloc),
             fields: Vec::new(alloc),
             records: Vec::new(alloc),
-            begun: 0,
+            fields_from: 0,
+            values_from: 0,
         }
     }
 
@@ -68,20 +78,41 @@ impl Draft {
         self.records.len()
     }
 
-    /// Adds a field to the record that isn't ended yet, and moves its values out of the list.
-    pub(crate) fn add_field(
+    /// Reads the values of a field's text, and puts them behind those of the field that isn't ended yet: one by each of
+    /// the formats `once`, and then whole groups of values by the formats `group` up to the text's end.
+    ///
+    /// # Errors
+    ///
+    /// `Unspelled` exactly where the text has no such reading; `NoMemory`.
+    pub(crate) fn read_values(
         &mut self,
-        tag: [u8; 4],
-        values: &mut Vec<Value>,
-    ) -> Result<(), AllocError>
+        alloc: Global,
+        text: &[u8],
+        once: &[Format],
+        group: &[Format],
+    ) -> Result<(), FieldFault>
+        ensures read { Finds (λ _. self.new.values) result
+            (before_all self.old.values (values_of (record { once = once.now; group = group.now }) text.now)) }
+        ensures records { OnOk result (self.new.records ≡ self.old.records) }
+        ensures begun { OnOk result (self.new.begun ≡ self.old.begun) }
+    {
+        read_values(alloc, text, once, group, &mut self.values)
+    }
+
+    /// Ends the field, which has this tag.
+    pub(crate) fn end_field(&mut self, tag: [u8; 4]) -> Result<(), AllocError>
         ensures records { OnOk result (self.new.records ≡ self.old.records) }
         ensures begun { OnOk result (self.new.begun
-            ≡ self.old.begun ++ record { tag = tag; values = values.old.items } ∷ []) }
+            ≡ self.old.begun ++ record { tag = tag; values = self.old.values } ∷ []) }
+        ensures values { OnOk result (self.new.values ≡ []) }
     {
-        let from = self.values.len();
-        self.values.append(values)?;
         let to = self.values.len();
-        self.fields.push((tag, Span { from, to }))?;
+        let span = Span {
+            from: self.values_from,
+            to,
+        };
+        self.fields.push((tag, span))?;
+        self.values_from = to;
         Ok(())
     }
 
@@ -89,13 +120,14 @@ impl Draft {
     pub(crate) fn end_record(&mut self) -> Result<(), AllocError>
         ensures records { OnOk result (self.new.records ≡ self.old.records ++ self.old.begun ∷ []) }
         ensures begun { OnOk result (self.new.begun ≡ []) }
+        ensures values { OnOk result (self.new.values ≡ self.old.values) }
     {
         let to = self.fields.len();
         self.records.push(Span {
-            from: self.begun,
+            from: self.fields_from,
             to,
         })?;
-        self.begun = to;
+        self.fields_from = to;
         Ok(())
     }
 

@@ -4,19 +4,18 @@ ghost use Rattle.std.specs.Prelude.{◌≡◌, ◌≢◌, ◌⊎◌, ◌+◌, �
 ghost use Rattle.iso8211_records.specs.declared.fault.FileFault.{FileFault as FaultOfFile};
 ghost use Rattle.iso8211_records.specs.FileValue.{FileValue};
 ghost use Rattle.iso8211_records.specs.Answers.{Gives};
-ghost use Rattle.iso8211_records.specs.Kinds.{AreListed};
 ghost use Rattle.iso8211_records.specs.Reading.{data_records_at, come_to};
 ghost use Rattle.iso8211_records.specs.RecordFile.{IsRecordFile, record_file_of, data_records_in};
 ghost use Rattle.iso8211_records.specs.Fault.{HasFault};
 
 use crate::budget::Budget;
-use crate::data::{Scratch, read_data_record};
+use crate::data::read_data_record;
 use crate::descriptive::read_descriptive_record;
-use crate::descriptors::DescriptorMap;
 use crate::draft::Draft;
 use crate::fault::FileFault;
 use crate::laws::{faults_each, reads_each};
 use crate::record::{RawList, RecordFile};
+use crate::wanted::Wanted;
 use chart_ports::Steps;
 use std::alloc::Global;
 use std::sync::ledger::Ledger;
@@ -71,36 +70,33 @@ fn read_all<C: Ledger>(
     let (descriptors, rest) = read_descriptive_record(alloc, bytes, tags)?;
     let at = bytes.len() - rest.len();
     let mut budget = Budget::of_file(bytes.len());
-    let records = read_data_records(alloc, rest, at, tags, &descriptors, &mut budget, steps)?;
+    let wanted = Wanted::of(alloc, tags, &descriptors)?;
+    let records = read_data_records(alloc, rest, at, &wanted, &mut budget, steps)?;
+    drop(wanted);
     Ok(RecordFile {
         descriptors,
         records,
     })
 }
 
-/// Reads data records up to the end of the bytes, which begin at the place `at` of the file, and counts
-/// a step for each.
+/// Reads the wanted fields of data records up to the end of the bytes, which begin at the place `at` of the file, and
+/// counts a step for each.
 fn read_data_records<C: Ledger>(
     alloc: Global,
     bytes: &[u8],
     at: usize,
-    tags: &[[u8; 4]],
-    descriptors: &DescriptorMap,
+    wanted: &Wanted<'_>,
     budget: &mut Budget,
     steps: &mut Steps<C>,
 ) -> Result<RawList, FileFault>
     requires low { at + length bytes.now ≤ 2 ^ 63 }
-    requires listed { AreListed tags.now descriptors.now }
-    ensures read { Gives result (data_records_at (length bytes.now) tags.now descriptors.now 1 at bytes.now) }
+    ensures read { Gives result (data_records_at (length bytes.now) wanted.now.tags wanted.now.descriptors 1 at bytes.now) }
     ensures come_to { result ≢ Err FileFault.NoMemory
-        → steps.new ≡ steps.old + come_to (length bytes.now) tags.now descriptors.now 1 at bytes.now }
-    ensures at_most { steps.new ≤ steps.old + come_to (length bytes.now) tags.now descriptors.now 1 at bytes.now }
+        → steps.new ≡ steps.old + come_to (length bytes.now) wanted.now.tags wanted.now.descriptors 1 at bytes.now }
+    ensures at_most { steps.new ≤ steps.old + come_to (length bytes.now) wanted.now.tags wanted.now.descriptors 1 at bytes.now }
 {
     let mut draft = Draft::new(alloc);
-    let mut scratch = Scratch {
-        entries: Vec::new(alloc),
-        values: Vec::new(alloc),
-    };
+    let mut entries = Vec::new(alloc);
     let mut place = at;
     let mut rest = bytes;
     while !rest.is_empty() {
@@ -109,10 +105,9 @@ fn read_data_records<C: Ledger>(
             alloc,
             rest,
             place,
-            tags,
-            descriptors,
+            wanted,
             budget,
-            &mut scratch,
+            &mut entries,
             &mut draft,
         )?;
         draft.end_record()?;

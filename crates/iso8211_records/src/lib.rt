@@ -16,6 +16,7 @@ mod part;
 mod record;
 mod value;
 mod values;
+mod wanted;
 
 pub use descriptors::DescriptorMap;
 pub use fault::FileFault;

@@ -1,6 +1,6 @@
 //! The values of a field, from its text.
 
-ghost use Rattle.std.specs.Prelude.{◌≡◌, ◌⊎◌, ◌<◌, length, position, Ok, Err, Some, None, IfOk, IfSome};
+ghost use Rattle.std.specs.Prelude.{◌≡◌, ◌⊎◌, ◌≤◌, ◌<◌, length, position, Ok, Err, Some, None, IfOk, IfSome};
 ghost use Rattle.iso8211_records.specs.declared.value.Value.{Value as ValueOf};
 ghost use Rattle.iso8211_records.specs.Spelling.{unsigned, signed, IsNumberSize, FieldFormats};
 ghost use Rattle.iso8211_records.specs.Values.{Finds, front_at, open_text_at, value_at, values_at, groups_at};
@@ -14,8 +14,8 @@ use chart_model::codes::{FIELD_TERMINATOR, UNIT_TERMINATOR};
 use iso8211_formats::Format;
 use std::alloc::{AllocError, Global};
 
-/// Reads the values of a field's text, in place of those before: one by each of the formats `once`, and then whole
-/// groups of values by the formats `group` up to the text's end.
+/// Reads the values of a field's text, and puts them behind the others: one by each of the formats `once`, and then
+/// whole groups of values by the formats `group` up to the text's end.
 ///
 /// # Errors
 ///
@@ -28,10 +28,10 @@ pub(crate) fn read_values(
     group: &[Format],
     values: &mut Vec<Value>,
 ) -> Result<(), FieldFault>
-    ensures { Finds (λ _. values.new.items) result
-        (values_of (record { once = once.now; group = group.now }) text.now) }
+    ensures read { Finds (λ _. values.new.items) result
+        (before_all values.old.items (values_of (record { once = once.now; group = group.now }) text.now)) }
+    ensures grown { length values.old.items ≤ length values.new.items }
 {
-    values.clear();
     let rest = read_each(alloc, text, once, values)?;
     read_groups(alloc, rest, group, values)
 }
@@ -43,8 +43,9 @@ fn read_groups(
     group: &[Format],
     values: &mut Vec<Value>,
 ) -> Result<(), FieldFault>
-    ensures { Finds (λ _. values.new.items) result
+    ensures read { Finds (λ _. values.new.items) result
         (before_all values.old.items (groups_at (length bytes.now) group.now bytes.now)) }
+    ensures grown { length values.old.items ≤ length values.new.items }
 {
     if group.is_empty() {
         return if bytes.is_empty() {
@@ -67,8 +68,9 @@ fn read_each<'a>(
     formats: &[Format],
     values: &mut Vec<Value>,
 ) -> Result<&'a [u8], FieldFault>
-    ensures { Finds (λ rest. (values.new.items, rest.now)) result
+    ensures read { Finds (λ rest. (values.new.items, rest.now)) result
         (before values.old.items (values_at formats.now bytes.now)) }
+    ensures grown { length values.old.items ≤ length values.new.items }
 {
     let mut rest = bytes;
     for format in formats {

@@ -2,11 +2,11 @@ use Rattle.std.proofs.Common.{None, Some, arith, refl, ◌∙◌}
 use Rattle.iso8211_records.proofs.ListedTags.{field_by-none, field_by-some, listed-by}
 use Rattle.iso8211_records.proofs.data.read_field.Goals as goal
 
-pub returns-in-None-clause-read : goal.returns-in-None-clause-read
-returns-in-None-clause-read c = rw c.clear.ensures.items (field_by-none _ _ _ _ c.in-None.ensures)
+pub returns-in_default-clause-read : goal.returns-in_default-clause-read
+returns-in_default-clause-read c = rw c.requires.ended (field_by-none _ _ _ _ c.in_default.ensures)
 
-pub returns-in-None-clause-taken : goal.returns-in-None-clause-taken
-returns-in-None-clause-taken c = rw (listed-by _ _ None c.in-None.ensures) (omega arith)
+pub returns-in_default-clause-taken : goal.returns-in_default-clause-taken
+returns-in_default-clause-taken c = rw (listed-by _ _ None c.in_default.ensures) (omega arith)
 
 pub returns-in-Ok-clause-read : goal.returns-in-Ok-clause-read
 returns-in-Ok-clause-read c = field_by-some _ _ _ _ _ c.in-Some.ensures ∙ rw c.in-Ok.ensures.read refl

@@ -10,8 +10,9 @@ returns-in_err-read_field-clause-read c =
 
 pub loop-entry-preserved : goal.loop-entry-preserved
 loop-entry-preserved c = record {
-  records = c.in_ok-add_field.ensures.records ∙ c.loop-entry.invariant.records;
-  read = rw c.in_ok-add_field.ensures.begun (fields-more _ _ _ _ _ _ _ _ _ _ c.loop-entry-test.true (rw c.field_in-field.ensures.named at c.in_ok-read_field.ensures.read) c.loop-entry.invariant.read);
+  records = c.in_ok-end_field.ensures.records ∙ c.in_ok-read_field.ensures.records ∙ c.loop-entry.invariant.records;
+  values = c.in_ok-end_field.ensures.values;
+  read = rw (c.in_ok-end_field.ensures.begun, c.in_ok-read_field.ensures.begun) (fields-more _ _ _ _ _ _ _ _ _ _ c.loop-entry-test.true (rw c.field_in-field.ensures.named at c.in_ok-read_field.ensures.read) c.loop-entry.invariant.read);
   taken = taken-more _ _ _ _ _ _ _ c.loop-entry-test.true c.loop-entry.invariant.taken (rw c.field_in-field.ensures.whole at c.in_ok-read_field.ensures.taken);
 }
 

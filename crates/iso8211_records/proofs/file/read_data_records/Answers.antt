@@ -24,13 +24,13 @@ returns-in_err-length-clause-come_to g c =
 
 pub returns-in_err-length-clause-at_most : goal.returns-in_err-length-clause-at_most
 returns-in_err-length-clause-at_most g c =
-    let some = come_to-some c.args.tags.now c.args.descriptors.now (length c.loop-rest.draft.records + 1) c.loop-rest.place c.loop-rest.rest.now (empty-false _ c.loop-rest-test.ensures) in
+    let some = come_to-some c.args.wanted.now.tags c.args.wanted.now.descriptors (length c.loop-rest.draft.records + 1) c.loop-rest.place c.loop-rest.rest.now (empty-false _ c.loop-rest-test.ensures) in
     let so_far = c.loop-rest.invariant.steps in
     omega arith
 
 pub returns-in_err-end_record-clause-at_most : goal.returns-in_err-end_record-clause-at_most
 returns-in_err-end_record-clause-at_most g c =
-    let some = come_to-some c.args.tags.now c.args.descriptors.now (length c.loop-rest.draft.records + 1) c.loop-rest.place c.loop-rest.rest.now (empty-false _ c.loop-rest-test.ensures) in
+    let some = come_to-some c.args.wanted.now.tags c.args.wanted.now.descriptors (length c.loop-rest.draft.records + 1) c.loop-rest.place c.loop-rest.rest.now (empty-false _ c.loop-rest-test.ensures) in
     let so_far = c.loop-rest.invariant.steps in
     omega arith
 
@@ -40,7 +40,7 @@ loop-rest-preserved g c =
     let step = counted-more _ _ _ _ _ _ _ (empty-false _ c.loop-rest-test.ensures) one in
     let so_far = c.loop-rest.invariant.steps in
     record {
-      ended = c.in_ok-end_record.ensures.begun;
+      ended = (c.in_ok-end_record.ensures.begun, c.in_ok-end_record.ensures.values ∙ c.in_ok-length.ensures.values);
       place = let within = c.in_ok-length.ensures.within in let so_far_place = c.loop-rest.invariant.place in let len = c.split_at.ensures.back_len in omega arith;
       read = rw (c.in_ok-end_record.ensures.records, c.in_ok-length.ensures.records, c.split_at.ensures.back) (records-more _ _ _ _ _ _ _ _ (empty-false _ c.loop-rest-test.ensures) one c.loop-rest.invariant.read);
       steps = rw (c.in_ok-end_record.ensures.records, c.in_ok-length.ensures.records, c.split_at.ensures.back) (omega arith);
