@@ -17,7 +17,7 @@ pub(crate) fn number_in(text: &[u8]) -> Option<u32>
         if !byte.is_ascii_digit() {
             return None;
         }
-        number = 10 * number + (*byte as u32 - b'0' as u32);
+        number = 10 * number + (*byte - b'0') as u32;
     }
     Some(number)
 }

@@ -36,8 +36,8 @@ pub record DraftValue : Type 0 where
   pub begun : List RawField
   pub values : List Value
 
--- the records of these fields and values, where the record that isn't ended yet begins at one place among the fields, and
--- the field that isn't at another among the values
+-- the records of these fields and values, where the record that isn't ended yet begins at one place among the fields,
+-- and the field that isn't at another among the values
 abbrev pub drafted : List Span → ℕ → List RawField → ℕ → List Value → DraftValue
 drafted spans fields_from fields values_from values = record {
   records = map (part fields) spans;

@@ -72,6 +72,7 @@ fn read_all<C: Ledger>(
     let mut budget = Budget::of_file(bytes.len());
     let wanted = Wanted::of(alloc, tags, &descriptors)?;
     let records = read_data_records(alloc, rest, at, &wanted, &mut budget, steps)?;
+    // It borrows the descriptors, which move now.
     drop(wanted);
     Ok(RecordFile {
         descriptors,
