@@ -64,11 +64,29 @@ impl Octets {
     {
         match &mut self.bytes {
             Bytes::Long(all) => all.extend_from_slice(bytes),
-            Bytes::Short(short, alloc) => {
-                let all = joined(*alloc, short.as_slice(), bytes)?;
-                self.bytes = Bytes::Long(all);
-                Ok(())
-            }
+            Bytes::Short(..) => self.grow(bytes),
+        }
+    }
+
+    /// Adds bytes at the end of a few, which go to memory of their own. It stands apart, so that bytes are added to a
+    /// long list, as they nearly always are, in few steps.
+    #[cold]
+    #[inline(never)]
+    fn grow(&mut self, bytes: &[u8]) -> Result<(), AllocError>
+        ensures ok { OnOk result (self.new ≡ self.old ++ bytes.now) }
+        ensures err { OnErr result (self.new ≡ self.old) }
+    {
+        let mut all = Vec::from_slice(self.allocator(), self.as_slice())?;
+        all.extend_from_slice(bytes)?;
+        self.bytes = Bytes::Long(all);
+        Ok(())
+    }
+
+    /// Where its memory comes from.
+    fn allocator(&self) -> Global {
+        match &self.bytes {
+            Bytes::Short(_, alloc) => *alloc,
+            Bytes::Long(all) => *all.allocator(),
         }
     }
 
@@ -82,6 +100,16 @@ impl Octets {
         }
     }
 
+    /// The bytes as a vector. A few are copied, and a long list is taken over.
+    pub fn into_vec(self, alloc: Global) -> Result<Vec<u8>, AllocError>
+        ensures { IfOk result (λ bytes. bytes.items ≡ self) }
+    {
+        match self.bytes {
+            Bytes::Short(short, _) => Vec::from_slice(alloc, short.as_slice()),
+            Bytes::Long(all) => Ok(all),
+        }
+    }
+
     /// The bytes. It takes no memory.
     pub fn as_slice(&self) -> &[u8]
         ensures { result.now ≡ self.now }
@@ -91,15 +119,6 @@ impl Octets {
             Bytes::Long(all) => all.as_slice(),
         }
     }
-}
-
-/// Bytes with others behind them.
-fn joined(alloc: Global, first: &[u8], then: &[u8]) -> Result<Vec<u8>, AllocError>
-    ensures { IfOk result (λ all. all.items ≡ first.now ++ then.now) }
-{
-    let mut all = Vec::from_slice(alloc, first)?;
-    all.extend_from_slice(then)?;
-    Ok(all)
 }
 
 impl Debug for Octets {
