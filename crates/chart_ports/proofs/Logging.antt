@@ -1,11 +1,11 @@
 -- What a call on a disk in memory does, whether it was logged or not.
-use Rattle.std.proofs.Common.{◌≡◌, ◌≢◌, inl, inr, ℕ, ◌+◌, ◌≤◌, ◌∙◌, Bool, true, false, IsTrue, List, [], ◌∷◌, ◌++◌}
+use Rattle.std.proofs.Common.{◌≡◌, ◌≢◌, inl, inr, ℕ, ◌+◌, ◌≤◌, ◌∙◌, Bool, true, false, not, IsTrue, List, [], ◌∷◌, ◌++◌}
 use Rattle.std.proofs.Common.{Result, Ok, Err, OnOk, OnErr, append_assoc, length, take, drop, refl, sym, ap, subst}
 use Rattle.std.proofs.Common.{arith, length-append, length-take, length-drop}
 use Rattle.std.proofs.lemmas.List.{take_at, take-take}
 use Rattle.std.proofs.lemmas.Slice.{drop-append-drop}
 use Rattle.std.specs.Prelude.{vec_capacity, vec_len}
-use Rattle.chart_ports.specs.Disk.{CutShort, IsPlace, Only, Torn, written}
+use Rattle.chart_ports.specs.Disk.{CutShort, IsPlace, LeavesNoLess, Only, SameFiles, Torn, written}
 use Rattle.chart_ports.specs.Log.{Event, Might, SaysInside, Settled, State, Touched, after, leaves_after, leaves_inside}
 use Rattle.chart_ports.specs.Log.{files_after, opened, said_after, stepped, with_image}
 use Rattle.chart_ports.specs.MemoryDisk.{HasRoom, Keeps, Logs, SaysOnly, Stays, Touches, clock_of, contents_of, events}
@@ -34,6 +34,11 @@ cut_done n file = record { before = take-take n n file (omega arith); no_longer 
 
 not_true : IsTrue false → ⊥
 not_true is = cc is
+
+-- a call that failed was listed, or not logged
+pub not_done : (listed logged : Bool) → (IsTrue logged → IsTrue listed) → ¬ (IsTrue (not listed) × IsTrue logged)
+not_done true logged cause both = not_true both.0
+not_done false logged cause both = not_true (cause both.1)
 
 -- a write of a front of the bytes is a torn write of them all
 torn_written : (at done : ℕ) (bytes file : List ℕ) → at ≤ length file
@@ -345,6 +350,16 @@ module _ (old new : MemoryDisk) where
   settled_synced file true logged logs is_done is_logged = only_synced file [] (logs is_logged)
   settled_synced file false logged logs is_done is_logged = absurd (not_true is_done)
 
+  -- where it isn't done, or not logged, a crash may leave what it might have left before
+  pub unsettled_synced : (file : ℕ) (done logged : Bool) → (IsTrue logged → Logs old new (Sync file done, []))
+      → (¬ IsTrue logged → Stays old new) → ¬ (IsTrue done × IsTrue logged)
+      → LeavesNoLess (leaves_of old) (leaves_of new)
+  unsettled_synced file true true logs stays undone other image left = absurd (undone (refl, refl))
+  unsettled_synced file false true logs stays undone other image left =
+      subst (λ (s : State). s.leaves other image) (sym (state_logged _ (logs refl))) left
+  unsettled_synced file done false logs stays undone other image left =
+      subst (λ (s : State). s.leaves other image) (sym (state_stays (stays not_true))) left
+
   pub touches_written : (file at done : ℕ) (bytes : List ℕ) (logged : Bool)
       → (IsTrue logged → IsPlace (contents_of old) file at)
       → (IsTrue logged → Logs old new (Write file at done, bytes)) → (¬ IsTrue logged → Stays old new)
@@ -371,6 +386,13 @@ module _ (old new : MemoryDisk) where
       → contents_of new file ≡ take n (contents_of old file)
   now_cut file n true logged place logs is_done is = contents_cut file n [] ((place is).is_file) (logs is)
   now_cut file n false logged place logs is_done is = absurd (not_true is_done)
+
+  pub uncut : (file n : ℕ) (done logged : Bool) → (IsTrue logged → Logs old new (Cut file n done, []))
+      → (¬ IsTrue logged → Stays old new) → ¬ (IsTrue done × IsTrue logged)
+      → SameFiles (contents_of old) (contents_of new)
+  uncut file n true true logs stays undone other = absurd (undone (refl, refl))
+  uncut file n false true logs stays undone other = ap (λ (s : State). image_of s.files other) (state_logged _ (logs refl))
+  uncut file n done false logs stays undone other = ap (λ (s : State). image_of s.files other) (state_stays (stays not_true))
 
   pub says_logged : (done : ℕ) (bytes : List ℕ) (logged : Bool) → (IsTrue logged → Logs old new (Say done, bytes))
       → (¬ IsTrue logged → Stays old new) → SaysOnly bytes old new

@@ -49,6 +49,10 @@ SameOthers file old new = (other : ℕ) → other ≢ file → new other ≡ old
 abbrev pub LeavesNoMore : (ℕ → List ℕ → Type 0) → (ℕ → List ℕ → Type 0) → Type 0
 LeavesNoMore old new = (file : ℕ) (image : List ℕ) → new file image → old file image
 
--- the same of each file but this
+-- whatever a crash might have left of a file before, it may leave now: nothing was settled
+abbrev pub LeavesNoLess : (ℕ → List ℕ → Type 0) → (ℕ → List ℕ → Type 0) → Type 0
+LeavesNoLess old new = (file : ℕ) (image : List ℕ) → old file image → new file image
+
+-- whatever a crash may leave now of each file but this, it might have left before
 abbrev pub LeavesNoMoreOfOthers : ℕ → (ℕ → List ℕ → Type 0) → (ℕ → List ℕ → Type 0) → Type 0
 LeavesNoMoreOfOthers file old new = (other : ℕ) → other ≢ file → (image : List ℕ) → new other image → old other image

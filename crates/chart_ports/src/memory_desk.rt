@@ -3,7 +3,8 @@
 ghost use Rattle.std.specs.Prelude.{◌≡◌, ◌-◌, ◌/◌, ◌≤◌, ◌++◌, ◌+◌, [], List, ℕ, true, IfOk, OnOk, OnErr, IsErr};
 ghost use Rattle.std.specs.Prelude.{IsTrue, length, min, take, drop};
 ghost use Rattle.chart_ports.specs.Count.{HasCause};
-ghost use Rattle.chart_ports.specs.Disk.{CutShort, Follows, IsPlace, LeavesNoMore, LeavesNoMoreOfOthers, Only};
+ghost use Rattle.chart_ports.specs.Disk.{CutShort, Follows, IsPlace, LeavesNoLess, LeavesNoMore};
+ghost use Rattle.chart_ports.specs.Disk.{LeavesNoMoreOfOthers, Only};
 ghost use Rattle.chart_ports.specs.Disk.{SameFiles, SameOthers, Torn, written};
 ghost use Rattle.chart_ports.specs.Moments.{Elapses, image_of};
 ghost use Rattle.chart_ports.specs.Said.{SaysFront};
@@ -241,6 +242,7 @@ impl Desk for MemoryDesk {
         self.calls.end(listed, logged)
     }
 
+    #[tactic(auto, using(crate::proofs::Logging::not_done))]
     fn cut(&mut self, file: u8, length: u64) -> Result<(), Failed>
         ensures place { OnOk result (IsPlace (contents_of self.old) file length) }
         ensures cut { OnOk result (contents_of self.new file ≡ take length (contents_of self.old file)) }
@@ -252,10 +254,12 @@ impl Desk for MemoryDesk {
             (leaves_of self.new) (λ so_far. so_far ≡ said_of self.old) }
         ensures cause { HasCause (calls_of self.old).faults (calls_of self.new).faults result }
 
-        // Where the place and the room are there, it fails exactly where its number is on the list.
+        // Where the place and the room are there, it fails exactly where its number is on the list. Where it fails it
+        // has cut nothing.
         ensures listed { IsToFail (calls_of self.old) → IsErr result }
         ensures unlisted { IsPlace (contents_of self.old) file length → HasRoom self.old 1 0 → IsErr result →
             IsToFail (calls_of self.old) }
+        ensures uncut { IsErr result → SameFiles (contents_of self.old) (contents_of self.new) }
         ensures kept { (calls n : ℕ) → HasRoom self.old (calls + 1) n → HasRoom self.new calls n }
         ensures calls { CountsDeskCall (calls_of self.old) (calls_of self.new) (IsErr result) }
     {
@@ -264,6 +268,7 @@ impl Desk for MemoryDesk {
         self.calls.end(listed, logged)
     }
 
+    #[tactic(auto, using(crate::proofs::Logging::not_done))]
     fn sync(&mut self, file: u8) -> Result<(), Failed>
         ensures is_file { OnOk result (file ≤ 2) }
         ensures settled { OnOk result (Only (contents_of self.old file) (leaves_of self.new file)) }
@@ -275,10 +280,12 @@ impl Desk for MemoryDesk {
             (leaves_of self.old) (λ so_far. so_far ≡ said_of self.old) }
         ensures cause { HasCause (calls_of self.old).faults (calls_of self.new).faults result }
 
-        // Where the file and the room are there, it fails exactly where its number is on the list.
+        // Where the file and the room are there, it fails exactly where its number is on the list. Where it fails it
+        // has settled nothing.
         ensures files { SameFiles (contents_of self.old) (contents_of self.new) }
         ensures listed { IsToFail (calls_of self.old) → IsErr result }
         ensures unlisted { file ≤ 2 → HasRoom self.old 1 0 → IsErr result → IsToFail (calls_of self.old) }
+        ensures unsettled { IsErr result → LeavesNoLess (leaves_of self.old) (leaves_of self.new) }
         ensures kept { (calls n : ℕ) → HasRoom self.old (calls + 1) n → HasRoom self.new calls n }
         ensures calls { CountsDeskCall (calls_of self.old) (calls_of self.new) (IsErr result) }
     {

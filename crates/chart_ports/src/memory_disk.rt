@@ -2,7 +2,7 @@
 
 ghost use Rattle.std.specs.Prelude.{◌≡◌, ◌+◌, ◌≤◌, ◌++◌, [], ◌∷◌, List, ℕ, IfOk, IsOk, IsTrue, OnErr, OnOk};
 ghost use Rattle.std.specs.Prelude.{length, take, vec_capacity, vec_len};
-ghost use Rattle.chart_ports.specs.Disk.{CutShort, IsPlace, Only, Torn, written};
+ghost use Rattle.chart_ports.specs.Disk.{CutShort, IsPlace, LeavesNoLess, Only, SameFiles, Torn, written};
 ghost use Rattle.chart_ports.specs.Log.{after, events_of, opened, size_of};
 ghost use Rattle.chart_ports.specs.MemoryFiles.{files_in};
 
@@ -125,6 +125,7 @@ impl MemoryDisk {
     pub fn sync(&mut self, file: u8, done: bool) -> bool
         ensures keeps { Keeps self.old self.new }
         ensures settled { IsTrue done → IsTrue result → Only (contents_of self.old file) (leaves_of self.new file) }
+        ensures unsettled { ¬ (IsTrue done × IsTrue result) → LeavesNoLess (leaves_of self.old) (leaves_of self.new) }
         ensures is_file { IsTrue result → file ≤ 2 }
         ensures succeeds { file ≤ 2 → HasRoom self.old 1 0 → IsTrue result }
         ensures kept { (calls n : ℕ) → HasRoom self.old (calls + 1) n → HasRoom self.new calls n }
@@ -154,6 +155,7 @@ impl MemoryDisk {
         ensures touches { Touches (CutShort length) file self.old self.new }
         ensures cut { IsTrue done → IsTrue result →
             contents_of self.new file ≡ take length (contents_of self.old file) }
+        ensures uncut { ¬ (IsTrue done × IsTrue result) → SameFiles (contents_of self.old) (contents_of self.new) }
         ensures place { IsTrue result → IsPlace (contents_of self.old) file length }
         ensures succeeds { IsPlace (contents_of self.old) file length → HasRoom self.old 1 0 → IsTrue result }
         ensures kept { (calls n : ℕ) → HasRoom self.old (calls + 1) n → HasRoom self.new calls n }
