@@ -1,31 +1,18 @@
-use Rattle.std.proofs.Common.{◌<◌, refl, sym, arith}
-use Rattle.iso8211_leader.proofs.DigitsLemmas.{AreDigits-none, AreDigits-more, value-more, AreDigits-other, room, below-more}
+use Rattle.std.proofs.Common.{◌<◌, arith}
+use Rattle.iso8211_leader.specs.Digits.{weight_sum}
+use Rattle.iso8211_leader.proofs.DigitsLemmas.{weight_sum-below, digits-below, digits-below-most}
 use Rattle.iso8211_leader.proofs.digits.number_in.Goals as goal
 
-pub loop-byte-init : goal.loop-byte-init
-loop-byte-init c = record {
-  digits = AreDigits-none c.args.text.now;
-  value = refl;
-  below = omega arith;
-}
+pub returns-then-sum-from-clause-value : goal.returns-then-sum-from-clause-value
+returns-then-sum-from-clause-value c =
+    rw c.sum_of-sum.ensures (weight_sum-below c.args.text.now (omega arith))
 
-pub returns-then-not-is_ascii_digit-clause-value : goal.returns-then-not-is_ascii_digit-clause-value
-returns-then-not-is_ascii_digit-clause-value c =
-    AreDigits-other _ _ c.loop-byte-test.true (sym c.if-not-is_ascii_digit.ensures.value)
+pub returns-then-sum-from-clause-below : goal.returns-then-sum-from-clause-below
+returns-then-sum-from-clause-below c =
+    let small : weight_sum 0 c.args.text.now < 1000000000 = omega arith in
+    rw c.sum_of-sum.ensures (digits-below c.args.text.now c.requires (weight_sum-below c.args.text.now small).0).1
 
-pub overflow_mul-number : goal.overflow_mul-number
-overflow_mul-number c =
-    let small : c.loop-byte.number < 100000000 = room _ _ _ c.loop-byte.invariant.below c.loop-byte-test.true c.requires in
+pub returns-else-sum-from-clause-value : goal.returns-else-sum-from-clause-value
+returns-else-sum-from-clause-value c digits =
+    let most : weight_sum 0 c.args.text.now < 1000000000 = digits-below-most c.args.text.now c.requires digits in
     omega arith
-
-pub overflow_add-number : goal.overflow_add-number
-overflow_add-number c =
-    let small : c.loop-byte.number < 100000000 = room _ _ _ c.loop-byte.invariant.below c.loop-byte-test.true c.requires in
-    omega (arith, c.if-not-is_ascii_digit.ensures.cases)
-
-pub loop-byte-preserved : goal.loop-byte-preserved
-loop-byte-preserved c = record {
-  digits = AreDigits-more _ _ c.loop-byte-test.true c.loop-byte.invariant.digits (sym c.if-not-is_ascii_digit.ensures.value);
-  value = rw (value-more c.args.text.now c.loop-byte.byte-index c.loop-byte-test.true (sym c.if-not-is_ascii_digit.ensures.value), ← c.loop-byte.invariant.value);
-  below = below-more _ _ _ c.loop-byte.invariant.below c.if-not-is_ascii_digit.ensures.cases.1;
-}
