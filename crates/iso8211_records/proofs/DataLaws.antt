@@ -14,7 +14,7 @@ use Rattle.iso8211_records.specs.declared.fault.FileFault.{FileFault}
 use Rattle.iso8211_records.specs.declared.fault.FileFault.TheVariants.{Leader, Directory, Span, Terminator, Descriptor, Subfield, NoMemory}
 use Rattle.iso8211_records.specs.Tags.{is_listed}
 use Rattle.iso8211_records.specs.Kinds.{layout_at}
-use Rattle.iso8211_records.specs.Record.{IsRecord, IsInside, IsEnded, field_bytes, describing, IsDescriptiveRecord, HasValues, IsFieldOf, AreFieldsOf, IsDataRecord}
+use Rattle.iso8211_records.specs.Record.{IsRecord, IsInside, IsEnded, field_bytes, describing_entries, IsDescriptiveRecord, HasValues, IsFieldOf, AreFieldsOf, IsDataRecord}
 use Rattle.chart_model.specs.Answers.{◌>>=◌, or_fault}
 use Rattle.iso8211_records.specs.Reading.{first_without, is_described, unless_undescribed, Framed, record_at, descriptors_in, descriptive_record_at, values_by, field_by, fields_of, data_record_at}
 use Rattle.iso8211_records.specs.Fault.{IsFirstWithout, BeginsRecord, HasDescriptiveFault, IsDescribed, IsReadable, HasDataFault, HasFrameFault}
@@ -171,12 +171,12 @@ descriptors_in-same frame piece rest [] len inside = refl
 descriptors_in-same frame piece rest (entry ∷ entries) len inside =
     rw (same-field piece rest frame entry len inside.0, descriptors_in-same frame piece rest entries len inside.1) refl
 
-describing-inside : (tags seen : List (List ℕ)) (frame : Frame) (entries : List Entry) → AllByRecursion (IsInside frame) entries → AllByRecursion (IsInside frame) (describing tags seen entries)
-describing-inside tags seen frame [] inside = tt
-describing-inside tags seen frame (entry ∷ entries) inside =
-    elim (is_listed tags entry.tag && not (is_listed seen entry.tag)) as (λ b. AllByRecursion (IsInside frame) (cond b (entry ∷ describing tags (entry.tag ∷ seen) entries) (describing tags seen entries))) [
-      | true ↦ (inside.0, describing-inside tags (entry.tag ∷ seen) frame entries inside.1)
-      | false ↦ describing-inside tags seen frame entries inside.1
+describing_entries-inside : (tags seen : List (List ℕ)) (frame : Frame) (entries : List Entry) → AllByRecursion (IsInside frame) entries → AllByRecursion (IsInside frame) (describing_entries tags seen entries)
+describing_entries-inside tags seen frame [] inside = tt
+describing_entries-inside tags seen frame (entry ∷ entries) inside =
+    elim (is_listed tags entry.tag && not (is_listed seen entry.tag)) as (λ b. AllByRecursion (IsInside frame) (cond b (entry ∷ describing_entries tags (entry.tag ∷ seen) entries) (describing_entries tags seen entries))) [
+      | true ↦ (inside.0, describing_entries-inside tags (entry.tag ∷ seen) frame entries inside.1)
+      | false ↦ describing_entries-inside tags seen frame entries inside.1
     ]
 
 -- ---- data records
@@ -329,13 +329,13 @@ descriptive_record_at-found law tags bytes pairs rest h =
     let d = descriptive_record_at-is tags bytes pairs rest h in
     let b = record_at-found tags true 0 bytes d.framed d.is_framed in
     let k : IsRecord tags true b.piece d.framed.frame d.framed.entries = b.is_record in
-    let read : descriptors_in d.framed.frame b.piece (describing tags [] d.framed.entries) ≡ Ok pairs =
-    sym (descriptors_in-same d.framed.frame b.piece b.rest (describing tags [] d.framed.entries) k.whole (describing-inside tags [] d.framed.frame d.framed.entries k.inside))
-    ∙ ap (λ (l : List ℕ). descriptors_in d.framed.frame l (describing tags [] d.framed.entries)) (sym b.parts) ∙ d.describe in
+    let read : descriptors_in d.framed.frame b.piece (describing_entries tags [] d.framed.entries) ≡ Ok pairs =
+    sym (descriptors_in-same d.framed.frame b.piece b.rest (describing_entries tags [] d.framed.entries) k.whole (describing_entries-inside tags [] d.framed.frame d.framed.entries k.inside))
+    ∙ ap (λ (l : List ℕ). descriptors_in d.framed.frame l (describing_entries tags [] d.framed.entries)) (sym b.parts) ∙ d.describe in
     record {
       piece = b.piece;
       parts = b.parts ∙ ap (λ (l : List ℕ). b.piece ++ l) (b.rest_is ∙ d.rest_is);
-      is_record = record { frame = d.framed.frame; entries = d.framed.entries; is_record = k; describe = descriptors_in-found law d.framed.frame b.piece (describing tags [] d.framed.entries) pairs read };
+      is_record = record { frame = d.framed.frame; entries = d.framed.entries; is_record = k; describe = descriptors_in-found law d.framed.frame b.piece (describing_entries tags [] d.framed.entries) pairs read };
     }
 
 pub descriptive_record_at-again : SpellingLaw → (tags : List (List ℕ)) (piece rest : List ℕ) (pairs : List (List ℕ × Layout)) → IsDescriptiveRecord tags piece pairs → descriptive_record_at tags (piece ++ rest) ≡ Ok (pairs, rest)
@@ -343,8 +343,8 @@ unfolding descriptive_record_at
 descriptive_record_at-again law tags piece rest pairs h =
     let k : IsRecord tags true piece h.frame h.entries = h.is_record in
     let len : length piece ≡ h.frame.length = k.whole in
-    let read : descriptors_in h.frame (piece ++ rest) (describing tags [] h.entries) ≡ Ok pairs =
-    descriptors_in-same h.frame piece rest (describing tags [] h.entries) len (describing-inside tags [] h.frame h.entries k.inside) ∙ descriptors_in-again law h.frame piece (describing tags [] h.entries) pairs h.describe in
+    let read : descriptors_in h.frame (piece ++ rest) (describing_entries tags [] h.entries) ≡ Ok pairs =
+    descriptors_in-same h.frame piece rest (describing_entries tags [] h.entries) len (describing_entries-inside tags [] h.frame h.entries k.inside) ∙ descriptors_in-again law h.frame piece (describing_entries tags [] h.entries) pairs h.describe in
     rw (record_at-again tags true 0 piece rest h.frame h.entries k, read) (ap (λ (l : List ℕ). Ok (pairs, l)) (ap (λ n. drop n (piece ++ rest)) (sym len) ∙ drop-append_seam piece rest))
 
 to-descriptive-fault : (tags : List (List ℕ)) (bytes : List ℕ) (fault : FileFault) → HasFrameFault tags true 0 bytes fault → HasDescriptiveFault tags bytes fault
@@ -359,17 +359,17 @@ to-descriptive-fault tags bytes NoMemory h = absurd h
 pub descriptive_record_at-fault : SpellingLaw → (tags : List (List ℕ)) (bytes : List ℕ) (fault : FileFault) → descriptive_record_at tags bytes ≡ Err fault → HasDescriptiveFault tags bytes fault
 unfolding descriptive_record_at
 descriptive_record_at-fault law tags bytes fault h =
-    elim (err_bind (record_at tags true 0 bytes) (λ framed. descriptors_in framed.frame bytes (describing tags [] framed.entries) >>= λ descriptors. Ok (descriptors, drop framed.frame.length bytes)) fault h) [
+    elim (err_bind (record_at tags true 0 bytes) (λ framed. descriptors_in framed.frame bytes (describing_entries tags [] framed.entries) >>= λ descriptors. Ok (descriptors, drop framed.frame.length bytes)) fault h) [
       | inl bad ↦ to-descriptive-fault tags bytes fault (record_at-fault tags true 0 bytes fault bad)
       | inr good ↦
           (let b = record_at-found tags true 0 bytes good.0 good.1 in
-          elim (err_bind (descriptors_in good.0.frame bytes (describing tags [] good.0.entries)) (λ descriptors. Ok (descriptors, drop good.0.frame.length bytes)) fault good.2) [
+          elim (err_bind (descriptors_in good.0.frame bytes (describing_entries tags [] good.0.entries)) (λ descriptors. Ok (descriptors, drop good.0.frame.length bytes)) fault good.2) [
             | inl bad ↦
                 (let k : IsRecord tags true b.piece good.0.frame good.0.entries = b.is_record in
-                let here : descriptors_in good.0.frame b.piece (describing tags [] good.0.entries) ≡ Err fault =
-                sym (descriptors_in-same good.0.frame b.piece b.rest (describing tags [] good.0.entries) k.whole (describing-inside tags [] good.0.frame good.0.entries k.inside))
-                ∙ ap (λ (l : List ℕ). descriptors_in good.0.frame l (describing tags [] good.0.entries)) (sym b.parts) ∙ bad in
-                let f = descriptors_in-fault law good.0.frame b.piece (describing tags [] good.0.entries) fault here in
+                let here : descriptors_in good.0.frame b.piece (describing_entries tags [] good.0.entries) ≡ Err fault =
+                sym (descriptors_in-same good.0.frame b.piece b.rest (describing_entries tags [] good.0.entries) k.whole (describing_entries-inside tags [] good.0.frame good.0.entries k.inside))
+                ∙ ap (λ (l : List ℕ). descriptors_in good.0.frame l (describing_entries tags [] good.0.entries)) (sym b.parts) ∙ bad in
+                let f = descriptors_in-fault law good.0.frame b.piece (describing_entries tags [] good.0.entries) fault here in
                 subst (λ (x : FileFault). HasDescriptiveFault tags bytes x) (sym f.3) (b.piece, good.0.frame, good.0.entries, f.0, f.1, begins tags true bytes good.0 b, f.2, refl))
             | inr none ↦ absurd (let no = none.2 in cc)
           ])
@@ -387,8 +387,8 @@ descriptive_record_at-faulty law tags bytes (Descriptor tag) h =
     let b : BeginsRecord tags true bytes h.0 h.1 h.2 = h.5 in
     let k : IsRecord tags true h.0 h.1 h.2 = b.is_record in
     let framed : record_at tags true 0 bytes ≡ Ok (record { frame = h.1; entries = h.2 }) = ap (record_at tags true 0) b.parts ∙ record_at-again tags true 0 h.0 b.rest h.1 h.2 k in
-    let bad : descriptors_in h.1 bytes (describing tags [] h.2) ≡ Err (Descriptor h.4.tag) =
-    ap (λ (l : List ℕ). descriptors_in h.1 l (describing tags [] h.2)) b.parts
-    ∙ descriptors_in-same h.1 h.0 b.rest (describing tags [] h.2) k.whole (describing-inside tags [] h.1 h.2 k.inside)
-    ∙ descriptors_in-faulty law h.1 h.0 (describing tags [] h.2) h.3 h.4 h.6 in
+    let bad : descriptors_in h.1 bytes (describing_entries tags [] h.2) ≡ Err (Descriptor h.4.tag) =
+    ap (λ (l : List ℕ). descriptors_in h.1 l (describing_entries tags [] h.2)) b.parts
+    ∙ descriptors_in-same h.1 h.0 b.rest (describing_entries tags [] h.2) k.whole (describing_entries-inside tags [] h.1 h.2 k.inside)
+    ∙ descriptors_in-faulty law h.1 h.0 (describing_entries tags [] h.2) h.3 h.4 h.6 in
     rw (framed, bad, ← h.7) refl

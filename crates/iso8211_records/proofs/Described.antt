@@ -13,7 +13,7 @@ use Rattle.iso8211_records.specs.declared.fault.FileFault.TheVariants.{Descripto
 use Rattle.iso8211_records.specs.Tags.{is_listed}
 use Rattle.iso8211_records.specs.Kinds.{layout_at}
 use Rattle.iso8211_records.specs.Answers.{Fails}
-use Rattle.iso8211_records.specs.Record.{describing, field_bytes}
+use Rattle.iso8211_records.specs.Record.{describing_entries, field_bytes}
 use Rattle.chart_model.specs.Answers.{◌>>=◌, or_fault}
 use Rattle.iso8211_records.specs.Reading.{descriptors_in}
 use Rattle.iso8211_records.proofs.Directory.{behind, join}
@@ -50,40 +50,40 @@ HaveTags-push pairs seen pair h = record { same = λ tag. rw (layout_at-push pai
 pub described-more : (frame : Frame) (bytes : List ℕ) (tags seen : List (List ℕ)) (pairs : List (List ℕ × Layout)) (entries : List Entry) (i : ℕ) (layout : Layout) (total : Result (List (List ℕ × Layout)) FileFault)
     → i < length entries → (is_listed tags (get_or entries i no_entry).tag && not (is_listed seen (get_or entries i no_entry).tag)) ≡ true
     → or_fault (Descriptor (get_or entries i no_entry).tag) (descriptor_of (field_bytes frame bytes (get_or entries i no_entry))) ≡ Ok layout
-    → behind pairs (descriptors_in frame bytes (describing tags seen (drop i entries))) ≡ total
-    → behind (pairs ++ ((get_or entries i no_entry).tag, layout) ∷ []) (descriptors_in frame bytes (describing tags ((get_or entries i no_entry).tag ∷ seen) (drop (i + 1) entries))) ≡ total
+    → behind pairs (descriptors_in frame bytes (describing_entries tags seen (drop i entries))) ≡ total
+    → behind (pairs ++ ((get_or entries i no_entry).tag, layout) ∷ []) (descriptors_in frame bytes (describing_entries tags ((get_or entries i no_entry).tag ∷ seen) (drop (i + 1) entries))) ≡ total
 unfolding descriptors_in
 described-more frame bytes tags seen pairs entries i layout total inside is_new spelled so_far =
     let entry : Entry = get_or entries i no_entry in
-    let step : behind pairs (descriptors_in frame bytes (describing tags seen (drop i entries)))
-    ≡ behind (pairs ++ (entry.tag, layout) ∷ []) (descriptors_in frame bytes (describing tags (entry.tag ∷ seen) (drop (suc i) entries))) =
-    rw (drop-cons entries i no_entry inside, is_new, spelled) (join pairs (entry.tag, layout) (descriptors_in frame bytes (describing tags (entry.tag ∷ seen) (drop (suc i) entries)))) in
+    let step : behind pairs (descriptors_in frame bytes (describing_entries tags seen (drop i entries)))
+    ≡ behind (pairs ++ (entry.tag, layout) ∷ []) (descriptors_in frame bytes (describing_entries tags (entry.tag ∷ seen) (drop (suc i) entries))) =
+    rw (drop-cons entries i no_entry inside, is_new, spelled) (join pairs (entry.tag, layout) (descriptors_in frame bytes (describing_entries tags (entry.tag ∷ seen) (drop (suc i) entries)))) in
     rw add-one (sym step ∙ so_far)
 
 -- or none is to be read
 pub described-less : (frame : Frame) (bytes : List ℕ) (tags seen : List (List ℕ)) (pairs : List (List ℕ × Layout)) (entries : List Entry) (i : ℕ) (total : Result (List (List ℕ × Layout)) FileFault)
     → i < length entries → (is_listed tags (get_or entries i no_entry).tag && not (is_listed seen (get_or entries i no_entry).tag)) ≡ false
-    → behind pairs (descriptors_in frame bytes (describing tags seen (drop i entries))) ≡ total
-    → behind pairs (descriptors_in frame bytes (describing tags seen (drop (i + 1) entries))) ≡ total
+    → behind pairs (descriptors_in frame bytes (describing_entries tags seen (drop i entries))) ≡ total
+    → behind pairs (descriptors_in frame bytes (describing_entries tags seen (drop (i + 1) entries))) ≡ total
 described-less frame bytes tags seen pairs entries i total inside other so_far =
-    let step : describing tags seen (drop i entries) ≡ describing tags seen (drop (suc i) entries) = rw (drop-cons entries i no_entry inside, other) refl in
+    let step : describing_entries tags seen (drop i entries) ≡ describing_entries tags seen (drop (suc i) entries) = rw (drop-cons entries i no_entry inside, other) refl in
     rw add-one (ap (λ (es : List Entry). behind pairs (descriptors_in frame bytes es)) (sym step) ∙ so_far)
 
 -- or it describes nothing
 pub described-fail : (fault : FileFault) (frame : Frame) (bytes : List ℕ) (tags seen : List (List ℕ)) (pairs : List (List ℕ × Layout)) (entries : List Entry) (i : ℕ) (total : Result (List (List ℕ × Layout)) FileFault)
     → i < length entries → (is_listed tags (get_or entries i no_entry).tag && not (is_listed seen (get_or entries i no_entry).tag)) ≡ true
     → Fails fault (or_fault (Descriptor (get_or entries i no_entry).tag) (descriptor_of (field_bytes frame bytes (get_or entries i no_entry))))
-    → behind pairs (descriptors_in frame bytes (describing tags seen (drop i entries))) ≡ total → Fails fault total
+    → behind pairs (descriptors_in frame bytes (describing_entries tags seen (drop i entries))) ≡ total → Fails fault total
 unfolding descriptors_in
 described-fail fault frame bytes tags seen pairs entries i total inside is_new bad so_far =
     let entry : Entry = get_or entries i no_entry in
-    let step : behind pairs (descriptors_in frame bytes (describing tags seen (drop i entries)))
-    ≡ behind pairs (or_fault (Descriptor entry.tag) (descriptor_of (field_bytes frame bytes entry)) >>= λ layout. descriptors_in frame bytes (describing tags (entry.tag ∷ seen) (drop (suc i) entries)) >>= λ more. Ok ((entry.tag, layout) ∷ more)) =
+    let step : behind pairs (descriptors_in frame bytes (describing_entries tags seen (drop i entries)))
+    ≡ behind pairs (or_fault (Descriptor entry.tag) (descriptor_of (field_bytes frame bytes entry)) >>= λ layout. descriptors_in frame bytes (describing_entries tags (entry.tag ∷ seen) (drop (suc i) entries)) >>= λ more. Ok ((entry.tag, layout) ∷ more)) =
     rw (drop-cons entries i no_entry inside, is_new) refl in
     Fails-same fault _ _ (sym step ∙ so_far) (Fails-bind fault _ _ (Fails-bind fault _ _ bad))
 
 pub described-all : (frame : Frame) (bytes : List ℕ) (tags seen : List (List ℕ)) (pairs : List (List ℕ × Layout)) (entries : List Entry) (i : ℕ) (total : Result (List (List ℕ × Layout)) FileFault)
-    → length entries ≤ i → behind pairs (descriptors_in frame bytes (describing tags seen (drop i entries))) ≡ total → total ≡ Ok pairs
+    → length entries ≤ i → behind pairs (descriptors_in frame bytes (describing_entries tags seen (drop i entries))) ≡ total → total ≡ Ok pairs
 unfolding descriptors_in
 described-all frame bytes tags seen pairs entries i total done so_far =
     sym so_far ∙ rw (drop_of_length-le entries done) (ap (λ (ps : List (List ℕ × Layout)). Ok ps) (append-nil pairs))

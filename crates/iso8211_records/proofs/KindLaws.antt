@@ -8,11 +8,9 @@ use Rattle.std.proofs.lemmas.List.{length-drop}
 use Rattle.iso8211_formats.specs.Layout.{Layout}
 use Rattle.iso8211_formats.specs.Reading.{descriptor_of}
 use Rattle.iso8211_formats.specs.declared.format.Format.{Format}
-use Rattle.iso8211_formats.specs.declared.format.Format.TheVariants.{TextOpen, Text as TextOf, Unsigned, Signed, Bits as BitsOf}
 use Rattle.iso8211_leader.specs.Leader.{Frame}
 use Rattle.iso8211_leader.specs.declared.entry.Entry.{Entry}
 use Rattle.iso8211_records.specs.declared.value.Value.{Value}
-use Rattle.iso8211_records.specs.declared.value.Value.TheVariants.{Number, Text, Bits}
 use Rattle.iso8211_records.specs.declared.record.RawField.{RawField}
 use Rattle.iso8211_records.specs.declared.fault.FileFault.{FileFault}
 use Rattle.iso8211_records.specs.declared.fault.FileFault.TheVariants.{Descriptor, Subfield}
@@ -20,33 +18,21 @@ use Rattle.iso8211_records.specs.Tags.{is_listed}
 use Rattle.iso8211_records.specs.Spelling.{Spells, AreSpelled, formats_in, with_groups}
 use Rattle.iso8211_records.specs.Kinds.{layout_at, IsKind, AreKinds, FitsLayout, FitsTag}
 use Rattle.iso8211_records.specs.FileValue.{KeepsKinds}
-use Rattle.iso8211_records.specs.Record.{describing, field_bytes}
+use Rattle.iso8211_records.specs.Record.{describing_entries, field_bytes}
 use Rattle.iso8211_records.specs.Values.{values_of}
 use Rattle.chart_model.specs.Answers.{◌>>=◌, or_fault}
 use Rattle.iso8211_records.specs.Reading.{descriptors_in, descriptive_record_at, record_at, Framed, values_by, field_by, fields_of, data_record_at, data_records_at}
 use Rattle.iso8211_records.proofs.PassedTests.{both_parts}
 use Rattle.iso8211_records.proofs.FieldLaws.{values_of-found}
+use Rattle.iso8211_records.proofs.ValueLaws.{by_kind}
 use Rattle.iso8211_records.proofs.Results.{bind_ok}
 use Rattle.iso8211_records.proofs.Records.{data_record_at-is}
 
 -- ---- kinds
 
 Spells-kind : (format : Format) (value : Value) (bytes : List ℕ) → Spells format value bytes → IsKind format value
-Spells-kind TextOpen (Text text) bytes h = tt
-Spells-kind (TextOf width) (Text text) bytes h = tt
-Spells-kind (Unsigned size) (Number number) bytes h = tt
-Spells-kind (Signed size) (Number number) bytes h = tt
-Spells-kind (BitsOf count) (Bits bits) bytes h = tt
-Spells-kind TextOpen (Number number) bytes h = absurd h
-Spells-kind TextOpen (Bits bits) bytes h = absurd h
-Spells-kind (TextOf width) (Number number) bytes h = absurd h
-Spells-kind (TextOf width) (Bits bits) bytes h = absurd h
-Spells-kind (Unsigned size) (Text text) bytes h = absurd h
-Spells-kind (Unsigned size) (Bits bits) bytes h = absurd h
-Spells-kind (Signed size) (Text text) bytes h = absurd h
-Spells-kind (Signed size) (Bits bits) bytes h = absurd h
-Spells-kind (BitsOf count) (Number number) bytes h = absurd h
-Spells-kind (BitsOf count) (Text text) bytes h = absurd h
+Spells-kind format value bytes h =
+    by_kind (λ f v _. IsKind f v) (λ _ _ _. tt) (λ _ _ _ _. tt) (λ _ _ _ _. tt) (λ _ _ _ _. tt) (λ _ _ _ _. tt) format value bytes h
 
 AreSpelled-kinds : (formats : List Format) (values : List Value) (bytes : List ℕ) → AreSpelled formats values bytes → AreKinds formats values
 AreSpelled-kinds [] [] bytes h = tt
@@ -56,13 +42,13 @@ AreSpelled-kinds (format ∷ formats) (value ∷ values) bytes h = (Spells-kind 
 
 -- ---- descriptors have listed tags
 
-describing-listed : (tags seen : List (List ℕ)) (entries : List Entry) → AllByRecursion (λ (e : Entry). is_listed tags e.tag ≡ true) (describing tags seen entries)
-describing-listed tags seen [] = tt
-describing-listed tags seen (entry ∷ entries) =
+describing_entries-listed : (tags seen : List (List ℕ)) (entries : List Entry) → AllByRecursion (λ (e : Entry). is_listed tags e.tag ≡ true) (describing_entries tags seen entries)
+describing_entries-listed tags seen [] = tt
+describing_entries-listed tags seen (entry ∷ entries) =
     elim (is_listed tags entry.tag && not (is_listed seen entry.tag))
-    as (λ b. (is_listed tags entry.tag && not (is_listed seen entry.tag)) ≡ b → AllByRecursion (λ (e : Entry). is_listed tags e.tag ≡ true) (cond b (entry ∷ describing tags (entry.tag ∷ seen) entries) (describing tags seen entries))) [
-      | true ↦ λ e. ((both_parts _ _ e).0, describing-listed tags (entry.tag ∷ seen) entries)
-      | false ↦ λ e. describing-listed tags seen entries
+    as (λ b. (is_listed tags entry.tag && not (is_listed seen entry.tag)) ≡ b → AllByRecursion (λ (e : Entry). is_listed tags e.tag ≡ true) (cond b (entry ∷ describing_entries tags (entry.tag ∷ seen) entries) (describing_entries tags seen entries))) [
+      | true ↦ λ e. ((both_parts _ _ e).0, describing_entries-listed tags (entry.tag ∷ seen) entries)
+      | false ↦ λ e. describing_entries-listed tags seen entries
     ] refl
 
 descriptors_in-listed : (tags : List (List ℕ)) (frame : Frame) (bytes : List ℕ) (entries : List Entry) (pairs : List (List ℕ × Layout)) → AllByRecursion (λ (e : Entry). is_listed tags e.tag ≡ true) entries
@@ -97,14 +83,14 @@ layout_at-unlisted tags pairs tag listed other =
 pub record IsDescriptive (tags : List (List ℕ)) (bytes : List ℕ) (pairs : List (List ℕ × Layout)) (rest : List ℕ) : Type 0 where
   pub framed : Framed
   pub is_framed : record_at tags true 0 bytes ≡ Ok framed
-  pub describe : descriptors_in framed.frame bytes (describing tags [] framed.entries) ≡ Ok pairs
+  pub describe : descriptors_in framed.frame bytes (describing_entries tags [] framed.entries) ≡ Ok pairs
   pub rest_is : drop framed.frame.length bytes ≡ rest
 
 pub descriptive_record_at-is : (tags : List (List ℕ)) (bytes : List ℕ) (pairs : List (List ℕ × Layout)) (rest : List ℕ) → descriptive_record_at tags bytes ≡ Ok (pairs, rest) → IsDescriptive tags bytes pairs rest
 unfolding descriptive_record_at
 descriptive_record_at-is tags bytes pairs rest h =
-    let p = bind_ok (record_at tags true 0 bytes) (λ framed. descriptors_in framed.frame bytes (describing tags [] framed.entries) >>= λ descriptors. Ok (descriptors, drop framed.frame.length bytes)) (pairs, rest) h in
-    let q = bind_ok (descriptors_in p.0.frame bytes (describing tags [] p.0.entries)) (λ descriptors. Ok (descriptors, drop p.0.frame.length bytes)) (pairs, rest) p.2 in
+    let p = bind_ok (record_at tags true 0 bytes) (λ framed. descriptors_in framed.frame bytes (describing_entries tags [] framed.entries) >>= λ descriptors. Ok (descriptors, drop framed.frame.length bytes)) (pairs, rest) h in
+    let q = bind_ok (descriptors_in p.0.frame bytes (describing_entries tags [] p.0.entries)) (λ descriptors. Ok (descriptors, drop p.0.frame.length bytes)) (pairs, rest) p.2 in
     let found : List (List ℕ × Layout) × List ℕ = (q.0, drop p.0.frame.length bytes) in
     let is : found ≡ (pairs, rest) = cc in
     record {
@@ -123,7 +109,7 @@ descriptive-shorter tags bytes pairs rest h =
 pub descriptive-listed : (tags : List (List ℕ)) (bytes : List ℕ) (pairs : List (List ℕ × Layout)) (rest : List ℕ) → descriptive_record_at tags bytes ≡ Ok (pairs, rest) → AllByRecursion (λ (p : List ℕ × Layout). is_listed tags p.0 ≡ true) pairs
 descriptive-listed tags bytes pairs rest h =
     let d = descriptive_record_at-is tags bytes pairs rest h in
-    descriptors_in-listed tags d.framed.frame bytes (describing tags [] d.framed.entries) pairs (describing-listed tags [] d.framed.entries) d.describe
+    descriptors_in-listed tags d.framed.frame bytes (describing_entries tags [] d.framed.entries) pairs (describing_entries-listed tags [] d.framed.entries) d.describe
 
 values_by-some : (number : ℕ) (tag : List ℕ) (o : Option Layout) (bytes : List ℕ) (values : List Value) → or_fault (Subfield number tag) (values_by o bytes) ≡ Ok values → (layout : Layout) × (o ≡ Some layout) × FitsLayout layout values
 unfolding values_by

@@ -1,4 +1,4 @@
-mod Spans
+mod Extents
 mod Tagged
 mod PassedTests
 mod ValueLaws

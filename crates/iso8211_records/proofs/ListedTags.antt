@@ -11,7 +11,7 @@ use Rattle.iso8211_records.specs.Kinds.{AreListed, layout_at, tags_of}
 use Rattle.iso8211_records.specs.Record.{field_bytes}
 use Rattle.chart_model.specs.Answers.{◌>>=◌, or_fault}
 use Rattle.iso8211_records.specs.declared.fault.FileFault.TheVariants.{Subfield}
-use Rattle.iso8211_records.specs.Reading.{first_without, is_described, undescribed, unless_undescribed, Framed, record_at, values_by, field_by, fields_of, data_record_at}
+use Rattle.iso8211_records.specs.Reading.{first_without, is_described, tags_without_descriptor, unless_undescribed, Framed, record_at, values_by, field_by, fields_of, data_record_at}
 use Rattle.iso8211_records.specs.Answers.{Fails}
 use Rattle.iso8211_records.specs.declared.record.RawField.{RawField}
 use Rattle.iso8211_records.specs.declared.fault.FileFault.{FileFault}
@@ -115,14 +115,14 @@ or-true false = refl
 
 -- a tag is not one of these exactly where it isn't listed or has a descriptor
 described-test : (tags : List (List ℕ)) (pairs : List (List ℕ × Layout)) (tag : List ℕ)
-    → not (is_listed (undescribed tags pairs) tag) ≡ (not (is_listed tags tag) || is_some (layout_at pairs tag))
+    → not (is_listed (tags_without_descriptor tags pairs) tag) ≡ (not (is_listed tags tag) || is_some (layout_at pairs tag))
 described-test [] pairs tag = refl
 described-test (first ∷ tags) pairs tag =
     by (bytes_eq first tag) (is_some (layout_at pairs first)) refl refl (described-test tags pairs tag)
   where
     by : (same has : Bool) → bytes_eq first tag ≡ same → is_some (layout_at pairs first) ≡ has
-        → not (is_listed (undescribed tags pairs) tag) ≡ (not (is_listed tags tag) || is_some (layout_at pairs tag))
-        → not (is_listed (undescribed (first ∷ tags) pairs) tag) ≡ (not (is_listed (first ∷ tags) tag) || is_some (layout_at pairs tag))
+        → not (is_listed (tags_without_descriptor tags pairs) tag) ≡ (not (is_listed tags tag) || is_some (layout_at pairs tag))
+        → not (is_listed (tags_without_descriptor (first ∷ tags) pairs) tag) ≡ (not (is_listed (first ∷ tags) tag) || is_some (layout_at pairs tag))
     by true true e h more =
         let is : first ≡ tag = (bytes_eq-Decides first tag).0 e in
         let here : is_some (layout_at pairs tag) ≡ true = subst (λ (t : List ℕ). is_some (layout_at pairs t) ≡ true) is h in
@@ -139,7 +139,7 @@ first_without-same passes other [] same = refl
 first_without-same passes other (entry ∷ entries) same = rw (same entry, first_without-same passes other entries same) refl
 
 -- so they tell which fields have none
-pub described-by : (tags without : List (List ℕ)) (pairs : List (List ℕ × Layout)) (entries : List Entry) → without ≡ undescribed tags pairs
+pub described-by : (tags without : List (List ℕ)) (pairs : List (List ℕ × Layout)) (entries : List Entry) → without ≡ tags_without_descriptor tags pairs
     → unless_undescribed (first_without (λ (entry : Entry). not (is_listed without entry.tag)) entries) ≡ unless_undescribed (first_without (is_described tags pairs) entries)
 described-by tags without pairs entries is =
     ap unless_undescribed

@@ -4,8 +4,8 @@ use Rattle.std.proofs.Math.ListN.{drop_of_length-le}
 use Rattle.std.proofs.lemmas.List.{append-nil, length-append}
 use Rattle.iso8211_formats.specs.declared.format.Format.{Format}
 use Rattle.iso8211_records.specs.declared.value.Value.{Value}
-use Rattle.iso8211_records.specs.declared.fault.FieldFault.{FieldFault}
-use Rattle.iso8211_records.specs.declared.fault.FieldFault.TheVariants.{Unspelled, NoMemory}
+use Rattle.iso8211_records.specs.declared.fault.ValuesFault.{ValuesFault}
+use Rattle.iso8211_records.specs.declared.fault.ValuesFault.TheVariants.{Unspelled, NoMemory}
 use Rattle.iso8211_formats.specs.Reading.{◌>>=◌}
 use Rattle.iso8211_records.specs.Spelling.{FieldFormats}
 use Rattle.iso8211_records.specs.Values.{Lacks, before, before_all, value_at, values_at, groups_at, values_of}
@@ -27,7 +27,7 @@ values-more front formats i d bytes value after total inside one so_far =
     rw add-one (sym step ∙ so_far)
 
 -- or no value
-pub values-fail : (fault : FieldFault) (front : List Value) (formats : List Format) (i : ℕ) (d : Format) (bytes : List ℕ) (total : Option (List Value × List ℕ))
+pub values-fail : (fault : ValuesFault) (front : List Value) (formats : List Format) (i : ℕ) (d : Format) (bytes : List ℕ) (total : Option (List Value × List ℕ))
     → i < length formats → Lacks fault (value_at (get_or formats i d) bytes)
     → before front (values_at (drop i formats) bytes) ≡ total → Lacks fault total
 unfolding values_at
@@ -111,7 +111,7 @@ groups-more front values group (byte ∷ bytes) after total some left one so_far
     ap (before_all values) (sym bound) ∙ sym (join_groups front (values_at group (byte ∷ bytes)) values after (λ _. length bytes) group one) ∙ so_far
 
 -- or none
-pub groups-fail : (fault : FieldFault) (front : List Value) (group : List Format) (bytes : List ℕ) (total : Option (List Value))
+pub groups-fail : (fault : ValuesFault) (front : List Value) (group : List Format) (bytes : List ℕ) (total : Option (List Value))
     → 0 < length bytes → Lacks fault (before front (values_at group bytes))
     → before_all front (groups_at (length bytes) group bytes) ≡ total → Lacks fault total
 unfolding groups_at
@@ -150,7 +150,7 @@ pub values_of-joined : (front : List Value) (formats : FieldFormats) (text : Lis
 unfolding values_of
 values_of-joined front formats text values after h = sym (join_groups front (values_at formats.once text) values after length formats.group h)
 
-pub values_of-fails : (fault : FieldFault) (front : List Value) (formats : FieldFormats) (text : List ℕ) → Lacks fault (before front (values_at formats.once text)) → Lacks fault (before_all front (values_of formats text))
+pub values_of-fails : (fault : ValuesFault) (front : List Value) (formats : FieldFormats) (text : List ℕ) → Lacks fault (before front (values_at formats.once text)) → Lacks fault (before_all front (values_of formats text))
 unfolding values_of
 values_of-fails NoMemory front formats text h = tt
 values_of-fails Unspelled front formats text h = no_groups front (values_at formats.once text) length formats.group h

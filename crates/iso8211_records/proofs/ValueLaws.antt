@@ -1,5 +1,5 @@
 -- A value that is read at the front of bytes is spelled there, and one that is spelled there is read.
-use Rattle.std.proofs.Common.{◌≡◌, ℕ, suc, ◌+◌, ◌/◌, ◌≤◌, ◌<◌, Bool, true, false, cond, eqb, List, [], ◌∷◌, ◌++◌, length, get_or, take, drop, Option, Some, None, refl, sym, ap, ◌∙◌, subst, append_assoc, add-one, drop-cons, arith, inl, inr, not}
+use Rattle.std.proofs.Common.{◌≡◌, ℕ, ℤ, suc, ◌+◌, ◌/◌, ◌≤◌, ◌<◌, Bool, true, false, cond, eqb, List, [], ◌∷◌, ◌++◌, length, get_or, take, drop, Option, Some, None, refl, sym, ap, ◌∙◌, subst, append_assoc, add-one, drop-cons, arith, inl, inr, not}
 use Rattle.std.specs.Prelude.{position, pos, nat_lt, nat_le, ◌&&◌, ◌||◌}
 use Rattle.std.specs.List.{AllByRecursion, prefix_len}
 use Rattle.std.proofs.lemmas.Bool.Decides.{nat_tests}
@@ -171,42 +171,52 @@ value_at-found (BitsOf count) bytes value rest h =
     let found = front_at-found (count / 8) bytes p.0.0 p.0.1 p.1 in
     (p.0.0, found.parts ∙ ap (λ (l : List ℕ). p.0.0 ++ l) left, subst (λ (v : Value). Spells (BitsOf count) v p.0.0) is (found.some, found.len, refl))
 
+-- what holds of the spellings of each format by a value of its kind holds of each spelling
+pub by_kind : (P : Format → Value → List ℕ → Type 0)
+    → ((text bytes : List ℕ) → Spells TextOpen (Text text) bytes → P TextOpen (Text text) bytes)
+    → ((width : ℕ) (text bytes : List ℕ) → Spells (TextOf width) (Text text) bytes → P (TextOf width) (Text text) bytes)
+    → ((size : ℕ) (number : ℤ) (bytes : List ℕ) → Spells (Unsigned size) (Number number) bytes → P (Unsigned size) (Number number) bytes)
+    → ((size : ℕ) (number : ℤ) (bytes : List ℕ) → Spells (Signed size) (Number number) bytes → P (Signed size) (Number number) bytes)
+    → ((count : ℕ) (bits bytes : List ℕ) → Spells (BitsOf count) (Bits bits) bytes → P (BitsOf count) (Bits bits) bytes)
+    → (format : Format) (value : Value) (bytes : List ℕ) → Spells format value bytes → P format value bytes
+by_kind P in_open in_text in_unsigned in_signed in_bits TextOpen (Text text) bytes h = in_open text bytes h
+by_kind P in_open in_text in_unsigned in_signed in_bits (TextOf width) (Text text) bytes h = in_text width text bytes h
+by_kind P in_open in_text in_unsigned in_signed in_bits (Unsigned size) (Number number) bytes h = in_unsigned size number bytes h
+by_kind P in_open in_text in_unsigned in_signed in_bits (Signed size) (Number number) bytes h = in_signed size number bytes h
+by_kind P in_open in_text in_unsigned in_signed in_bits (BitsOf count) (Bits bits) bytes h = in_bits count bits bytes h
+by_kind P in_open in_text in_unsigned in_signed in_bits TextOpen (Number number) bytes h = absurd h
+by_kind P in_open in_text in_unsigned in_signed in_bits TextOpen (Bits bits) bytes h = absurd h
+by_kind P in_open in_text in_unsigned in_signed in_bits (TextOf width) (Number number) bytes h = absurd h
+by_kind P in_open in_text in_unsigned in_signed in_bits (TextOf width) (Bits bits) bytes h = absurd h
+by_kind P in_open in_text in_unsigned in_signed in_bits (Unsigned size) (Text text) bytes h = absurd h
+by_kind P in_open in_text in_unsigned in_signed in_bits (Unsigned size) (Bits bits) bytes h = absurd h
+by_kind P in_open in_text in_unsigned in_signed in_bits (Signed size) (Text text) bytes h = absurd h
+by_kind P in_open in_text in_unsigned in_signed in_bits (Signed size) (Bits bits) bytes h = absurd h
+by_kind P in_open in_text in_unsigned in_signed in_bits (BitsOf count) (Number number) bytes h = absurd h
+by_kind P in_open in_text in_unsigned in_signed in_bits (BitsOf count) (Text text) bytes h = absurd h
+
 pub value_at-again : (format : Format) (value : Value) (front rest : List ℕ) → Spells format value front → value_at format (front ++ rest) ≡ Some (value, rest)
 unfolding value_at
-value_at-again TextOpen (Text text) front rest h = rw (h.1, open_text_at-again text rest h.0) refl
-value_at-again (TextOf width) (Text text) front rest h = rw (h.2, front_at-again width text rest h.0 h.1) refl
-value_at-again (Unsigned size) (Number number) front rest h =
-    let some : 0 < size = number-some size front h.0 h.1 in
-    rw (is-number_size size h.0, front_at-again size front rest some h.1, h.2) refl
-value_at-again (Signed size) (Number number) front rest h =
-    let some : 0 < size = number-some size front h.0 h.1 in
-    rw (is-number_size size h.0, front_at-again size front rest some h.1, h.2) refl
-value_at-again (BitsOf count) (Bits bits) front rest h = rw (h.2, front_at-again (count / 8) bits rest h.0 h.1) refl
-value_at-again TextOpen (Number number) front rest h = absurd h
-value_at-again TextOpen (Bits bits) front rest h = absurd h
-value_at-again (TextOf width) (Number number) front rest h = absurd h
-value_at-again (TextOf width) (Bits bits) front rest h = absurd h
-value_at-again (Unsigned size) (Text text) front rest h = absurd h
-value_at-again (Unsigned size) (Bits bits) front rest h = absurd h
-value_at-again (Signed size) (Text text) front rest h = absurd h
-value_at-again (Signed size) (Bits bits) front rest h = absurd h
-value_at-again (BitsOf count) (Number number) front rest h = absurd h
-value_at-again (BitsOf count) (Text text) front rest h = absurd h
+value_at-again format value front rest h =
+    by_kind (λ f v bytes. value_at f (bytes ++ rest) ≡ Some (v, rest))
+    (λ text bytes h. rw (h.1, open_text_at-again text rest h.0) refl)
+    (λ width text bytes h. rw (h.2, front_at-again width text rest h.0 h.1) refl)
+    (λ size number bytes h.
+    let some : 0 < size = number-some size bytes h.0 h.1 in
+    rw (is-number_size size h.0, front_at-again size bytes rest some h.1, h.2) refl)
+    (λ size number bytes h.
+    let some : 0 < size = number-some size bytes h.0 h.1 in
+    rw (is-number_size size h.0, front_at-again size bytes rest some h.1, h.2) refl)
+    (λ count bits bytes h. rw (h.2, front_at-again (count / 8) bits rest h.0 h.1) refl)
+    format value front h
 
 -- each spelling has a byte at least
 pub Spells-some : (format : Format) (value : Value) (front : List ℕ) → Spells format value front → 0 < length front
-Spells-some TextOpen (Text text) front h = let len : length front ≡ length (text ++ 31 ∷ []) = ap length h.1 in omega (arith, length-append text (31 ∷ []))
-Spells-some (TextOf width) (Text text) front h = let len : length front ≡ length text = ap length h.2 in omega arith
-Spells-some (Unsigned size) (Number number) front h = let some : 0 < size = number-some size front h.0 h.1 in let len : length front ≡ size = h.1 in omega arith
-Spells-some (Signed size) (Number number) front h = let some : 0 < size = number-some size front h.0 h.1 in let len : length front ≡ size = h.1 in omega arith
-Spells-some (BitsOf count) (Bits bits) front h = let len : length front ≡ length bits = ap length h.2 in omega arith
-Spells-some TextOpen (Number number) front h = absurd h
-Spells-some TextOpen (Bits bits) front h = absurd h
-Spells-some (TextOf width) (Number number) front h = absurd h
-Spells-some (TextOf width) (Bits bits) front h = absurd h
-Spells-some (Unsigned size) (Text text) front h = absurd h
-Spells-some (Unsigned size) (Bits bits) front h = absurd h
-Spells-some (Signed size) (Text text) front h = absurd h
-Spells-some (Signed size) (Bits bits) front h = absurd h
-Spells-some (BitsOf count) (Number number) front h = absurd h
-Spells-some (BitsOf count) (Text text) front h = absurd h
+Spells-some format value front h =
+    by_kind (λ f v bytes. 0 < length bytes)
+    (λ text bytes h. let len : length bytes ≡ length (text ++ 31 ∷ []) = ap length h.1 in omega (arith, length-append text (31 ∷ [])))
+    (λ width text bytes h. let len : length bytes ≡ length text = ap length h.2 in omega (arith, h.0, h.1))
+    (λ size number bytes h. let some : 0 < size = number-some size bytes h.0 h.1 in omega (arith, h.1))
+    (λ size number bytes h. let some : 0 < size = number-some size bytes h.0 h.1 in omega (arith, h.1))
+    (λ count bits bytes h. let len : length bytes ≡ length bits = ap length h.2 in omega (arith, h.0, h.1))
+    format value front h

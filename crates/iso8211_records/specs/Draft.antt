@@ -2,33 +2,33 @@
 -- where each field and each record stands among them.
 use Rattle.std.specs.Prelude.{ℕ, ◌≤◌, List, All, drop, map}
 use Rattle.std.specs.List.{slice_range}
-use Rattle.iso8211_records.specs.declared.draft.Span.{Span}
+use Rattle.iso8211_records.specs.declared.draft.Extent.{Extent}
 use Rattle.iso8211_records.specs.declared.record.RawField.{RawField}
 use Rattle.iso8211_records.specs.declared.value.Value.{Value}
 
 -- what stands there in a list
-abbrev pub part : {A : Type 0} → List A → Span → List A
-part all span = slice_range all span.from span.to
+abbrev pub part : {A : Type 0} → List A → Extent → List A
+part all extent = slice_range all extent.from extent.to
 
 -- it ends at or behind its beginning, and before the end of a list of so many
-abbrev pub IsSpan : ℕ → Span → Type 0
-IsSpan count span = (span.from ≤ span.to) × (span.to ≤ count)
+abbrev pub IsExtent : ℕ → Extent → Type 0
+IsExtent count extent = (extent.from ≤ extent.to) × (extent.to ≤ count)
 
-abbrev pub AreSpans : ℕ → List Span → Type 0
-AreSpans count spans = All (IsSpan count) spans
+abbrev pub AreExtents : ℕ → List Extent → Type 0
+AreExtents count extents = All (IsExtent count) extents
 
 -- a field: its tag, and where its values stand
-abbrev pub FieldSpan : Type 0
-FieldSpan = List ℕ × Span
+abbrev pub FieldExtent : Type 0
+FieldExtent = List ℕ × Extent
 
-abbrev pub AreFieldSpans : ℕ → List FieldSpan → Type 0
-AreFieldSpans count spans = All (λ one. IsSpan count one.1) spans
+abbrev pub AreFieldExtents : ℕ → List FieldExtent → Type 0
+AreFieldExtents count extents = All (λ one. IsExtent count one.1) extents
 
-abbrev pub field_of : List Value → FieldSpan → RawField
+abbrev pub field_of : List Value → FieldExtent → RawField
 field_of values one = record { tag = one.0; values = part values one.1 }
 
-abbrev pub fields_in : List FieldSpan → List Value → List RawField
-fields_in spans values = map (field_of values) spans
+abbrev pub fields_in : List FieldExtent → List Value → List RawField
+fields_in extents values = map (field_of values) extents
 
 -- the records that are ended, the fields of the one that isn't yet, and the values of its field that isn't yet
 pub record DraftValue : Type 0 where
@@ -38,9 +38,9 @@ pub record DraftValue : Type 0 where
 
 -- the records of these fields and values, where the record that isn't ended yet begins at one place among the fields,
 -- and the field that isn't at another among the values
-abbrev pub drafted : List Span → ℕ → List RawField → ℕ → List Value → DraftValue
-drafted spans fields_from fields values_from values = record {
-  records = map (part fields) spans;
+abbrev pub draft_value : List Extent → ℕ → List RawField → ℕ → List Value → DraftValue
+draft_value extents fields_from fields values_from values = record {
+  records = map (part fields) extents;
   begun = drop fields_from fields;
   values = drop values_from values;
 }

@@ -17,7 +17,7 @@ use Rattle.iso8211_records.specs.Tags.{is_listed}
 use Rattle.iso8211_records.specs.Spelling.{formats_in, IsField}
 use Rattle.iso8211_records.specs.Kinds.{layout_at}
 use Rattle.iso8211_records.specs.Record.{IsDirectory, IsInside, IsEnded, IsRecord, IsDescriptiveRecord}
-use Rattle.iso8211_records.specs.Record.{AreDataRecords, field_bytes, describing}
+use Rattle.iso8211_records.specs.Record.{AreDataRecords, field_bytes, describing_entries}
 
 -- x is the first element of the list that isn't P, and so many stand before it
 pub record IsFirstWithout {A : Type 0} (P : A → Type 0) (xs : List A) (count : ℕ) (x : A) : Type 0 where
@@ -97,7 +97,7 @@ abbrev pub HasDescriptiveFault : List (List ℕ) → List ℕ → FileFault → 
 HasDescriptiveFault tags bytes (Descriptor tag) =
     (piece : List ℕ) × (frame : Frame) × (entries : List Entry) × (count : ℕ) × (entry : Entry)
     × BeginsRecord tags true bytes piece frame entries
-    × IsFirstWithout (Describes frame piece) (describing tags [] entries) count entry × (tag ≡ entry.tag)
+    × IsFirstWithout (Describes frame piece) (describing_entries tags [] entries) count entry × (tag ≡ entry.tag)
 HasDescriptiveFault tags bytes fault = HasFrameFault tags true 0 bytes fault
 
 -- the field has a descriptor, where its tag is listed

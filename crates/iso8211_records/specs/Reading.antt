@@ -17,7 +17,7 @@ use Rattle.chart_model.specs.Codes.{FIELD_TERMINATOR}
 use Rattle.iso8211_records.specs.Tags.{is_listed}
 use Rattle.iso8211_records.specs.Spelling.{formats_in}
 use Rattle.iso8211_records.specs.Kinds.{layout_at}
-use Rattle.iso8211_records.specs.Record.{field_end, field_bytes, describing}
+use Rattle.iso8211_records.specs.Record.{field_end, field_bytes, describing_entries}
 use Rattle.iso8211_records.specs.Frames.{is_leader, is_entry}
 use Rattle.iso8211_records.specs.Values.{values_of}
 
@@ -115,7 +115,7 @@ descriptors_in frame bytes (entry ∷ entries) = do
 unfoldable pub descriptive_record_at : List (List ℕ) → List ℕ → Result (List (List ℕ × Layout) × List ℕ) FileFault
 descriptive_record_at tags bytes = do
   framed ← record_at tags true 0 bytes
-  descriptors ← descriptors_in framed.frame bytes (describing tags [] framed.entries)
+  descriptors ← descriptors_in framed.frame bytes (describing_entries tags [] framed.entries)
   Ok (descriptors, drop framed.frame.length bytes)
 
 -- whether the field has a descriptor, where its tag is listed
@@ -123,8 +123,8 @@ abbrev pub is_described : List (List ℕ) → List (List ℕ × Layout) → Entr
 is_described tags descriptors entry = not (is_listed tags entry.tag) || is_some (layout_at descriptors entry.tag)
 
 -- the listed tags without a descriptor
-abbrev pub undescribed : List (List ℕ) → List (List ℕ × Layout) → List (List ℕ)
-undescribed tags descriptors = filter (λ tag. not (is_some (layout_at descriptors tag))) tags
+abbrev pub tags_without_descriptor : List (List ℕ) → List (List ℕ × Layout) → List (List ℕ)
+tags_without_descriptor tags descriptors = filter (λ tag. not (is_some (layout_at descriptors tag))) tags
 
 abbrev pub unless_undescribed : Option Entry → Result (Unit {0}) FileFault
 unless_undescribed None = Ok tt

@@ -53,12 +53,12 @@ pub record IsRecord (tags : List (List ℕ)) (first : Bool) (bytes : List ℕ) (
 -- ---- the data descriptive record
 
 -- the entries of the fields that describe: those with a listed tag, of each tag the first
-abbrev pub describing : List (List ℕ) → List (List ℕ) → List Entry → List Entry
-describing tags seen [] = []
-describing tags seen (entry ∷ entries) =
+abbrev pub describing_entries : List (List ℕ) → List (List ℕ) → List Entry → List Entry
+describing_entries tags seen [] = []
+describing_entries tags seen (entry ∷ entries) =
     if is_listed tags entry.tag && not (is_listed seen entry.tag)
-    then entry ∷ describing tags (entry.tag ∷ seen) entries
-    else describing tags seen entries
+    then entry ∷ describing_entries tags (entry.tag ∷ seen) entries
+    else describing_entries tags seen entries
 
 -- the layouts that the fields of these entries spell, under their tags
 abbrev pub AreDescriptors : Frame → List ℕ → List Entry → List (List ℕ × Layout) → Type 0
@@ -73,7 +73,7 @@ pub record IsDescriptiveRecord (tags : List (List ℕ)) (bytes : List ℕ)
   pub frame : Frame
   pub entries : List Entry
   pub is_record : IsRecord tags true bytes frame entries
-  pub describe : AreDescriptors frame bytes (describing tags [] entries) descriptors
+  pub describe : AreDescriptors frame bytes (describing_entries tags [] entries) descriptors
 
 -- ---- data records
 

@@ -8,18 +8,18 @@ use Rattle.iso8211_formats.specs.declared.format.Format.TheVariants.{TextOpen, T
 use Rattle.iso8211_formats.specs.declared.format.Format.TheVariants.{Bits as BitsOf}
 use Rattle.iso8211_records.specs.declared.value.Value.{Value}
 use Rattle.iso8211_records.specs.declared.value.Value.TheVariants.{Number, Text, Bits}
-use Rattle.iso8211_records.specs.declared.fault.FieldFault.{FieldFault}
-use Rattle.iso8211_records.specs.declared.fault.FieldFault.TheVariants.{Unspelled, NoMemory}
+use Rattle.iso8211_records.specs.declared.fault.ValuesFault.{ValuesFault}
+use Rattle.iso8211_records.specs.declared.fault.ValuesFault.TheVariants.{Unspelled, NoMemory}
 use Rattle.chart_model.specs.Codes.{FIELD_TERMINATOR, UNIT_TERMINATOR}
 use Rattle.iso8211_records.specs.Spelling.{unsigned, signed, FieldFormats}
 
 -- A reader of a field failed so: there is nothing to be read, unless memory ran out.
-abbrev pub Lacks : {Y : Type 0} → FieldFault → Option Y → Type 0
+abbrev pub Lacks : {Y : Type 0} → ValuesFault → Option Y → Type 0
 Lacks Unspelled read = read ≡ None
 Lacks NoMemory read = Unit {0}
 
 -- What a reader of a field returned, seen by view, is what there is to be read, unless memory ran out.
-abbrev pub Finds : {X Y : Type 0} → (X → Y) → Result X FieldFault → Option Y → Type 0
+abbrev pub Finds : {X Y : Type 0} → (X → Y) → Result X ValuesFault → Option Y → Type 0
 Finds view (Ok x) read = read ≡ Some (view x)
 Finds view (Err fault) read = Lacks fault read
 

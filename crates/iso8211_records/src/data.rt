@@ -14,8 +14,8 @@ ghost use Rattle.iso8211_records.specs.Reading.{data_record_at, fields_of, field
 
 use crate::budget::Budget;
 use crate::descriptors::DescriptorMap;
-use crate::draft::Draft;
-use crate::fault::{FieldFault, FileFault};
+use crate::draft::RecordsDraft;
+use crate::fault::{FileFault, ValuesFault};
 use crate::frame::{field_in, read_frame};
 use crate::wanted::Wanted;
 use iso8211_formats::{Descriptor, Format};
@@ -32,7 +32,7 @@ pub(crate) fn read_data_record(
     wanted: &Wanted<'_>,
     budget: &mut Budget,
     entries: &mut Vec<Entry>,
-    draft: &mut Draft,
+    draft: &mut RecordsDraft,
 ) -> Result<usize, FileFault>
     requires low { at ≤ 2 ^ 63 }
     requires ended { (draft.old.begun ≡ []) × (draft.old.values ≡ []) }
@@ -67,7 +67,7 @@ fn read_fields(
     budget: &mut Budget,
     leader: &Leader,
     entries: &[Entry],
-    draft: &mut Draft,
+    draft: &mut RecordsDraft,
 ) -> Result<(), FileFault>
     requires whole { leader.now.length ≤ length bytes.now }
     requires inside { AllByRecursion (IsInside (frame leader.now)) entries.now }
@@ -96,7 +96,7 @@ fn read_field(
     descriptors: &DescriptorMap,
     budget: &mut Budget,
     tag: [u8; 4],
-    draft: &mut Draft,
+    draft: &mut RecordsDraft,
 ) -> Result<(), FileFault>
     requires ended { draft.old.values ≡ [] }
     ensures read { GivesBy (λ _. record { tag = tag; values = draft.new.values }) result
@@ -111,8 +111,8 @@ fn read_field(
     };
     match read_by(alloc, field, descriptor, budget, draft) {
         Ok(()) => Ok(()),
-        Err(FieldFault::Unspelled) => Err(FileFault::Subfield(number, tag)),
-        Err(FieldFault::NoMemory) => Err(FileFault::NoMemory),
+        Err(ValuesFault::Unspelled) => Err(FileFault::Subfield(number, tag)),
+        Err(ValuesFault::NoMemory) => Err(FileFault::NoMemory),
     }
 }
 
@@ -123,8 +123,8 @@ fn read_by(
     field: &[u8],
     descriptor: &Descriptor,
     budget: &mut Budget,
-    draft: &mut Draft,
-) -> Result<(), FieldFault>
+    draft: &mut RecordsDraft,
+) -> Result<(), ValuesFault>
     requires ended { draft.old.values ≡ [] }
     ensures read { Finds (λ _. draft.new.values) result (values_by (Some descriptor.now) field.now) }
     ensures records { OnOk result (draft.new.records ≡ draft.old.records) }

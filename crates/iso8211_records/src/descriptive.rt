@@ -7,7 +7,7 @@ ghost use Rattle.iso8211_formats.specs.Reading.{descriptor_of};
 ghost use Rattle.iso8211_records.specs.Answers.{Gives, GivesBy};
 ghost use Rattle.iso8211_records.specs.Tags.{is_listed};
 ghost use Rattle.iso8211_records.specs.Kinds.{layout_at};
-ghost use Rattle.iso8211_records.specs.Record.{IsInside, describing};
+ghost use Rattle.iso8211_records.specs.Record.{IsInside, describing_entries};
 ghost use Rattle.chart_model.specs.Answers.{or_fault};
 ghost use Rattle.iso8211_records.specs.Reading.{descriptors_in, descriptive_record_at};
 
@@ -45,7 +45,7 @@ fn read_descriptors(
 ) -> Result<DescriptorMap, FileFault>
     requires whole { leader.now.length ≤ length bytes.now }
     requires inside { AllByRecursion (IsInside (frame leader.now)) entries.now }
-    ensures { Gives result (descriptors_in (frame leader.now) bytes.now (describing tags.now [] entries.now)) }
+    ensures { Gives result (descriptors_in (frame leader.now) bytes.now (describing_entries tags.now [] entries.now)) }
 {
     let mut descriptors = DescriptorMap::new(alloc);
     for entry in entries {

@@ -4,10 +4,10 @@
 //! so that no field and no record takes memory of its own.
 
 ghost use Rattle.std.specs.Prelude.{◌≡◌, ◌++◌, ◌∷◌, ◌<◌, ◌^◌, [], length, map, IfOk, OnOk};
-ghost use Rattle.iso8211_records.specs.Draft.{AreFieldSpans, AreSpans, fields_in, part};
+ghost use Rattle.iso8211_records.specs.Draft.{AreFieldExtents, AreExtents, fields_in, part};
 ghost use Rattle.iso8211_records.specs.Values.{Finds, before_all, values_of};
 
-use crate::fault::FieldFault;
+use crate::fault::ValuesFault;
 use crate::record::{RawField, RawList, RawRecord};
 use crate::value::{Value, ValueList};
 use crate::values::read_values;
@@ -18,7 +18,7 @@ use std::rc::Rc;
 
 /// Where a part of a list begins, and where it ends.
 #[derive(Clone, Copy, Debug)]
-pub(crate) struct Span {
+pub(crate) struct Extent {
     from: usize,
     to: usize,
 }
@@ -26,42 +26,42 @@ pub(crate) struct Span {
 /// Data records as they are read. Contracts see the records that are ended, the fields of the one that isn't yet, and the
 /// values of the field that isn't yet.
 #[derive(Debug, Drop)]
-pub(crate) struct Draft {
+pub(crate) struct RecordsDraft {
     /// The values of the fields.
     values: Vec<Value>,
     /// Each field's tag, and where its values stand.
-    fields: Vec<([u8; 4], Span)>,
+    fields: Vec<([u8; 4], Extent)>,
     /// Where the fields of each record stand.
-    records: Vec<Span>,
+    records: Vec<Extent>,
     /// Where the fields of the record begin that isn't ended yet.
     fields_from: usize,
     /// Where the values of the field begin that isn't ended yet.
     values_from: usize,
 }
 
-impl Model for Draft {
+impl Model for RecordsDraft {
     ghost use Rattle.std.specs.Prelude.{◌≤◌, length};
-    ghost use Rattle.iso8211_records.specs.Draft.{AreFieldSpans, AreSpans, DraftValue, drafted, fields_in};
+    ghost use Rattle.iso8211_records.specs.Draft.{AreFieldExtents, AreExtents, DraftValue, draft_value, fields_in};
 
     ghost Value = { DraftValue };
 
-    ghost view = { λ draft. drafted draft.records.items draft.fields_from
+    ghost view = { λ draft. draft_value draft.records.items draft.fields_from
         (fields_in draft.fields.items draft.values.items) draft.values_from draft.values.items };
 
-    ghost invariant = { λ draft. AreFieldSpans (length draft.values.items) draft.fields.items
-        × AreSpans (length draft.fields.items) draft.records.items
+    ghost invariant = { λ draft. AreFieldExtents (length draft.values.items) draft.fields.items
+        × AreExtents (length draft.fields.items) draft.records.items
         × (draft.fields_from ≤ length draft.fields.items)
         × (draft.values_from ≤ length draft.values.items) };
 }
 
-impl Draft {
+impl RecordsDraft {
     /// No record. It takes no memory.
-    pub(crate) fn new(alloc: Global) -> Draft
+    pub(crate) fn new(alloc: Global) -> RecordsDraft
         ensures records { result.records ≡ [] }
         ensures begun { result.begun ≡ [] }
         ensures values { result.values ≡ [] }
     {
-        Draft {
+        RecordsDraft {
             values: Vec::new(alloc),
             fields: Vec::new(alloc),
             records: Vec::new(alloc),
@@ -90,7 +90,7 @@ impl Draft {
         text: &[u8],
         once: &[Format],
         group: &[Format],
-    ) -> Result<(), FieldFault>
+    ) -> Result<(), ValuesFault>
         ensures read { Finds (λ _. self.new.values) result
             (before_all self.old.values (values_of (record { once = once.now; group = group.now }) text.now)) }
         ensures records { OnOk result (self.new.records ≡ self.old.records) }
@@ -107,11 +107,11 @@ impl Draft {
         ensures values { OnOk result (self.new.values ≡ []) }
     {
         let to = self.values.len();
-        let span = Span {
+        let extent = Extent {
             from: self.values_from,
             to,
         };
-        self.fields.push((tag, span))?;
+        self.fields.push((tag, extent))?;
         self.values_from = to;
         Ok(())
     }
@@ -123,7 +123,7 @@ impl Draft {
         ensures values { OnOk result (self.new.values ≡ self.old.values) }
     {
         let to = self.fields.len();
-        self.records.push(Span {
+        self.records.push(Extent {
             from: self.fields_from,
             to,
         })?;
@@ -135,8 +135,8 @@ impl Draft {
     pub(crate) fn finish(self, alloc: Global) -> Result<RawList, AllocError>
         ensures { IfOk result (λ records. records ≡ self.records) }
     {
-        let spans = self.fields;
-        let fields = fields_of(alloc, spans.as_slice(), self.values)?;
+        let extents = self.fields;
+        let fields = fields_of(alloc, extents.as_slice(), self.values)?;
         records_of(alloc, self.records.as_slice(), fields)
     }
 }
@@ -144,32 +144,36 @@ impl Draft {
 /// The fields whose values stand there.
 fn fields_of(
     alloc: Global,
-    spans: &[([u8; 4], Span)],
+    extents: &[([u8; 4], Extent)],
     values: Vec<Value>,
 ) -> Result<Vec<RawField>, AllocError>
-    requires { AreFieldSpans (length values.items) spans.now }
-    ensures { IfOk result (λ fields. fields.items ≡ fields_in spans.now values.items) }
+    requires { AreFieldExtents (length values.items) extents.now }
+    ensures { IfOk result (λ fields. fields.items ≡ fields_in extents.now values.items) }
 {
-    let mut fields = Vec::with_capacity(alloc, spans.len())?;
+    let mut fields = Vec::with_capacity(alloc, extents.len())?;
     let values = Rc::new(alloc, values)?;
-    for (tag, span) in spans {
+    for (tag, extent) in extents {
         fields.push(RawField {
             tag: *tag,
-            values: ValueList::of(&values, span.from, span.to)?,
+            values: ValueList::of(&values, extent.from, extent.to)?,
         })?;
     }
     Ok(fields)
 }
 
 /// The records whose fields stand there.
-fn records_of(alloc: Global, spans: &[Span], fields: Vec<RawField>) -> Result<RawList, AllocError>
-    requires { AreSpans (length fields.items) spans.now }
-    ensures { IfOk result (λ records. records ≡ map (part fields.items) spans.now) }
+fn records_of(
+    alloc: Global,
+    extents: &[Extent],
+    fields: Vec<RawField>,
+) -> Result<RawList, AllocError>
+    requires { AreExtents (length fields.items) extents.now }
+    ensures { IfOk result (λ records. records ≡ map (part fields.items) extents.now) }
 {
-    let mut records = Vec::with_capacity(alloc, spans.len())?;
+    let mut records = Vec::with_capacity(alloc, extents.len())?;
     let fields = Rc::new(alloc, fields)?;
-    for span in spans {
-        records.push(RawRecord::of(&fields, span.from, span.to)?)?;
+    for extent in extents {
+        records.push(RawRecord::of(&fields, extent.from, extent.to)?)?;
     }
     Ok(RawList::from_vec(records))
 }

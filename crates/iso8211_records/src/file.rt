@@ -11,7 +11,7 @@ ghost use Rattle.iso8211_records.specs.Fault.{HasFault};
 use crate::budget::Budget;
 use crate::data::read_data_record;
 use crate::descriptive::read_descriptive_record;
-use crate::draft::Draft;
+use crate::draft::RecordsDraft;
 use crate::fault::FileFault;
 use crate::laws::{faults_each, reads_each};
 use crate::record::{RawList, RecordFile};
@@ -96,7 +96,7 @@ fn read_data_records<C: Ledger>(
         → steps.new ≡ steps.old + come_to (length bytes.now) wanted.now.tags wanted.now.descriptors 1 at bytes.now }
     ensures at_most { steps.new ≤ steps.old + come_to (length bytes.now) wanted.now.tags wanted.now.descriptors 1 at bytes.now }
 {
-    let mut draft = Draft::new(alloc);
+    let mut draft = RecordsDraft::new(alloc);
     let mut entries = Vec::new(alloc);
     let mut place = at;
     let mut rest = bytes;

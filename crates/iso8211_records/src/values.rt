@@ -6,7 +6,7 @@ ghost use Rattle.iso8211_records.specs.Spelling.{unsigned, signed, IsNumberSize,
 ghost use Rattle.iso8211_records.specs.Values.{Finds, front_at, open_text_at, value_at, values_at, groups_at};
 ghost use Rattle.iso8211_records.specs.Values.{values_of, number_size, is_terminator, before, before_all};
 
-use crate::fault::FieldFault;
+use crate::fault::ValuesFault;
 use crate::value::Value;
 use byteorder::{ByteOrder, LittleEndian};
 use chart_model::Octets;
@@ -27,7 +27,7 @@ pub(crate) fn read_values(
     once: &[Format],
     group: &[Format],
     values: &mut Vec<Value>,
-) -> Result<(), FieldFault>
+) -> Result<(), ValuesFault>
     ensures read { Finds (λ _. values.new.items) result
         (before_all values.old.items (values_of (record { once = once.now; group = group.now }) text.now)) }
     ensures grown { length values.old.items ≤ length values.new.items }
@@ -42,7 +42,7 @@ fn read_groups(
     bytes: &[u8],
     group: &[Format],
     values: &mut Vec<Value>,
-) -> Result<(), FieldFault>
+) -> Result<(), ValuesFault>
     ensures read { Finds (λ _. values.new.items) result
         (before_all values.old.items (groups_at (length bytes.now) group.now bytes.now)) }
     ensures grown { length values.old.items ≤ length values.new.items }
@@ -51,7 +51,7 @@ fn read_groups(
         return if bytes.is_empty() {
             Ok(())
         } else {
-            Err(FieldFault::Unspelled)
+            Err(ValuesFault::Unspelled)
         };
     }
     let mut rest = bytes;
@@ -67,7 +67,7 @@ fn read_each<'a>(
     bytes: &'a [u8],
     formats: &[Format],
     values: &mut Vec<Value>,
-) -> Result<&'a [u8], FieldFault>
+) -> Result<&'a [u8], ValuesFault>
     ensures read { Finds (λ rest. (values.new.items, rest.now)) result
         (before values.old.items (values_at formats.now bytes.now)) }
     ensures grown { length values.old.items ≤ length values.new.items }
@@ -83,7 +83,7 @@ fn read_each<'a>(
 
 /// Reads the value at the front of the bytes, and gives the bytes after it.
 #[tactic(auto, unfolding(crate::specs::Values::value_at))]
-fn read_value(alloc: Global, bytes: &[u8], format: Format) -> Result<(Value, &[u8]), FieldFault>
+fn read_value(alloc: Global, bytes: &[u8], format: Format) -> Result<(Value, &[u8]), ValuesFault>
     ensures { Finds (λ read. (read.0, read.1.now)) result (value_at format bytes.now) }
 {
     match format {
@@ -112,14 +112,14 @@ fn read_value(alloc: Global, bytes: &[u8], format: Format) -> Result<(Value, &[u
 
 /// The text up to a unit terminator, and the bytes after that.
 #[tactic(auto, unfolding(crate::specs::Values::open_text_at))]
-fn open_text(bytes: &[u8]) -> Result<(&[u8], &[u8]), FieldFault>
+fn open_text(bytes: &[u8]) -> Result<(&[u8], &[u8]), ValuesFault>
     ensures { Finds (λ read. (read.0.now, read.1.now)) result (open_text_at bytes.now) }
 {
     let Some(end) = terminator_of(bytes) else {
-        return Err(FieldFault::Unspelled);
+        return Err(ValuesFault::Unspelled);
     };
     if bytes[end] != UNIT_TERMINATOR {
-        return Err(FieldFault::Unspelled);
+        return Err(ValuesFault::Unspelled);
     }
     let (_, rest) = bytes.split_at(end + 1);
     let (text, _) = bytes.split_at(end);
@@ -136,25 +136,25 @@ fn terminator_of(bytes: &[u8]) -> Option<usize>
 
 /// So many bytes from the front, at least one, and the bytes after them.
 #[tactic(auto, unfolding(crate::specs::Values::front_at))]
-fn front(bytes: &[u8], size: usize) -> Result<(&[u8], &[u8]), FieldFault>
+fn front(bytes: &[u8], size: usize) -> Result<(&[u8], &[u8]), ValuesFault>
     ensures read { Finds (λ read. (read.0.now, read.1.now)) result (front_at size bytes.now) }
     ensures size { IfOk result (λ read. length read.0.now ≡ size) }
 {
     if size == 0 || bytes.len() < size {
-        return Err(FieldFault::Unspelled);
+        return Err(ValuesFault::Unspelled);
     }
     Ok(bytes.split_at(size))
 }
 
 /// The bytes of a binary number, and the bytes after them.
 #[tactic(auto, unfolding(crate::specs::Values::front_at))]
-fn number_front(bytes: &[u8], size: u8) -> Result<(&[u8], &[u8]), FieldFault>
+fn number_front(bytes: &[u8], size: u8) -> Result<(&[u8], &[u8]), ValuesFault>
     ensures read { Finds (λ read. (read.0.now, read.1.now)) result (front_at (number_size size) bytes.now) }
     ensures size { IfOk result (λ read. IsNumberSize (length read.0.now)) }
 {
     match size {
         1 | 2 | 4 => front(bytes, size as usize),
-        _ => Err(FieldFault::Unspelled),
+        _ => Err(ValuesFault::Unspelled),
     }
 }
 

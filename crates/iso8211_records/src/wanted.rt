@@ -4,7 +4,7 @@ ghost use Rattle.std.specs.Prelude.{◌≡◌, not, IfOk};
 ghost use Rattle.iso8211_records.specs.Answers.{Gives};
 ghost use Rattle.iso8211_records.specs.Tags.{is_listed};
 ghost use Rattle.iso8211_records.specs.Kinds.{AreListed};
-ghost use Rattle.iso8211_records.specs.Reading.{first_without, is_described, undescribed, unless_undescribed};
+ghost use Rattle.iso8211_records.specs.Reading.{first_without, is_described, tags_without_descriptor, unless_undescribed};
 
 use crate::descriptors::DescriptorMap;
 use crate::fault::FileFault;
@@ -27,7 +27,7 @@ pub(crate) struct Wanted<'a> {
 impl<'a> Model for Wanted<'a> {
     ghost use Rattle.std.specs.Prelude.{◌≡◌};
     ghost use Rattle.iso8211_records.specs.Kinds.{AreListed};
-    ghost use Rattle.iso8211_records.specs.Reading.{undescribed};
+    ghost use Rattle.iso8211_records.specs.Reading.{tags_without_descriptor};
     ghost use Rattle.iso8211_records.specs.Wanted.{WantedValue};
 
     ghost Value = { WantedValue };
@@ -35,7 +35,7 @@ impl<'a> Model for Wanted<'a> {
     ghost view = { λ wanted. record { tags = wanted.tags.now; descriptors = wanted.descriptors.now } };
 
     ghost invariant = { λ wanted. AreListed wanted.tags.now wanted.descriptors.now
-        × (wanted.missing.items ≡ undescribed wanted.tags.now wanted.descriptors.now) };
+        × (wanted.missing.items ≡ tags_without_descriptor wanted.tags.now wanted.descriptors.now) };
 }
 
 impl<'a> Wanted<'a> {
@@ -97,7 +97,7 @@ fn undescribed_tags(
     tags: &[[u8; 4]],
     descriptors: &DescriptorMap,
 ) -> Result<Vec<[u8; 4]>, AllocError>
-    ensures { IfOk result (λ found. found.items ≡ undescribed tags.now descriptors.now) }
+    ensures { IfOk result (λ found. found.items ≡ tags_without_descriptor tags.now descriptors.now) }
 {
     let mut found = Vec::new(alloc);
     for tag in tags {

@@ -3,8 +3,8 @@ use Rattle.std.proofs.lemmas.Result.{on_ok_weaker}
 use Rattle.iso8211_records.specs.declared.record.RawField.{RawField}
 use Rattle.iso8211_records.specs.Draft.{DraftValue, part}
 use Rattle.iso8211_records.specs.Values.{Finds, before_all, values_of}
-use Rattle.iso8211_records.proofs.Spans.{fields-stay, values-more}
-use Rattle.iso8211_records.proofs.draft.Draft.read_values.Goals as goal
+use Rattle.iso8211_records.proofs.Extents.{fields-stay, values-more}
+use Rattle.iso8211_records.proofs.draft.RecordsDraft.read_values.Goals as goal
 
 pub returns-clause-read : goal.returns-clause-read
 returns-clause-read c =

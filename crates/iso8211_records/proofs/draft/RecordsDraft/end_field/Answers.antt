@@ -1,8 +1,8 @@
 use Rattle.std.proofs.Common.{rules, ◌++◌, ◌∷◌, [], List, map, ◌∙◌, ap, drop}
 use Rattle.iso8211_records.specs.declared.record.RawField.{RawField}
 use Rattle.iso8211_records.specs.Draft.{DraftValue, part}
-use Rattle.iso8211_records.proofs.Spans.{begun-more, fields-more, records-stay}
-use Rattle.iso8211_records.proofs.draft.Draft.end_field.Goals as goal
+use Rattle.iso8211_records.proofs.Extents.{begun-more, fields-more, records-stay}
+use Rattle.iso8211_records.proofs.draft.RecordsDraft.end_field.Goals as goal
 
 pub returns-clause-records : goal.returns-clause-records
 returns-clause-records c =
