@@ -1,5 +1,4 @@
 pub mod Attributes
-pub mod Behind
 pub mod Control
 pub mod Dsid
 pub mod Dspm
@@ -13,5 +12,6 @@ pub mod Items
 pub mod Ruin
 pub mod Sg2d
 pub mod Sg3d
+pub mod Unread
 pub mod Vrid
 pub mod Vrpt

@@ -1,10 +1,10 @@
 //! Two-dimensional coordinates (SG2D).
 
 ghost use Rattle.std.specs.Option.{option_copied};
-ghost use Rattle.std.specs.Prelude.{◌≡◌, IfOk, All, IfSome, Ok, IsNone};
-ghost use Rattle.chart_model.specs.Record.{AreCoords, IsCoord, IsWithin};
+ghost use Rattle.std.specs.Prelude.{◌≡◌, IfOk, IsNone};
+ghost use Rattle.chart_model.specs.Record.{AreCoords, IsCoord};
 ghost use Rattle.s57_subfields.specs.Answers.{Gives};
-ghost use Rattle.s57_fields.specs.Sg2d.{coordinates, sg2d_at};
+ghost use Rattle.s57_fields.specs.Sg2d.{sg2d_at};
 
 use crate::bounds::{LATITUDE, LONGITUDE};
 use crate::file::record_at;
@@ -12,69 +12,67 @@ use chart_model::{Coord, Coords};
 use iso8211_formats::Descriptor;
 use iso8211_records::{RecordFile, Value};
 use s57_subfields::labels::{XCOO, YCOO};
-use s57_subfields::{FieldFault, Group, RowFields, Subfield, Within, read_behind, tags};
+use s57_subfields::{FieldFault, Group, Groups, RowFields, Subfield, Within, tags};
 use std::alloc::{AllocError, Global};
 
 /// The row SG2D as it stands in a file's descriptor.
 #[derive(Clone, Copy, Debug)]
 pub struct CoordinateRow {
+    pub groups: Groups,
     pub ycoo: Subfield,
     pub xcoo: Subfield,
 }
 
-/// A group of coordinates: the latitude first, and the longitude so far behind it.
-#[derive(Clone, Copy)]
-struct CoordinateGroup {
-    xcoo: u8,
-}
-
-impl Group for CoordinateGroup {
-    ghost use Rattle.s57_fields.specs.Behind.{coordinate_behind};
+impl Group for CoordinateRow {
+    ghost use Rattle.s57_fields.specs.Sg2d.{coordinate_in, coordinate_columns};
+    ghost use Rattle.s57_fields.specs.Unread.{coordinate-unread};
 
     type Output = Coord;
 
-    ghost reads = { λ group. coordinate_behind group.xcoo };
+    ghost reads = { coordinate_in };
+
+    ghost columns = { coordinate_columns };
 
     ghost holds = { λ _ coord. IsCoord coord × IsNone coord.z };
 
     fn read(&self, alloc: Global, group: &[Value]) -> Result<Option<Coord>, AllocError> {
-        let Some(ycoo) = read_behind(alloc, &Within { most: LATITUDE }, group, 0)? else {
+        let Some(y) = self
+            .ycoo
+            .in_group(alloc, group, &Within { most: LATITUDE })?
+        else {
             return Ok(None);
         };
-        let Some(xcoo) = read_behind(alloc, &Within { most: LONGITUDE }, group, self.xcoo)? else {
+        let Some(x) = self
+            .xcoo
+            .in_group(alloc, group, &Within { most: LONGITUDE })?
+        else {
             return Ok(None);
         };
-        Ok(Some(Coord {
-            x: xcoo,
-            y: ycoo,
-            z: None,
-        }))
+        Ok(Some(Coord { x, y, z: None }))
     }
-}
 
-/// Each latitude with the longitude beside it.
-fn coordinates(alloc: Global, ys: Vec<i32>, xs: Vec<i32>) -> Result<Coords, AllocError>
-    requires latitudes { All (IsWithin LATITUDE) ys.items }
-    requires longitudes { All (IsWithin LONGITUDE) xs.items }
-    ensures joined { IfOk result (λ joined. joined ≡ coordinates ys.items xs.items) }
-    ensures coords { IfOk result AreCoords }
-{
-    let joined = ys
-        .into_iter()
-        .zip(xs)
-        .map(|(y, x)| Coord { x, y, z: None })
-        .collect(alloc)?;
-    Ok(Coords::from_vec(joined))
+    fn first_fault(&self, groups: &Groups, values: &RowFields<'_>) -> Option<FieldFault> {
+        if let Some(fault) = self.ycoo.fault(groups, values, &Within { most: LATITUDE }) {
+            return Some(fault);
+        }
+        if let Some(fault) = self.xcoo.fault(groups, values, &Within { most: LONGITUDE }) {
+            return Some(fault);
+        }
+        None
+    }
+
+    ghost unread = { coordinate-unread };
 }
 
 impl CoordinateRow {
-    ghost use Rattle.s57_fields.specs.Sg2d.{sg2d_row, coordinate_columns, coordinates_in};
+    ghost use Rattle.s57_fields.specs.Sg2d.{sg2d_row, coordinates_in};
 
     /// Finds the row in the descriptor of the file's field. It takes no memory.
     pub fn find(descriptor: Option<&Descriptor>) -> CoordinateRow
         ensures { result ≡ sg2d_row (option_copied descriptor.entry) }
     {
         CoordinateRow {
+            groups: Groups::find(descriptor),
             ycoo: Subfield::find(descriptor, YCOO),
             xcoo: Subfield::find(descriptor, XCOO),
         }
@@ -86,53 +84,11 @@ impl CoordinateRow {
     ///
     /// The first `MissingField` or `Value` by subfield in the order of the row, over all groups of all
     /// fields of the tag; `NoMemory`.
-    #[tactic(auto, using(crate::proofs::Listed::listed_none, crate::proofs::Listed::listed_some))]
     pub fn read(&self, alloc: Global, values: &RowFields<'_>) -> Result<Coords, FieldFault>
         ensures found { Gives result (coordinates_in self.now values.now) }
         ensures coords { IfOk result AreCoords }
     {
-        if values.is_empty() {
-            return Ok(Coords::new(alloc));
-        }
-        if let Some(coords) = self.read_groups(alloc, values)? {
-            return Ok(coords);
-        }
-        self.read_columns(alloc, values)
-    }
-
-    /// Reads coordinates in one pass, where each latitude has a longitude behind it, and none is bad.
-    fn read_groups(
-        &self,
-        alloc: Global,
-        values: &RowFields<'_>,
-    ) -> Result<Option<Coords>, AllocError>
-        ensures found { IfOk result (λ read. IfSome read (λ coords.
-            coordinate_columns self.now values.now ≡ Ok coords)) }
-        ensures coords { IfOk result (λ read. IfSome read AreCoords) }
-    {
-        let Some(groups) = self.ycoo.groups() else {
-            return Ok(None);
-        };
-        let Some(xcoo) = self.xcoo.distance(&groups) else {
-            return Ok(None);
-        };
-        match groups.read(alloc, values, &CoordinateGroup { xcoo }) {
-            Ok(Some(coords)) => Ok(Some(Coords::from_vec(coords))),
-            Ok(None) => Ok(None),
-            Err(fault) => Err(fault),
-        }
-    }
-
-    #[tactic(auto, unfolding(crate::specs::Sg2d::coordinate_columns))]
-    fn read_columns(&self, alloc: Global, values: &RowFields<'_>) -> Result<Coords, FieldFault>
-        ensures found { Gives result (coordinate_columns self.now values.now) }
-        ensures coords { IfOk result AreCoords }
-    {
-        let ys = self.ycoo.column(alloc, values, &Within { most: LATITUDE })?;
-        let xs = self
-            .xcoo
-            .column(alloc, values, &Within { most: LONGITUDE })?;
-        Ok(coordinates(alloc, ys, xs)?)
+        Ok(Coords::from_vec(self.groups.read_list(alloc, values, self)?))
     }
 }
 

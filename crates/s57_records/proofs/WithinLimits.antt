@@ -1,6 +1,6 @@
 -- What the fields of a record read as keeps what every record's subfields keep.
 use Rattle.std.proofs.Common.{◌≡◌, ◌≢◌, ℕ, suc, ◌≤◌, true, false, not, ◌&&◌, eqb, leb, ltb, List, [], ◌∷◌, length, Option, Some, None, Result, Ok, Err, refl, sym, ap, subst, ◌∙◌, inl, inr, arith, All}
-use Rattle.std.specs.Prelude.{◌↔◌, codes, IsSome, IsNone, ℤ, pos, ◌*ℤ◌, unsigned_abs, option_map, option_and_then, flat_map, slice_get}
+use Rattle.std.specs.Prelude.{◌↔◌, codes, IsSome, IsNone, ℤ, pos, ◌*ℤ◌, unsigned_abs, option_map, option_and_then, filter_map, slice_get}
 use Rattle.std.specs.List.{AllByRecursion, list_all}
 use Rattle.std.specs.Str.{bytes_eq, all_ascii_digits}
 use Rattle.std.specs.Str.Parse.{digits_value}
@@ -17,12 +17,14 @@ use Rattle.iso8211_records.specs.declared.record.RawField.{RawField}
 use Rattle.iso8211_records.specs.declared.value.Value.{Value}
 use Rattle.iso8211_records.specs.declared.value.Value.TheVariants.{Number, Text, Bits}
 use Rattle.s57_subfields.specs.declared.fault.FieldFault.{FieldFault}
+use Rattle.s57_subfields.specs.declared.group.Groups.{Groups}
 use Rattle.s57_subfields.specs.declared.subfield.Subfield.{Subfield}
-use Rattle.chart_model.specs.Answers.{◌>>=◌, or_fault}
+use Rattle.chart_model.specs.Answers.{◌>>=◌, or_fault, unless}
 use Rattle.s57_subfields.specs.Answers.{missing, bad}
 use Rattle.s57_subfields.specs.RowValues.{RowValues, fields_in, first_of}
 use Rattle.s57_subfields.specs.Places.{subfield_of}
-use Rattle.s57_subfields.specs.Columns.{once_in, once_at, column_in, repeated_at, every, read_each, listed}
+use Rattle.s57_subfields.specs.Columns.{once_in, once_at}
+use Rattle.s57_subfields.specs.Lists.{Column, distance, groups_in_fields, list_if_there, list_in, value_in}
 use Rattle.s57_subfields.specs.Number.{number_up_to, digits_up_to}
 use Rattle.s57_subfields.specs.Signed.{number_within, whole_within, depth_in, LATITUDE, LONGITUDE}
 use Rattle.s57_subfields.specs.Texts.{nine_digits, plain_text, is_plain, data_set_name, key_in}
@@ -32,10 +34,10 @@ use Rattle.s57_fields.specs.declared.sg2d.CoordinateRow.{CoordinateRow}
 use Rattle.s57_fields.specs.declared.sg3d.SoundingRow.{SoundingRow}
 use Rattle.s57_fields.specs.declared.fspt.FeaturePointerRow.{FeaturePointerRow}
 use Rattle.s57_subfields.specs.Names.{record_name}
-use Rattle.s57_fields.specs.Attributes.{attribute_row, attributes, attribute_columns, attributes_in}
-use Rattle.s57_fields.specs.Fspt.{fspt_row, feature_pointers, feature_pointer_columns, feature_pointers_in}
-use Rattle.s57_fields.specs.Sg2d.{sg2d_row, coordinates, coordinate_columns, coordinates_in}
-use Rattle.s57_fields.specs.Sg3d.{sg3d_row, soundings, sounding_columns, soundings_in}
+use Rattle.s57_fields.specs.Attributes.{attribute_row, attribute_in, attribute_columns, attributes_in}
+use Rattle.s57_fields.specs.Fspt.{fspt_row, feature_pointer_in, feature_pointer_columns, feature_pointers_in}
+use Rattle.s57_fields.specs.Sg2d.{sg2d_row, coordinate_in, coordinate_columns, coordinates_in}
+use Rattle.s57_fields.specs.Sg3d.{sg3d_row, sounding_in, sounding_columns, soundings_in}
 use Rattle.s57_records.specs.LayoutReadings.{widened, mapped, under, Layouts, has_field, coords_in, subfields_of, all_subfields}
 use Rattle.s57_records.proofs.Changes.{AreWithinLimits, HasKeys, All-nil}
 
@@ -71,23 +73,39 @@ once_read read row subfield x e =
     field_then (or_fault (missing row) (first_of row.fields)) _ x after_at (λ values values_e after_values.
     some_in read (slice_get values at) x (there _ _ x after_values)))
 
-each_read : {A : Type 0} (P : A → Type 0) (read : Value → Option A) (fault : FieldFault) (values : List Value) (xs : List A) → ((value : Value) (x : A) → read value ≡ Some x → P x) → read_each read fault values ≡ Ok xs → AllByRecursion P xs
-unfolding read_each
-each_read P read fault [] xs each e = subst (AllByRecursion P) (field_ok [] xs e) tt
-each_read P read fault (value ∷ values) xs each e =
-    field_then (or_fault fault (read value)) _ xs e (λ x x_e after_x.
-    field_then (read_each read fault values) _ xs after_x (λ rest rest_e made.
-    subst (AllByRecursion P) (field_ok (x ∷ rest) xs made) (each value x (there fault (read value) x x_e), each_read P read fault values rest each rest_e)))
+-- ---- lists
 
-pub column_read : {A : Type 0} (P : A → Type 0) (read : Value → Option A) (row : RowValues) (subfield : Subfield) (xs : List A) → ((value : Value) (x : A) → read value ≡ Some x → P x) → column_in read row subfield ≡ Ok xs → AllByRecursion P xs
-unfolding column_in
-column_read P read row subfield xs each e =
-    field_then (or_fault (missing row) (repeated_at subfield.place)) _ xs e (λ place place_e after_place.
-    each_read P read (bad row subfield.label) (flat_map (λ values. every place.1 place.0 values) row.fields) xs each after_place)
+-- what each group that is read holds, all items of the list hold
+kept : {A : Type 0} (P : A → Type 0) (reads : List Value → Option A) (groups : List (List Value)) → ((group : List Value) (x : A) → reads group ≡ Some x → P x) → AllByRecursion P (filter_map reads groups)
+kept P reads [] each = tt
+kept {A} P reads (group ∷ groups) each = one (reads group) refl (kept P reads groups each)
+  where
+    one : (found : Option A) → reads group ≡ found → AllByRecursion P (filter_map reads groups) → AllByRecursion P (filter_map reads (group ∷ groups))
+    one None e rest = rw e rest
+    one (Some x) e rest = rw e (each group x e, rest)
 
-pub listed_read : {A : Type 0} (P : List A → Type 0) (fields : List (List Value)) (answer : Result (List A) FieldFault) (xs : List A) → P [] → (answer ≡ Ok xs → P xs) → listed fields answer ≡ Ok xs → P xs
-listed_read P [] answer xs none some e = subst P (field_ok [] xs e) none
-listed_read P (values ∷ more) answer xs none some e = some e
+listed : {A : Type 0} (P : A → Type 0) (fields : List (List Value)) (fault : Option FieldFault) (items xs : List A) → AllByRecursion P items → list_if_there fields (unless fault items) ≡ Ok xs → AllByRecursion P xs
+listed P [] fault items xs all e = subst (AllByRecursion P) (field_ok [] xs e) tt
+listed P (values ∷ more) None items xs all e = subst (AllByRecursion P) (field_ok items xs e) all
+listed P (values ∷ more) (Some fault) items xs all e = absurd cc
+
+list_read : {A : Type 0} (P : A → Type 0) (reads : List Value → Option A) (columns : List Column) (groups : Groups) (row : RowValues) (xs : List A) → ((group : List Value) (x : A) → reads group ≡ Some x → P x) → list_in reads columns groups row ≡ Ok xs → All P xs
+unfolding list_in
+list_read P reads columns groups row xs each e =
+    All-from_recursion P xs (listed P row.fields _ _ xs (kept P reads (groups_in_fields groups row) each) e)
+
+then_some : {A B : Type 0} (first : Option A) (next : A → Option B) (y : B) → option_and_then next first ≡ Some y → (x : A) × (first ≡ Some x) × (next x ≡ Some y)
+then_some None next y e = absurd cc
+then_some (Some x) next y e = (x, refl, e)
+
+some_is : {A : Type 0} (x y : A) → ◌≡◌ {A = Option A} (Some x) (Some y) → x ≡ y
+some_is x y e = cc
+
+-- a group's value that was read was read from some value
+value_read : {A : Type 0} (read : Value → Option A) (subfield : Subfield) (group : List Value) (x : A) → value_in read subfield group ≡ Some x → (value : Value) × (read value ≡ Some x)
+value_read read subfield group x e =
+    let place = then_some (distance subfield.place) _ x e in
+    some_in read (slice_get group place.0) x place.2
 
 -- ---- values
 
@@ -153,36 +171,33 @@ plain (Text found) text e =
 plain (Number number) text e = absurd cc
 plain (Bits bits) text e = absurd cc
 
--- ---- lists
+-- ---- items
 
-attributes_plain : (codes : List ℕ) (texts : List (List ℕ)) → AllByRecursion IsPlainText texts → AllByRecursion (λ attr. IsPlainText attr.value) (attributes codes texts)
-attributes_plain [] texts each = tt
-attributes_plain (code ∷ codes) [] each = tt
-attributes_plain (code ∷ codes) (text ∷ texts) each = (each.0, attributes_plain codes texts each.1)
+attribute_within : (row : AttributeRow) (group : List Value) (attr : Attr) → attribute_in row group ≡ Some attr → IsPlainText attr.value
+attribute_within row group attr e =
+    let code = then_some (value_in (number_up_to 65535) row.attl group) _ attr e in
+    let text = then_some (value_in plain_text row.atvl group) _ attr code.2 in
+    let value = value_read plain_text row.atvl group text.0 text.1 in
+    subst (λ (found : Attr). IsPlainText found.value) (some_is _ attr text.2) (plain value.0 text.0 value.1)
 
 attrs_within : (row : AttributeRow) (values : RowValues) (attrs : List Attr) → attributes_in row values ≡ Ok attrs → All (λ attr. IsPlainText attr.value) attrs
-unfolding attribute_columns
 attrs_within row values attrs e =
-    listed_read (λ xs. All (λ attr. IsPlainText attr.value) xs) values.fields (attribute_columns row values) attrs (All-nil _) (λ read.
-    field_then (column_in (number_up_to 65535) values row.attl) _ attrs read (λ numbers numbers_e after_numbers.
-    field_then (column_in plain_text values row.atvl) _ attrs after_numbers (λ texts texts_e made.
-    subst (λ (xs : List Attr). All (λ attr. IsPlainText attr.value) xs) (field_ok (attributes numbers texts) attrs made) (All-from_recursion (λ attr. IsPlainText attr.value) (attributes numbers texts) (attributes_plain numbers texts (column_read IsPlainText plain_text values row.atvl texts plain texts_e)))))) e
+    list_read (λ attr. IsPlainText attr.value) (attribute_in row) (attribute_columns row) row.groups values attrs (attribute_within row) e
 
-coordinates_each : (ys xs : List ℤ) → AllByRecursion (IsWithin LATITUDE) ys → AllByRecursion (IsWithin LONGITUDE) xs → AllByRecursion IsCoord (coordinates ys xs) × AllByRecursion (λ coord. IsNone coord.z) (coordinates ys xs)
-coordinates_each [] xs in_y in_x = (tt, tt)
-coordinates_each (y ∷ ys) [] in_y in_x = (tt, tt)
-coordinates_each (y ∷ ys) (x ∷ xs) in_y in_x =
-    let rest = coordinates_each ys xs in_y.1 in_x.1 in
-    ((record { longitude = in_x.0; latitude = in_y.0; depth = tt }, rest.0), (refl, rest.1))
+coordinate_within : (row : CoordinateRow) (group : List Value) (coord : Coord) → coordinate_in row group ≡ Some coord → IsCoord coord × IsNone coord.z
+coordinate_within row group coord e =
+    let y = then_some (value_in (number_within LATITUDE) row.ycoo group) _ coord e in
+    let x = then_some (value_in (number_within LONGITUDE) row.xcoo group) _ coord y.2 in
+    let latitude = value_read (number_within LATITUDE) row.ycoo group y.0 y.1 in
+    let longitude = value_read (number_within LONGITUDE) row.xcoo group x.0 x.1 in
+    subst (λ (found : Coord). IsCoord found × IsNone found.z) (some_is _ coord x.2)
+    (record { longitude = within LONGITUDE longitude.0 x.0 longitude.1; latitude = within LATITUDE latitude.0 y.0 latitude.1; depth = tt }, refl)
 
 coordinates_within : (row : CoordinateRow) (values : RowValues) (coords : List Coord) → coordinates_in row values ≡ Ok coords → All IsCoord coords × All (λ coord. IsNone coord.z) coords
-unfolding coordinate_columns
-coordinates_within row values coords e =
-    listed_read (λ cs. All IsCoord cs × All (λ coord. IsNone coord.z) cs) values.fields (coordinate_columns row values) coords (All-nil _, All-nil _) (λ read.
-    field_then (column_in (number_within LATITUDE) values row.ycoo) _ coords read (λ ys ys_e after_ys.
-    field_then (column_in (number_within LONGITUDE) values row.xcoo) _ coords after_ys (λ xs xs_e made.
-    let each = coordinates_each ys xs (column_read (IsWithin LATITUDE) (number_within LATITUDE) values row.ycoo ys (within LATITUDE) ys_e) (column_read (IsWithin LONGITUDE) (number_within LONGITUDE) values row.xcoo xs (within LONGITUDE) xs_e) in
-    subst (λ (cs : List Coord). All IsCoord cs × All (λ coord. IsNone coord.z) cs) (field_ok (coordinates ys xs) coords made) (All-from_recursion IsCoord (coordinates ys xs) each.0, All-from_recursion (λ coord. IsNone coord.z) (coordinates ys xs) each.1)))) e
+coordinates_within row values coords e = (
+  list_read IsCoord (coordinate_in row) (coordinate_columns row) row.groups values coords (λ group coord found. (coordinate_within row group coord found).0) e,
+  list_read (λ coord. IsNone coord.z) (coordinate_in row) (coordinate_columns row) row.groups values coords (λ group coord found. (coordinate_within row group coord found).1) e,
+)
 
 depth_made : (read : Option ℤ) (z : ℤ) → ((decimetres : ℤ) → read ≡ Some decimetres → IsWithin 999999 decimetres) → option_map (λ decimetres. decimetres *ℤ pos 10) read ≡ Some z → IsDepth z
 depth_made (Some decimetres) z each e =
@@ -194,40 +209,34 @@ depth_is : (value : Value) (z : ℤ) → depth_in value ≡ Some z → IsDepth z
 unfolding depth_in
 depth_is value z e = depth_made (number_within 999999 value) z (within 999999 value) e
 
-soundings_each : (ys xs zs : List ℤ) → AllByRecursion (IsWithin LATITUDE) ys → AllByRecursion (IsWithin LONGITUDE) xs → AllByRecursion IsDepth zs → AllByRecursion IsCoord (soundings ys xs zs) × AllByRecursion (λ coord. IsSome coord.z) (soundings ys xs zs)
-soundings_each [] xs zs in_y in_x in_z = (tt, tt)
-soundings_each (y ∷ ys) [] zs in_y in_x in_z = (tt, tt)
-soundings_each (y ∷ ys) (x ∷ xs) [] in_y in_x in_z = (tt, tt)
-soundings_each (y ∷ ys) (x ∷ xs) (z ∷ zs) in_y in_x in_z =
-    let rest = soundings_each ys xs zs in_y.1 in_x.1 in_z.1 in
-    ((record { longitude = in_x.0; latitude = in_y.0; depth = in_z.0 }, rest.0), (refl, rest.1))
+sounding_within : (row : SoundingRow) (group : List Value) (coord : Coord) → sounding_in row group ≡ Some coord → IsCoord coord × IsSome coord.z
+sounding_within row group coord e =
+    let y = then_some (value_in (number_within LATITUDE) row.ycoo group) _ coord e in
+    let x = then_some (value_in (number_within LONGITUDE) row.xcoo group) _ coord y.2 in
+    let z = then_some (value_in depth_in row.ve3d group) _ coord x.2 in
+    let latitude = value_read (number_within LATITUDE) row.ycoo group y.0 y.1 in
+    let longitude = value_read (number_within LONGITUDE) row.xcoo group x.0 x.1 in
+    let depth = value_read depth_in row.ve3d group z.0 z.1 in
+    subst (λ (found : Coord). IsCoord found × IsSome found.z) (some_is _ coord z.2)
+    (record { longitude = within LONGITUDE longitude.0 x.0 longitude.1; latitude = within LATITUDE latitude.0 y.0 latitude.1; depth = depth_is depth.0 z.0 depth.1 }, refl)
 
 soundings_within : (row : SoundingRow) (values : RowValues) (coords : List Coord) → soundings_in row values ≡ Ok coords → All IsCoord coords × All (λ coord. IsSome coord.z) coords
-unfolding sounding_columns
-soundings_within row values coords e =
-    listed_read (λ cs. All IsCoord cs × All (λ coord. IsSome coord.z) cs) values.fields (sounding_columns row values) coords (All-nil _, All-nil _) (λ read.
-    field_then (column_in (number_within LATITUDE) values row.ycoo) _ coords read (λ ys ys_e after_ys.
-    field_then (column_in (number_within LONGITUDE) values row.xcoo) _ coords after_ys (λ xs xs_e after_xs.
-    field_then (column_in depth_in values row.ve3d) _ coords after_xs (λ zs zs_e made.
-    let each = soundings_each ys xs zs (column_read (IsWithin LATITUDE) (number_within LATITUDE) values row.ycoo ys (within LATITUDE) ys_e) (column_read (IsWithin LONGITUDE) (number_within LONGITUDE) values row.xcoo xs (within LONGITUDE) xs_e) (column_read IsDepth depth_in values row.ve3d zs depth_is zs_e) in
-    subst (λ (cs : List Coord). All IsCoord cs × All (λ coord. IsSome coord.z) cs) (field_ok (soundings ys xs zs) coords made) (All-from_recursion IsCoord (soundings ys xs zs) each.0, All-from_recursion (λ coord. IsSome coord.z) (soundings ys xs zs) each.1))))) e
+soundings_within row values coords e = (
+  list_read IsCoord (sounding_in row) (sounding_columns row) row.groups values coords (λ group coord found. (sounding_within row group coord found).0) e,
+  list_read (λ coord. IsSome coord.z) (sounding_in row) (sounding_columns row) row.groups values coords (λ group coord found. (sounding_within row group coord found).1) e,
+)
 
-topi_each : (names : List Name) (ornts usags masks : List ℕ) → AllByRecursion (λ pointer. pointer.topi ≡ 255) (feature_pointers names ornts usags masks)
-topi_each [] ornts usags masks = tt
-topi_each (n ∷ names) [] usags masks = tt
-topi_each (n ∷ names) (o ∷ ornts) [] masks = tt
-topi_each (n ∷ names) (o ∷ ornts) (u ∷ usags) [] = tt
-topi_each (n ∷ names) (o ∷ ornts) (u ∷ usags) (m ∷ masks) = (refl, topi_each names ornts usags masks)
+no_topology : (row : FeaturePointerRow) (group : List Value) (pointer : Pointer) → feature_pointer_in row group ≡ Some pointer → pointer.topi ≡ 255
+no_topology row group pointer e =
+    let target = then_some (value_in record_name row.name group) _ pointer e in
+    let ornt = then_some (value_in (number_up_to 255) row.ornt group) _ pointer target.2 in
+    let usag = then_some (value_in (number_up_to 255) row.usag group) _ pointer ornt.2 in
+    let mask = then_some (value_in (number_up_to 255) row.mask group) _ pointer usag.2 in
+    ap (λ (found : Pointer). found.topi) (sym (some_is _ pointer mask.2))
 
 topi_within : (row : FeaturePointerRow) (values : RowValues) (pointers : List Pointer) → feature_pointers_in row values ≡ Ok pointers → All (λ pointer. pointer.topi ≡ 255) pointers
-unfolding feature_pointer_columns
 topi_within row values pointers e =
-    listed_read (λ ps. All (λ pointer. pointer.topi ≡ 255) ps) values.fields (feature_pointer_columns row values) pointers (All-nil _) (λ read.
-    field_then (column_in record_name values row.name) _ pointers read (λ names names_e after_names.
-    field_then (column_in (number_up_to 255) values row.ornt) _ pointers after_names (λ ornts ornts_e after_ornts.
-    field_then (column_in (number_up_to 255) values row.usag) _ pointers after_ornts (λ usags usags_e after_usags.
-    field_then (column_in (number_up_to 255) values row.mask) _ pointers after_usags (λ masks masks_e made.
-    subst (λ (ps : List Pointer). All (λ pointer. pointer.topi ≡ 255) ps) (field_ok (feature_pointers names ornts usags masks) pointers made) (All-from_recursion (λ pointer. pointer.topi ≡ 255) (feature_pointers names ornts usags masks) (topi_each names ornts usags masks))))))) e
+    list_read (λ pointer. pointer.topi ≡ 255) (feature_pointer_in row) (feature_pointer_columns row) row.groups values pointers (no_topology row) e
 
 -- ---- a record
 
@@ -237,15 +246,19 @@ no_fields n tag (field ∷ fields) absent =
     let p = or_parts (bytes_eq field.tag tag) (has_field fields tag) absent in
     rw p.0 (no_fields n tag fields p.1)
 
-listed_none : {A : Type 0} (fields : List (List Value)) (answer : Result (List A) FieldFault) (xs : List A) → fields ≡ [] → listed fields answer ≡ Ok xs → xs ≡ []
-listed_none [] answer xs none e = sym (field_ok [] xs e)
-listed_none (values ∷ more) answer xs none e = absurd cc
+if_absent : {A : Type 0} (fields : List (List Value)) (answer : Result (List A) FieldFault) (xs : List A) → fields ≡ [] → list_if_there fields answer ≡ Ok xs → xs ≡ []
+if_absent [] answer xs none e = sym (field_ok [] xs e)
+if_absent (values ∷ more) answer xs none e = absurd cc
+
+list_absent : {A : Type 0} (reads : List Value → Option A) (columns : List Column) (groups : Groups) (row : RowValues) (xs : List A) → row.fields ≡ [] → list_in reads columns groups row ≡ Ok xs → xs ≡ []
+unfolding list_in
+list_absent reads columns groups row xs none e = if_absent row.fields _ xs none e
 
 coords_absent : (layouts : Layouts) (n : ℕ) (fields : List RawField) (tag : List ℕ) (coords : List Coord) → has_field fields tag ≡ false → coords_in layouts n fields tag ≡ Ok coords → coords ≡ []
 coords_absent layouts n fields tag coords absent e =
     elim (chosen (bytes_eq tag (codes "SG2D")) _ _ (Ok coords) e) [
-      | inl h ↦ listed_none (fields_in n tag fields).fields _ coords (no_fields n tag fields absent) h.1
-      | inr h ↦ listed_none (fields_in n tag fields).fields _ coords (no_fields n tag fields absent) h.1
+      | inl h ↦ list_absent _ _ _ (fields_in n tag fields) coords (no_fields n tag fields absent) h.1
+      | inr h ↦ list_absent _ _ _ (fields_in n tag fields) coords (no_fields n tag fields absent) h.1
     ]
 
 pub subfields_within : (layouts : Layouts) (n : ℕ) (fields : List RawField) → AreWithinLimits (subfields_of layouts n fields)

@@ -1,9 +1,8 @@
 pub mod Digits
 pub mod Dots
-pub mod Every
 pub mod Fields
-pub mod Fieldwise
-pub mod GroupValues
+pub mod Fronts
+pub mod Lists
 pub mod Numbers
 pub mod Tails
 pub mod Unread

@@ -1,14 +1,14 @@
 -- The lists of a record, group by group: what each item is read from, and which fault comes first.
-use Rattle.std.specs.Prelude.{◌≡◌, ◌≢◌, ℕ, ◌-◌, nat_le, if◌then◌else◌, List, [], ◌∷◌, ◌++◌, length, map, flat_map}
-use Rattle.std.specs.Prelude.{position, slice_get, Option, Some, None, is_none, option_and_then, Result, Ok, Err}
-use Rattle.std.specs.List.{AllByRecursion, list_any}
-use Rattle.std.specs.Str.{bytes_eq}
-use Rattle.chart_model.specs.Answers.{when, first_of}
+use Rattle.std.specs.Prelude.{◌≡◌, ◌≢◌, ℕ, ◌-◌, List, [], ◌++◌, length, map, flat_map}
+use Rattle.std.specs.Prelude.{Option, Some, None, Result, Ok, Err}
+use Rattle.std.specs.List.{AllByRecursion}
+use Rattle.chart_model.specs.Answers.{first_of}
 use Rattle.iso8211_formats.specs.Layout.{Layout}
 use Rattle.iso8211_records.specs.declared.value.Value.{Value}
 use Rattle.s57_subfields.specs.declared.fault.FieldFault.{FieldFault}
-use Rattle.s57_subfields.specs.Answers.{missing, bad}
-use Rattle.s57_subfields.specs.Places.{group_start}
+use Rattle.s57_subfields.specs.Answers.{missing}
+use Rattle.s57_subfields.specs.Lists.{column_fault, column_of, value_in}
+use Rattle.s57_subfields.specs.Places.{group_start, subfield_of}
 use Rattle.s57_subfields.specs.RowValues.{RowValues}
 
 -- ---- the groups of a record's fields
@@ -41,22 +41,9 @@ groups_in parts = flat_map (λ field. field.groups) parts
 
 -- ---- what a group is read as
 
-infixl 10 ◌>>=◌
-abbrev pub ◌>>=◌ : {A B : Type 0} → Option A → (A → Option B) → Option B
-option >>= f = option_and_then f option
-
--- the place in a group of the first label of this name, where that is in the repeated group
-abbrev pub place_in_group : Layout → List ℕ → Option ℕ
-place_in_group layout label = do
-  at ← position (λ other. bytes_eq other label) layout.labels
-  if nat_le (group_start layout) at then Some (at - group_start layout) else None
-
 -- what the group's value under a label is read as
 abbrev pub in_group : {A : Type 0} → (Value → Option A) → Layout → List ℕ → List Value → Option A
-in_group read layout label group = do
-  at ← place_in_group layout label
-  value ← slice_get group at
-  read value
+in_group read layout label group = value_in read (subfield_of (Some layout) label) group
 
 -- As many items as groups, and each is what its group is read as.
 abbrev pub ItemsAreGroups :
@@ -72,10 +59,7 @@ ItemsAreGroups {A} item_in list_in =
 abbrev pub fault_under :
     {A : Type 0} → (Value → Option A) → List ℕ → Layout → RowValues → List (List Value) → Option FieldFault
 fault_under read label layout row groups =
-    first_of (
-    when (is_none (place_in_group layout label)) (missing row)
-    ∷ when (list_any (λ group. is_none (in_group read layout label group)) groups) (bad row label)
-    ∷ [])
+    column_fault row groups (column_of read (subfield_of (Some layout) label))
 
 abbrev pub fault_in : {A : Type 0} → Result A FieldFault → Option FieldFault
 fault_in (Ok x) = None

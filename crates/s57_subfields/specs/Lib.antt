@@ -2,6 +2,7 @@ pub mod Answers
 pub mod Columns
 pub mod Groups
 pub mod Labels
+pub mod Lists
 pub mod Names
 pub mod Number
 pub mod Places

@@ -11,15 +11,16 @@ use Rattle.s57_subfields.specs.declared.subfield.Subfield.{Subfield}
 abbrev pub group_start : Layout → ℕ
 group_start layout = option_map_or (λ place. place - 1) layout.repeats_from (length layout.labels)
 
--- of a label that stands twice the first counts
-abbrev pub placed : Layout → Option ℕ → Place
-placed layout None = Missing
-placed layout (Some at) =
-    if nat_lt at (group_start layout) then Once at else Repeated at (length layout.labels - group_start layout - 1)
+-- what a label's place among the labels of the layout is: in the repeated group it counts from the group's start
+abbrev pub place_at : Layout → Option ℕ → Place
+place_at layout None = Missing
+place_at layout (Some at) =
+    if nat_lt at (group_start layout) then Once at else Repeated (at - group_start layout)
 
+-- of a label that stands twice the first counts
 abbrev pub place_of : Option Layout → List ℕ → Place
 place_of None label = Missing
-place_of (Some layout) label = placed layout (position (λ other. bytes_eq other label) layout.labels)
+place_of (Some layout) label = place_at layout (position (λ other. bytes_eq other label) layout.labels)
 
 -- the subfield of a label, where there is a layout
 abbrev pub subfield_of : Option Layout → List ℕ → Subfield

@@ -1,6 +1,6 @@
 -- The groups of a field, each by the values from its first one on: what stands so many values behind that.
 use Rattle.std.specs.List.{flat_map, list_any}
-use Rattle.std.specs.Prelude.{◌≡◌, ℕ, zero, suc, true, List, [], ◌∷◌, slice_get, Option, Some, is_none, option_and_then}
+use Rattle.std.specs.Prelude.{◌≡◌, ℕ, zero, suc, true, List, [], ◌∷◌, slice_get, Option, is_none, option_and_then}
 use Rattle.iso8211_records.specs.declared.value.Value.{Value}
 
 -- the values from the one behind so many others on, and then from each one behind so many more
@@ -20,7 +20,3 @@ HasNone answers = list_any is_none answers ≡ true
 -- what the value so far behind the first is read as
 abbrev pub behind : {A : Type 0} → (Value → Option A) → ℕ → List Value → Option A
 behind read n group = option_and_then read (slice_get group n)
-
--- what an element gives two times, as a pair
-abbrev pub both : {G A B : Type 0} → (G → Option A) → (G → Option B) → G → Option (A × B)
-both f h g = option_and_then (λ a. option_and_then (λ b. Some (a, b)) (h g)) (f g)

@@ -1,24 +1,34 @@
 //! The groups of a record's fields, read one behind the other.
 
-ghost use Rattle.std.specs.Prelude.{◌≡◌, ◌+◌, ◌++◌, All, IfOk, IfSome, IfNone, Some, map, slice_get, option_and_then};
+ghost use Rattle.std.specs.Option.{option_copied};
+ghost use Rattle.std.specs.Prelude.{◌≡◌, ◌+◌, ◌++◌, All, IfOk, IfSome, IfNone, Some, map};
 ghost use Rattle.iso8211_records.specs.declared.value.Value.{Value as RawValue};
-ghost use Rattle.s57_subfields.specs.Tails.{HasNone, behind, tails, tails_of};
+ghost use Rattle.s57_subfields.specs.Tails.{HasNone, tails, tails_of};
+ghost use Rattle.s57_subfields.specs.Answers.{GivesBy};
+ghost use Rattle.s57_subfields.specs.Lists.{list_in};
 
-use crate::kind::Kind;
+use crate::fault::FieldFault;
 use crate::row_fields::RowFields;
+use crate::subfield::group_start;
+use iso8211_formats::Descriptor;
 use iso8211_records::Value;
 use std::alloc::{AllocError, Global};
 
-/// What a group may hold.
+/// A row of subfields that repeat, as it stands in a file's descriptor: what each group is read as.
 pub trait Group {
-    /// What such a group is read as.
+    /// What a group is read as.
     type Output: Drop;
 
-    ghost use Rattle.std.specs.Prelude.{◌≡◌, List, Option, IfOk, IfSome};
+    ghost use Rattle.std.specs.Prelude.{◌≡◌, is_none, List, Option, IfOk, IfSome};
+    ghost use Rattle.std.specs.List.{list_any};
+    ghost use Rattle.s57_subfields.specs.Lists.{Column, list_fault, groups_in_fields};
 
     /// What the values from a group's first one on are read as, and nothing where one is missing or isn't
     /// what it has to be.
     ghost reads: { Self → List RawValue → Option Self.Output };
+
+    /// The subfields, in the order of the row.
+    ghost columns: { Self → List Column };
 
     /// What holds of each group that is read.
     ghost holds: { Self → Self.Output → Type 0 };
@@ -27,26 +37,19 @@ pub trait Group {
     fn read(&self, alloc: Global, group: &[Value]) -> Result<Option<Self::Output>, AllocError>
         ensures found { IfOk result (λ found. found ≡ reads self.now group.now) }
         ensures holds { IfOk result (λ found. IfSome found (holds self.now)) };
-}
 
-/// Reads the value that stands so far behind a group's first.
-pub fn read_behind<K: Kind>(
-    alloc: Global,
-    kind: &K,
-    group: &[Value],
-    distance: u8,
-) -> Result<Option<K::Output>, AllocError>
-    ensures found { IfOk result (λ found. found ≡ behind (K.reads kind.now) distance group.now) }
-    ensures holds { IfOk result (λ found. IfSome found (K.holds kind.now)) }
-{
-    match group.get(distance as usize) {
-        Some(value) => kind.read(alloc, value),
-        None => Ok(None),
-    }
+    /// What is wrong with a list of such groups: the fault of the first subfield of the row that has one. It
+    /// takes no memory.
+    fn first_fault(&self, groups: &Groups, values: &RowFields<'_>) -> Option<FieldFault>
+        ensures { result ≡ list_fault values.now (groups_in_fields groups.now values.now) (columns self.now) };
+
+    /// A group isn't read where one of its subfields isn't.
+    ghost unread: { (row : Self) (group : List RawValue) →
+        is_none (reads row group) ≡ list_any (λ column. column.is_unread group) (columns row) };
 }
 
 /// Where the groups of a field stand.
-#[derive(Clone, Copy)]
+#[derive(Clone, Copy, Debug)]
 pub struct Groups {
     /// The place of the first value of the first group.
     pub at: u8,
@@ -55,6 +58,23 @@ pub struct Groups {
 }
 
 impl Groups {
+    ghost use Rattle.s57_subfields.specs.Lists.{groups_of};
+
+    /// Where the groups of a field with this descriptor stand.
+    pub fn find(descriptor: Option<&Descriptor>) -> Groups
+        ensures { result ≡ groups_of (option_copied descriptor.entry) }
+    {
+        let Some(descriptor) = descriptor else {
+            return Groups { at: 0, between: 0 };
+        };
+        let start = group_start(descriptor);
+        let size = descriptor.labels.as_slice().len() - start;
+        Groups {
+            at: start as u8,
+            between: size.saturating_sub(1) as u8,
+        }
+    }
+
     /// Reads the groups of a field, behind those of the fields before; nothing where one isn't what it has
     /// to be.
     fn read_field<G: Group>(
@@ -85,7 +105,7 @@ impl Groups {
     }
 
     /// Reads the groups of all fields; nothing where one isn't what it has to be.
-    pub fn read<G: Group>(
+    pub(crate) fn read<G: Group>(
         &self,
         alloc: Global,
         values: &RowFields<'_>,
@@ -110,5 +130,34 @@ impl Groups {
             }
         }
         Ok(Some(read))
+    }
+
+    /// Reads the list that a record's fields of a tag have: the empty one where there is no such field.
+    ///
+    /// # Errors
+    ///
+    /// The first `MissingField` or `Value` by subfield in the order of the row, over all groups of all
+    /// fields of the tag; `NoMemory`.
+    pub fn read_list<G: Group>(
+        &self,
+        alloc: Global,
+        values: &RowFields<'_>,
+        row: &G,
+    ) -> Result<Vec<G::Output>, FieldFault>
+        ensures found { GivesBy (λ all. all.items) result
+            (list_in (G.reads row.now) (G.columns row.now) self.now values.now) }
+        ensures holds { IfOk result (λ all. All (G.holds row.now) all.items) }
+    {
+        if values.is_empty() {
+            return Ok(Vec::new(alloc));
+        }
+        match self.read(alloc, values, row)? {
+            Some(items) if !items.is_empty() => Ok(items),
+            // Without a group the labels are looked at all the same.
+            _ => match row.first_fault(self, values) {
+                Some(fault) => Err(fault),
+                None => Ok(Vec::new(alloc)),
+            },
+        }
     }
 }

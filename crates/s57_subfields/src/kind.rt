@@ -1,6 +1,6 @@
 //! What a subfield may hold.
 
-ghost use Rattle.std.specs.Prelude.{◌≡◌, Option, IfOk, IfSome};
+ghost use Rattle.std.specs.Prelude.{◌≡◌, is_some, Option, IfOk, IfSome};
 ghost use Rattle.iso8211_records.specs.declared.value.Value.{Value as RawValue};
 
 use iso8211_records::Value;
@@ -21,4 +21,8 @@ pub trait Kind {
     fn read(&self, alloc: Global, value: &Value) -> Result<Option<Self::Output>, AllocError>
         ensures found { IfOk result (λ found. found ≡ reads self.now value.now) }
         ensures holds { IfOk result (λ found. IfSome found (holds self.now)) };
+
+    /// Whether a value is what it has to be. It takes no memory.
+    fn accepts(&self, value: &Value) -> bool
+        ensures accepted { result ≡ is_some (reads self.now value.now) };
 }

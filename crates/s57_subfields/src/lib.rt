@@ -21,7 +21,7 @@ pub mod tags;
 mod text;
 
 pub use fault::FieldFault;
-pub use group::{Group, Groups, read_behind};
+pub use group::{Group, Groups};
 pub use kind::Kind;
 pub use laws::{groups_are_whole, labels_are_spelled, tags_are_spelled};
 pub use name::{ObjectName, RecordName};

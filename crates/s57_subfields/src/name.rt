@@ -73,6 +73,14 @@ impl Kind for RecordName {
             _ => Ok(None),
         }
     }
+
+    #[tactic(auto, unfolding(crate::specs::Names::record_name))]
+    fn accepts(&self, value: &Value) -> bool {
+        match value {
+            Value::Bits(bits) => name_in(bits.as_slice()).is_some(),
+            _ => false,
+        }
+    }
 }
 
 impl Kind for ObjectName {
@@ -87,6 +95,14 @@ impl Kind for ObjectName {
         match value {
             Value::Bits(bits) => Ok(foid_in(bits.as_slice())),
             _ => Ok(None),
+        }
+    }
+
+    #[tactic(auto, unfolding(crate::specs::Names::object_name))]
+    fn accepts(&self, value: &Value) -> bool {
+        match value {
+            Value::Bits(bits) => foid_in(bits.as_slice()).is_some(),
+            _ => false,
         }
     }
 }

@@ -82,6 +82,10 @@ impl Kind for OneByte {
             None => Ok(None),
         }
     }
+
+    fn accepts(&self, value: &Value) -> bool {
+        number_up_to(u32::from(u8::MAX), value).is_some()
+    }
 }
 
 impl Kind for TwoBytes {
@@ -97,6 +101,10 @@ impl Kind for TwoBytes {
             None => Ok(None),
         }
     }
+
+    fn accepts(&self, value: &Value) -> bool {
+        number_up_to(u32::from(u16::MAX), value).is_some()
+    }
 }
 
 impl Kind for FourBytes {
@@ -108,5 +116,9 @@ impl Kind for FourBytes {
 
     fn read(&self, _alloc: Global, value: &Value) -> Result<Option<u32>, AllocError> {
         Ok(number_up_to(u32::MAX, value))
+    }
+
+    fn accepts(&self, value: &Value) -> bool {
+        number_up_to(u32::MAX, value).is_some()
     }
 }

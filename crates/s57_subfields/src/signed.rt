@@ -55,6 +55,10 @@ impl Kind for Within {
     fn read(&self, _alloc: Global, value: &Value) -> Result<Option<i32>, AllocError> {
         Ok(number_within(self.most, value))
     }
+
+    fn accepts(&self, value: &Value) -> bool {
+        number_within(self.most, value).is_some()
+    }
 }
 
 /// The depth of a sounding (VE3D): decimetres from -999,999 to 999,999, read as centimetres.
@@ -77,5 +81,10 @@ impl Kind for Depth {
             Some(decimetres) => Ok(Some(decimetres * 10)),
             None => Ok(None),
         }
+    }
+
+    #[tactic(auto, unfolding(crate::specs::Signed::depth_in))]
+    fn accepts(&self, value: &Value) -> bool {
+        number_within(GREATEST_DEPTH, value).is_some()
     }
 }

@@ -1,20 +1,21 @@
 //! Where a subfield stands in the descriptor of a file's field.
 
-ghost use Rattle.std.specs.Prelude.{◌≡◌, ◌≢◌, ℕ, ◌+◌, ◌<◌, ◌≤◌, Some, length, position, All, IfSome, IfNone, IfOk};
+ghost use Rattle.std.specs.Prelude.{◌≡◌, ◌<◌, ◌≤◌, Some, length, position, IfSome, IfOk};
 ghost use Rattle.std.specs.Option.{option_copied};
 ghost use Rattle.std.specs.Str.{bytes_eq};
-ghost use Rattle.s57_subfields.specs.Answers.{Gives, GivesBy};
-ghost use Rattle.s57_subfields.specs.Columns.{once_in, column_in};
+ghost use Rattle.s57_subfields.specs.Answers.{Gives};
+ghost use Rattle.s57_subfields.specs.Columns.{once_in};
+ghost use Rattle.s57_subfields.specs.Lists.{column_fault, column_of, groups_in_fields, value_in};
 ghost use Rattle.s57_subfields.specs.Places.{group_start, place_of};
-ghost use Rattle.s57_subfields.specs.declared.subfield.Place.TheVariants.{Repeated};
 
-use crate::column::{Column, read_value};
+use crate::column::has_bad;
 use crate::fault::FieldFault;
 use crate::group::Groups;
 use crate::kind::Kind;
 use crate::row_fields::RowFields;
 use iso8211_formats::Descriptor;
-use std::alloc::Global;
+use iso8211_records::Value;
+use std::alloc::{AllocError, Global};
 
 /// Where a label stands in a field's descriptor. Places are counted from 0.
 #[derive(Clone, Copy, Debug, PartialEq, Eq)]
@@ -23,9 +24,8 @@ pub enum Place {
     Missing,
     /// The label is this one of those that stand once.
     Once(u8),
-    /// The label is in the repeated group: its first value is this one of the field, and so many values
-    /// lie between one of its values and the next.
-    Repeated { at: u8, between: u8 },
+    /// The label is in the repeated group, so many labels behind the group's first one.
+    Repeated(u8),
 }
 
 /// A subfield as it was found in the descriptor of a file's field.
@@ -44,7 +44,7 @@ fn first_place(labels: &[[u8; 4]], label: [u8; 4]) -> Option<usize>
 }
 
 /// Where the repeated group begins: behind the last label where nothing repeats.
-fn group_start(descriptor: &Descriptor) -> usize
+pub(crate) fn group_start(descriptor: &Descriptor) -> usize
     ensures start { result ≡ group_start descriptor.now }
     ensures within { result ≤ length descriptor.now.labels }
     ensures few { length descriptor.now.labels ≤ 64 }
@@ -65,10 +65,7 @@ fn place_in(descriptor: &Descriptor, label: [u8; 4]) -> Place
     match first_place(labels, label) {
         None => Place::Missing,
         Some(at) if at < start => Place::Once(at as u8),
-        Some(at) => Place::Repeated {
-            at: at as u8,
-            between: (labels.len() - start - 1) as u8,
-        },
+        Some(at) => Place::Repeated((at - start) as u8),
     }
 }
 
@@ -108,62 +105,53 @@ impl Subfield {
             return Err(values.missing());
         };
         match first.get(at as usize) {
-            Some(value) => read_value(alloc, kind, value, values.number(), self.label),
+            Some(value) => match kind.read(alloc, value)? {
+                Some(read) => Ok(read),
+                None => Err(values.bad(self.label)),
+            },
             None => Err(values.bad(self.label)),
         }
     }
 
-    /// The groups that begin with the subfield, where it is in the repeated group.
-    pub fn groups(&self) -> Option<Groups>
-        ensures found { IfSome result (λ groups. self.now.place ≡ Repeated groups.at groups.between) }
-        ensures none { IfNone result ((at between : ℕ) → self.now.place ≢ Repeated at between) }
-    {
-        match self.place {
-            Place::Repeated { at, between } => Some(Groups { at, between }),
-            _ => None,
-        }
-    }
-
-    /// How many values the subfield stands behind the first one of such groups, where it is in them.
-    pub fn distance(&self, groups: &Groups) -> Option<u8>
-        ensures found { IfSome result (λ n. self.now.place ≡ Repeated (groups.now.at + n) groups.now.between) }
-        ensures none { IfNone result ((n : ℕ) → self.now.place ≢ Repeated (groups.now.at + n) groups.now.between) }
-    {
-        match self.place {
-            Place::Repeated { at, between } if at >= groups.at && between == groups.between => {
-                Some(at - groups.at)
-            }
-            _ => None,
-        }
-    }
-
-    /// What the subfield is read as in each group of each of the record's fields of the tag, in order.
-    ///
-    /// # Errors
-    ///
-    /// `MissingField` where the descriptor doesn't have it in its repeated group; `Value`; `NoMemory`.
-    #[tactic(auto, unfolding(crate::specs::Columns::column_in))]
-    pub fn column<K: Kind>(
+    /// What a group's value of the subfield is read as; nothing where the subfield isn't in the repeated group,
+    /// or the value isn't what it has to be.
+    pub fn in_group<K: Kind>(
         &self,
         alloc: Global,
+        group: &[Value],
+        kind: &K,
+    ) -> Result<Option<K::Output>, AllocError>
+        ensures found { IfOk result (λ found. found ≡ value_in (K.reads kind.now) self.now group.now) }
+        ensures holds { IfOk result (λ found. IfSome found (K.holds kind.now)) }
+    {
+        let Place::Repeated(distance) = self.place else {
+            return Ok(None);
+        };
+        match group.get(distance as usize) {
+            Some(value) => kind.read(alloc, value),
+            None => Ok(None),
+        }
+    }
+
+    /// What is wrong under the subfield in such groups: it isn't in the repeated group, or a group's value
+    /// isn't what it has to be. It takes no memory.
+    #[tactic(auto, unfolding(crate::specs::Lists::column_fault))]
+    pub fn fault<K: Kind>(
+        &self,
+        groups: &Groups,
         values: &RowFields<'_>,
         kind: &K,
-    ) -> Result<Vec<K::Output>, FieldFault>
-        ensures found { GivesBy (λ read. read.items) result (column_in (K.reads kind.now) values.now self.now) }
-        ensures holds { IfOk result (λ read. All (K.holds kind.now) read.items) }
+    ) -> Option<FieldFault>
+        ensures { result ≡ column_fault values.now (groups_in_fields groups.now values.now)
+            (column_of (K.reads kind.now) self.now) }
     {
-        match self.place {
-            Place::Repeated { at, between } => {
-                let column = Column {
-                    tag: values.tag(),
-                    number: values.number(),
-                    label: self.label,
-                    at,
-                    between,
-                };
-                column.read(alloc, values.record(), kind)
-            }
-            _ => Err(values.missing()),
+        let Place::Repeated(distance) = self.place else {
+            return Some(values.missing());
+        };
+        if has_bad(groups, values, kind, distance) {
+            Some(values.bad(self.label))
+        } else {
+            None
         }
     }
 }

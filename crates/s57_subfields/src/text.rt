@@ -46,6 +46,16 @@ impl Kind for NineDigits {
             _ => Ok(None),
         }
     }
+
+    #[tactic(auto, unfolding(crate::specs::Texts::nine_digits))]
+    fn accepts(&self, value: &Value) -> bool {
+        match value {
+            Value::Text(text) if text.as_slice().len() <= 9 => {
+                digits_up_to(999_999_999, text.as_slice()).is_some()
+            }
+            _ => false,
+        }
+    }
 }
 
 impl Kind for EightBytes {
@@ -64,6 +74,14 @@ impl Kind for EightBytes {
                 Ok(Some(bytes))
             }
             _ => Ok(None),
+        }
+    }
+
+    #[tactic(auto, unfolding(crate::specs::Texts::eight_bytes))]
+    fn accepts(&self, value: &Value) -> bool {
+        match value {
+            Value::Text(text) => text.as_slice().len() == 8,
+            _ => false,
         }
     }
 }
@@ -121,6 +139,14 @@ impl Kind for PlainText {
             _ => Ok(None),
         }
     }
+
+    #[tactic(auto, unfolding(crate::specs::Texts::plain_text))]
+    fn accepts(&self, value: &Value) -> bool {
+        match value {
+            Value::Text(text) => is_plain(text.as_slice()),
+            _ => false,
+        }
+    }
 }
 
 impl Kind for DataSetName {
@@ -137,6 +163,14 @@ impl Kind for DataSetName {
                 Ok(Some(copied(alloc, text.as_slice())?))
             }
             _ => Ok(None),
+        }
+    }
+
+    #[tactic(auto, unfolding(crate::specs::Texts::data_set_name))]
+    fn accepts(&self, value: &Value) -> bool {
+        match value {
+            Value::Text(text) => is_key(key_in(text.as_slice())),
+            _ => false,
         }
     }
 }

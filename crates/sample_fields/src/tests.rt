@@ -1,3 +1,4 @@
+mod faults;
 mod fields;
 mod overlaps;
 mod records;

@@ -2,8 +2,7 @@ use Rattle.std.proofs.Common.{◌∙◌, ◌+◌, ◌++◌, Some, drop, map, sym
 use Rattle.std.specs.Prelude.{All}
 use Rattle.std.proofs.lemmas.List.Elements.{All-push}
 use Rattle.s57_subfields.specs.Tails.{tails}
-use Rattle.s57_subfields.proofs.GroupValues.{any}
-use Rattle.s57_subfields.proofs.Tails.{tails-drop, group-read, rest-is}
+use Rattle.s57_subfields.proofs.Tails.{any, tails-drop, group-read, rest-is}
 use Rattle.s57_subfields.proofs.Unread.{group-unread}
 use Rattle.s57_subfields.proofs.group.Groups.read_field.Goals as goal
 
