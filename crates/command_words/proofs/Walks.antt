@@ -5,7 +5,7 @@ use Rattle.clap.proofs.OnLiterals.{clap_on_literals}
 use Rattle.chart_model.specs.declared.settings.Settings.{Settings}
 use Rattle.command_words.specs.Settings.{defaults, centimetres_of, scale_of, shades_of}
 use Rattle.command_words.specs.Reading.{WordsValue, given, words_of, said_in, settings_in}
-use Rattle.command_words.specs.Given.{naming, with_setting, with_settings}
+use Rattle.command_words.specs.Given.{naming, with_settings, OptionSets}
 
 -- one value that may be missing decides on the settings, and these on the whole
 abbrev whole : {A : Type 0} → List ℕ → List ℕ → Option A → (A → Settings) → Option WordsValue
@@ -22,37 +22,27 @@ pub named : (program catalogue table : List ℕ)
 unfolding clap_on_literals words_of said_in settings_in
 named program catalogue table = refl
 
-pub safety_contour_set : (program catalogue table text : List ℕ)
-    → words_of (naming program catalogue table ((codes "--safety-contour=" ++ text) ∷ []))
-    ≡ with_setting catalogue table (λ depth. record defaults { safety_contour = depth }) (centimetres_of text)
+pub safety_contour_set : OptionSets (codes "--safety-contour=") centimetres_of (λ depth. record defaults { safety_contour = depth })
 unfolding clap_on_literals words_of said_in settings_in
 safety_contour_set program catalogue table text = one_value catalogue table (centimetres_of text)
     (λ depth. record defaults { safety_contour = depth })
 
-pub safety_depth_set : (program catalogue table text : List ℕ)
-    → words_of (naming program catalogue table ((codes "--safety-depth=" ++ text) ∷ []))
-    ≡ with_setting catalogue table (λ depth. record defaults { safety_depth = depth }) (centimetres_of text)
+pub safety_depth_set : OptionSets (codes "--safety-depth=") centimetres_of (λ depth. record defaults { safety_depth = depth })
 unfolding clap_on_literals words_of said_in settings_in
 safety_depth_set program catalogue table text = one_value catalogue table (centimetres_of text)
     (λ depth. record defaults { safety_depth = depth })
 
-pub shallow_set : (program catalogue table text : List ℕ)
-    → words_of (naming program catalogue table ((codes "--shallow=" ++ text) ∷ []))
-    ≡ with_setting catalogue table (λ depth. record defaults { shallow = depth }) (centimetres_of text)
+pub shallow_set : OptionSets (codes "--shallow=") centimetres_of (λ depth. record defaults { shallow = depth })
 unfolding clap_on_literals words_of said_in settings_in
 shallow_set program catalogue table text = one_value catalogue table (centimetres_of text)
     (λ depth. record defaults { shallow = depth })
 
-pub deep_set : (program catalogue table text : List ℕ)
-    → words_of (naming program catalogue table ((codes "--deep=" ++ text) ∷ []))
-    ≡ with_setting catalogue table (λ depth. record defaults { deep = depth }) (centimetres_of text)
+pub deep_set : OptionSets (codes "--deep=") centimetres_of (λ depth. record defaults { deep = depth })
 unfolding clap_on_literals words_of said_in settings_in
 deep_set program catalogue table text = one_value catalogue table (centimetres_of text)
     (λ depth. record defaults { deep = depth })
 
-pub shades_set : (program catalogue table text : List ℕ)
-    → words_of (naming program catalogue table ((codes "--shades=" ++ text) ∷ []))
-    ≡ with_setting catalogue table (λ shades. record defaults { shades = shades }) (shades_of text)
+pub shades_set : OptionSets (codes "--shades=") shades_of (λ shades. record defaults { shades = shades })
 unfolding clap_on_literals words_of said_in settings_in
 shades_set program catalogue table text = one_value catalogue table (shades_of text)
     (λ shades. record defaults { shades = shades })
@@ -63,9 +53,7 @@ pub pattern_set : (program catalogue table : List ℕ)
 unfolding clap_on_literals words_of said_in settings_in
 pattern_set program catalogue table = refl
 
-pub scale_set : (program catalogue table text : List ℕ)
-    → words_of (naming program catalogue table ((codes "--scale=" ++ text) ∷ []))
-    ≡ with_setting catalogue table (λ scale. record defaults { scale = scale }) (scale_of text)
+pub scale_set : OptionSets (codes "--scale=") scale_of (λ scale. record defaults { scale = scale })
 unfolding clap_on_literals words_of said_in settings_in
 scale_set program catalogue table text = one_value catalogue table (scale_of text)
     (λ scale. record defaults { scale = scale })

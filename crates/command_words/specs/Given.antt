@@ -1,7 +1,7 @@
 -- Words that name the two files, and further ones.
-use Rattle.std.specs.Prelude.{ℕ, List, [], ◌∷◌, ◌++◌, codes, Option, option_map}
+use Rattle.std.specs.Prelude.{◌≡◌, ℕ, List, [], ◌∷◌, ◌++◌, codes, Option, option_map}
 use Rattle.chart_model.specs.declared.settings.Settings.{Settings}
-use Rattle.command_words.specs.Reading.{WordsValue}
+use Rattle.command_words.specs.Reading.{WordsValue, words_of}
 
 -- the program's name, the names of the two files behind `=`, and further words
 abbrev pub naming : List ℕ → List ℕ → List ℕ → List (List ℕ) → List (List ℕ)
@@ -20,3 +20,9 @@ with_settings catalogue table settings = record { catalogue = catalogue; table =
 -- the two names and the settings that a value makes, where there is a value
 abbrev pub with_setting : {A : Type 0} → List ℕ → List ℕ → (A → Settings) → Option A → Option WordsValue
 with_setting catalogue table set value = option_map (λ v. with_settings catalogue table (set v)) value
+
+-- an option behind the two names gives the settings that its value makes; where its text is no value the words say nothing
+abbrev pub OptionSets : {A : Type 0} → List ℕ → (List ℕ → Option A) → (A → Settings) → Type 0
+OptionSets option value set = (program catalogue table text : List ℕ) →
+    words_of (naming program catalogue table ((option ++ text) ∷ []))
+    ≡ with_setting catalogue table set (value text)

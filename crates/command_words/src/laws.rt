@@ -5,7 +5,7 @@ ghost use Rattle.std.specs.Prelude.{slice_index, true};
 ghost use Rattle.command_words.specs.Numbers.{SpellsNumber, number_from_to};
 ghost use Rattle.command_words.specs.Settings.{AreInRange, centimetres_of, defaults, scale_of, shades_of};
 ghost use Rattle.command_words.specs.Reading.{WordsValue, words_of};
-ghost use Rattle.command_words.specs.Given.{naming, naming_apart, with_setting, with_settings};
+ghost use Rattle.command_words.specs.Given.{naming, naming_apart, with_settings, OptionSets};
 
 /// The function that definitions cite gives the number that a text spells, where it is in the range.
 pub fn numbers_are_spelled()
@@ -29,31 +29,19 @@ pub fn defaults_stand_alone()
 
 /// Each depth's option changes its own depth, and nothing else.
 pub fn depths_are_set()
-    ensures safety_contour { (program catalogue table text : List ℕ) →
-        words_of (naming program catalogue table ((codes "--safety-contour=" ++ text) ∷ []))
-        ≡ with_setting catalogue table (λ depth. record defaults { safety_contour = depth }) (centimetres_of text) }
-    ensures safety_depth { (program catalogue table text : List ℕ) →
-        words_of (naming program catalogue table ((codes "--safety-depth=" ++ text) ∷ []))
-        ≡ with_setting catalogue table (λ depth. record defaults { safety_depth = depth }) (centimetres_of text) }
-    ensures shallow { (program catalogue table text : List ℕ) →
-        words_of (naming program catalogue table ((codes "--shallow=" ++ text) ∷ []))
-        ≡ with_setting catalogue table (λ depth. record defaults { shallow = depth }) (centimetres_of text) }
-    ensures deep { (program catalogue table text : List ℕ) →
-        words_of (naming program catalogue table ((codes "--deep=" ++ text) ∷ []))
-        ≡ with_setting catalogue table (λ depth. record defaults { deep = depth }) (centimetres_of text) }
+    ensures safety_contour { OptionSets (codes "--safety-contour=") centimetres_of (λ depth. record defaults { safety_contour = depth }) }
+    ensures safety_depth { OptionSets (codes "--safety-depth=") centimetres_of (λ depth. record defaults { safety_depth = depth }) }
+    ensures shallow { OptionSets (codes "--shallow=") centimetres_of (λ depth. record defaults { shallow = depth }) }
+    ensures deep { OptionSets (codes "--deep=") centimetres_of (λ depth. record defaults { deep = depth }) }
 {}
 
 /// Each other option changes its own setting, and nothing else.
 pub fn looks_are_set()
-    ensures shades { (program catalogue table text : List ℕ) →
-        words_of (naming program catalogue table ((codes "--shades=" ++ text) ∷ []))
-        ≡ with_setting catalogue table (λ shades. record defaults { shades = shades }) (shades_of text) }
+    ensures shades { OptionSets (codes "--shades=") shades_of (λ shades. record defaults { shades = shades }) }
     ensures pattern { (program catalogue table : List ℕ) →
         words_of (naming program catalogue table (codes "--pattern" ∷ []))
         ≡ Some (with_settings catalogue table (record defaults { pattern = true })) }
-    ensures scale { (program catalogue table text : List ℕ) →
-        words_of (naming program catalogue table ((codes "--scale=" ++ text) ∷ []))
-        ≡ with_setting catalogue table (λ scale. record defaults { scale = scale }) (scale_of text) }
+    ensures scale { OptionSets (codes "--scale=") scale_of (λ scale. record defaults { scale = scale }) }
 {}
 
 /// Words that don't name both files, and words that ask for more than there is, say nothing.

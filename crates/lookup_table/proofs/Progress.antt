@@ -6,7 +6,7 @@ use Rattle.std.specs.List.{flat_map}
 use Rattle.std.specs.Str.Lines.{lines}
 use Rattle.std.proofs.lemmas.List.Concat.{flat_map-append}
 use Rattle.chart_model.specs.Answers.{unless, FailsBy}
-use Rattle.text_lines.proofs.LinesSoFar.{ArePassed, none_passed, one_passed, fault_found, all_passed}
+use Rattle.text_lines.proofs.RestSoFar.{ArePassed, none_passed, one_passed, fault_found, all_passed}
 use Rattle.object_catalogue.specs.Codes.{CatalogueValue}
 use Rattle.lookup_table.specs.Answers.{told, Answers, AnswersLine}
 use Rattle.lookup_table.specs.Lines.{said, table_in, fault_at, line_fault, line_in}

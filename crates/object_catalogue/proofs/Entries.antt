@@ -1,5 +1,5 @@
 -- A line is an entry as it is spelled.
-use Rattle.std.proofs.Common.{◌≡◌, ◌≢◌, ℕ, ◌≤◌, Bool, true, false, cond, ◌&&◌, eqb, List, [], ◌∷◌, length, Option, Some, None, refl, sym, ap, ◌∙◌, subst, arith}
+use Rattle.std.proofs.Common.{◌≡◌, ◌≢◌, ℕ, ◌≤◌, Bool, true, false, cond, ◌&&◌, List, [], ◌∷◌, length, Option, Some, None, refl, sym, ap, ◌∙◌, subst, arith}
 use Rattle.std.specs.Bool.{Decides}
 use Rattle.std.specs.Prelude.{codes, nat_le, IsTrue, option_and_then, is_none, not}
 use Rattle.std.specs.List.{join_with_byte}
@@ -7,7 +7,6 @@ use Rattle.std.specs.Str.{bytes_eq}
 use Rattle.std.proofs.lemmas.Bool.{leb-true, and_parts, true≢false, false_from_ne_true}
 use Rattle.std.proofs.lemmas.Bool.Decides.{nat_tests}
 use Rattle.std.proofs.lemmas.List.Elements.{All-nil, All-cons}
-use Rattle.std.proofs.lemmas.List.Splits.{length-slice_split}
 use Rattle.std.proofs.lemmas.Slice.Eq.{bytes_eq-Decides}
 use Rattle.common_lemmas.proofs.Choices.{some_is}
 use Rattle.text_scan.specs.Number.{IsNumber, value_of, number_of}
@@ -181,15 +180,3 @@ bad-from spelled joined line h =
     both_true (is_silent line) (is_none (entry_of line))
     (false_from_ne_true (is_silent line) (λ t. h.speaks ((silent_tests line).0 t)))
     (none_told (entry_of line) (λ entry e. h.no_entry entry (entry_spelled spelled joined line entry e)))
-
--- ---- a line, word by word
-
-too_many : (word digits acronym : List ℕ) (more : List (List ℕ)) → 1 ≤ length more → entry_in (word ∷ digits ∷ acronym ∷ more) ≡ None
-unfolding entry_in
-too_many word digits acronym [] h = absurd (omega (arith, h))
-too_many word digits acronym (other ∷ more) h = refl
-
--- a fourth word
-pub fourth_word : (words : List (List ℕ)) (word digits acronym rest : List ℕ) → words ≡ word ∷ digits ∷ acronym ∷ parts_at 32 rest → None ≡ entry_in words
-fourth_word words word digits acronym rest e =
-    sym (ap entry_in e ∙ too_many word digits acronym (parts_at 32 rest) (omega (arith, length-slice_split (λ b. eqb b 32) rest)))

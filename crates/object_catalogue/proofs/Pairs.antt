@@ -7,17 +7,17 @@ use Rattle.indexmap.specs.IndexMap.{insert_entry}
 use Rattle.object_catalogue.specs.declared.entry.Kind.{Kind}
 use Rattle.object_catalogue.specs.declared.entry.Kind.TheVariants.{Class, Attribute}
 use Rattle.object_catalogue.specs.declared.entry.Entry.{Entry}
-use Rattle.object_catalogue.specs.Codes.{turned, has_code, has_acronym, code_in, pairs_of, pair_if, catalogue_of, with_entry}
+use Rattle.object_catalogue.specs.Codes.{by_acronym, has_code, has_acronym, code_in, pairs_of, pair_if, catalogue_of, with_entry}
 
 pub keys_with_code : (code : ℕ) (pairs : List (ℕ × List ℕ)) → list_any (eqb code) (keys_of pairs) ≡ has_code pairs code
 keys_with_code code [] = refl
 keys_with_code code (pair ∷ pairs) = ap (λ (b : Bool). eqb code pair.0 || b) (keys_with_code code pairs)
 
-pub keys_with_acronym : (acronym : List ℕ) (pairs : List (ℕ × List ℕ)) → list_any (bytes_eq acronym) (keys_of (turned pairs)) ≡ has_acronym pairs acronym
+pub keys_with_acronym : (acronym : List ℕ) (pairs : List (ℕ × List ℕ)) → list_any (bytes_eq acronym) (keys_of (by_acronym pairs)) ≡ has_acronym pairs acronym
 keys_with_acronym acronym [] = refl
 keys_with_acronym acronym (pair ∷ pairs) = ap (λ (b : Bool). bytes_eq acronym pair.1 || b) (keys_with_acronym acronym pairs)
 
-pub code_found : (acronym : List ℕ) (pairs : List (ℕ × List ℕ)) → lookup (bytes_eq acronym) (turned pairs) ≡ code_in pairs acronym
+pub code_found : (acronym : List ℕ) (pairs : List (ℕ × List ℕ)) → lookup (bytes_eq acronym) (by_acronym pairs) ≡ code_in pairs acronym
 unfolding code_in
 code_found acronym [] = refl
 code_found acronym (pair ∷ pairs) = ap (λ (o : Option ℕ). cond (bytes_eq acronym pair.1) (Some pair.0) o) (code_found acronym pairs)
@@ -38,9 +38,9 @@ inserted_new {K} {V} eq (e ∷ es) k v h =
     ap (λ (b : Bool). cond b ((e.0, v) ∷ es) (e ∷ insert_entry eq es k v)) (left_false (eq k e.0) _ h)
     ∙ ap (λ (l : List (K × V)). e ∷ l) (inserted_new eq es k v (right_false (eq k e.0) _ h))
 
-pub turned-push : (pairs : List (ℕ × List ℕ)) (code : ℕ) (acronym : List ℕ) → turned (pairs ++ (code, acronym) ∷ []) ≡ turned pairs ++ (acronym, code) ∷ []
-turned-push [] code acronym = refl
-turned-push (pair ∷ pairs) code acronym = ap (λ (l : List (List ℕ × ℕ)). (pair.1, pair.0) ∷ l) (turned-push pairs code acronym)
+pub by_acronym-push : (pairs : List (ℕ × List ℕ)) (code : ℕ) (acronym : List ℕ) → by_acronym (pairs ++ (code, acronym) ∷ []) ≡ by_acronym pairs ++ (acronym, code) ∷ []
+by_acronym-push [] code acronym = refl
+by_acronym-push (pair ∷ pairs) code acronym = ap (λ (l : List (List ℕ × ℕ)). (pair.1, pair.0) ∷ l) (by_acronym-push pairs code acronym)
 
 -- ---- entries
 

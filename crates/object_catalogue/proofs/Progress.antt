@@ -1,9 +1,10 @@
 -- How far a catalogue is read.
-use Rattle.std.proofs.Common.{◌≡◌, ℕ, ◌+◌, ◌≤◌, List, [], ◌∷◌, ◌++◌, Option, sym, ap, ◌∙◌, subst, arith}
+use Rattle.std.proofs.Common.{◌≡◌, ℕ, ◌+◌, List, [], ◌∷◌, ◌++◌, length, Option, sym, ap, ◌∙◌, subst}
 use Rattle.std.specs.Prelude.{Result, Ok, Err}
 use Rattle.std.specs.Str.Lines.{lines}
 use Rattle.chart_model.specs.Answers.{unless, FailsBy}
-use Rattle.text_lines.proofs.LinesSoFar.{ArePassed, none_passed, one_passed, fault_found, all_passed}
+use Rattle.text_lines.specs.Lines.{numbered_lines}
+use Rattle.text_lines.proofs.LinesSoFar.{ArePassed, none_passed, next_number, one_passed, fault_found, all_passed}
 use Rattle.object_catalogue.specs.Answers.{told, Answers}
 use Rattle.object_catalogue.specs.Codes.{CatalogueValue, empty_catalogue}
 use Rattle.object_catalogue.specs.Reading.{catalogue_on, catalogue_in, fault_at, line_in}
@@ -11,51 +12,56 @@ use Rattle.object_catalogue.specs.declared.fault.CatalogueFault.{CatalogueFault}
 use Rattle.object_catalogue.specs.declared.fault.CatalogueFault.TheVariants.{BadLine, Twice, NoMemory}
 use Rattle.object_catalogue.proofs.Lines.{line_taken, line_refused, no_lines as nothing_said}
 
--- the lines before the rest have no fault, and say what the catalogue has
-pub record IsReadSoFar (bytes : List ℕ) (catalogue : CatalogueValue) (number : ℕ) (rest : List ℕ) : Type 0 where
+-- the lines before those that are left have no fault, and say what the catalogue has
+pub record IsReadSoFar (bytes : List ℕ) (catalogue : CatalogueValue) (left : List (ℕ × List ℕ)) : Type 0 where
   pub before : List (List ℕ)
-  pub passed : ArePassed fault_at bytes number rest before
-  pub few : number ≤ 10000
+  pub passed : ArePassed fault_at bytes left before
   pub said : catalogue ≡ catalogue_on before
 
-pub read_none : (bytes : List ℕ) (catalogue : CatalogueValue) → catalogue ≡ empty_catalogue → IsReadSoFar bytes catalogue 0 bytes
-read_none bytes catalogue e = record {
+pub read_none : (bytes : List ℕ) (left : List (ℕ × List ℕ)) (catalogue : CatalogueValue) → left ≡ numbered_lines bytes → catalogue ≡ empty_catalogue
+    → IsReadSoFar bytes catalogue left
+read_none bytes left catalogue all e = record {
   before = [];
-  passed = none_passed fault_at bytes;
-  few = omega arith;
+  passed = none_passed fault_at bytes left all;
   said = e ∙ sym nothing_said;
 }
 
-pub read_more : (bytes rest others line : List ℕ) (catalogue next : CatalogueValue) (number : ℕ) → IsReadSoFar bytes catalogue number rest
-    → lines rest ≡ line ∷ lines others → number + 1 ≤ 10000 → line_in catalogue (number + 1) line ≡ Ok next → IsReadSoFar bytes next (number + 1) others
-read_more bytes rest others line catalogue next number so_far cut few e =
-    let taken = line_taken so_far.before line next ((λ i. line_in (sym so_far.said i) (sym so_far.passed.counted i + 1) line) ∙ e) in
-    record {
-      before = so_far.before ++ line ∷ [];
-      passed = one_passed fault_at bytes rest others line number so_far.before so_far.passed cut taken.0;
-      few = few;
-      said = taken.1;
-    }
+module _ (bytes : List ℕ) (left others : List (ℕ × List ℕ)) (number : ℕ) (line : List ℕ) (catalogue : CatalogueValue)
+    (so_far : IsReadSoFar bytes catalogue left) (next : left ≡ (number, line) ∷ others) where
+  counted : number ≡ length so_far.before + 1
+  counted = next_number fault_at bytes left others number line so_far.before so_far.passed next
 
-fails : (bytes rest others line : List ℕ) (catalogue : CatalogueValue) (number : ℕ) (f : CatalogueFault) → IsReadSoFar bytes catalogue number rest
-    → lines rest ≡ line ∷ lines others → line_in catalogue (number + 1) line ≡ Err f → catalogue_in bytes ≡ Err f
-fails bytes rest others line catalogue number f so_far cut e =
-    let refused = line_refused so_far.before line f ((λ i. line_in (sym so_far.said i) (sym so_far.passed.counted i + 1) line) ∙ e) in
-    ap (λ (o : Option CatalogueFault). unless o (catalogue_on (lines bytes))) (fault_found fault_at bytes rest others line number so_far.before f so_far.passed cut refused)
+  -- the line, behind those that are passed
+  in_place : line_in (catalogue_on so_far.before) (length so_far.before + 1) line ≡ line_in catalogue number line
+  in_place = λ i. line_in (sym so_far.said i) (sym counted i) line
+
+  pub read_more : (more : CatalogueValue) → line_in catalogue number line ≡ Ok more → IsReadSoFar bytes more others
+  read_more more e =
+      let taken = line_taken so_far.before line more (in_place ∙ e) in
+      record {
+        before = so_far.before ++ line ∷ [];
+        passed = one_passed fault_at bytes left others number line so_far.before so_far.passed next taken.0;
+        said = taken.1;
+      }
+
+  fails : (f : CatalogueFault) → line_in catalogue number line ≡ Err f → catalogue_in bytes ≡ Err f
+  fails f e =
+      let refused = line_refused so_far.before line f (in_place ∙ e) in
+      ap (λ (o : Option CatalogueFault). unless o (catalogue_on (lines bytes)))
+      (fault_found fault_at bytes left others number line so_far.before so_far.passed next f refused)
+
+  -- a line's fault is that of the file
+  pub read_fault : (f : CatalogueFault) → FailsBy told f (line_in catalogue number line) → FailsBy told f (catalogue_in bytes)
+  read_fault (BadLine n) h = fails (BadLine n) h
+  read_fault (Twice n) h = fails (Twice n) h
+  read_fault NoMemory h = h
 
 abbrev ok : CatalogueValue → Result CatalogueValue CatalogueFault
 ok c = Ok c
 
--- a line's fault is that of the file
-pub read_fault : (bytes rest others line : List ℕ) (catalogue : CatalogueValue) (number : ℕ) (f : CatalogueFault) → IsReadSoFar bytes catalogue number rest
-    → lines rest ≡ line ∷ lines others → FailsBy told f (line_in catalogue (number + 1) line) → FailsBy told f (catalogue_in bytes)
-read_fault bytes rest others line catalogue number (BadLine n) so_far cut h = fails bytes rest others line catalogue number (BadLine n) so_far cut h
-read_fault bytes rest others line catalogue number (Twice n) so_far cut h = fails bytes rest others line catalogue number (Twice n) so_far cut h
-read_fault bytes rest others line catalogue number NoMemory so_far cut h = h
-
-pub read_all : (bytes rest : List ℕ) (catalogue : CatalogueValue) (number : ℕ) → IsReadSoFar bytes catalogue number rest → lines rest ≡ [] → catalogue_in bytes ≡ Ok catalogue
-read_all bytes rest catalogue number so_far end =
-    let all = all_passed fault_at bytes rest number so_far.before so_far.passed end in
+pub read_all : (bytes : List ℕ) (left : List (ℕ × List ℕ)) (catalogue : CatalogueValue) → IsReadSoFar bytes catalogue left → left ≡ [] → catalogue_in bytes ≡ Ok catalogue
+read_all bytes left catalogue so_far end =
+    let all = all_passed fault_at bytes left so_far.before so_far.passed end in
     ap (λ (o : Option CatalogueFault). unless o (catalogue_on (lines bytes))) all.1
     ∙ ap (λ (c : CatalogueValue). ok c) (ap catalogue_on all.0 ∙ sym so_far.said)
 

@@ -49,9 +49,9 @@ code_in [] acronym = None
 code_in (pair ∷ pairs) acronym = if bytes_eq acronym pair.1 then Some pair.0 else code_in pairs acronym
 
 -- acronyms and codes, in the same order
-abbrev pub turned : List (ℕ × List ℕ) → List (List ℕ × ℕ)
-turned [] = []
-turned (pair ∷ pairs) = (pair.1, pair.0) ∷ turned pairs
+abbrev pub by_acronym : List (ℕ × List ℕ) → List (List ℕ × ℕ)
+by_acronym [] = []
+by_acronym (pair ∷ pairs) = (pair.1, pair.0) ∷ by_acronym pairs
 
 -- the catalogue with an entry behind the others of its kind
 abbrev pub with_entry : CatalogueValue → Entry → CatalogueValue

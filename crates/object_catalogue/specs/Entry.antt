@@ -5,7 +5,7 @@ use Rattle.std.specs.List.{join_with_byte}
 use Rattle.std.specs.Str.{bytes_eq}
 use Rattle.std.specs.Int.{IsInRange}
 use Rattle.text_scan.specs.Number.{IsNumber, value_of, number_of}
-use Rattle.text_lines.specs.Lines.{IsSilent, parts_at}
+use Rattle.text_lines.specs.Lines.{IsSilent, words_of}
 use Rattle.object_catalogue.specs.Acronym.{IsAcronym, acronym_of}
 use Rattle.object_catalogue.specs.declared.entry.Kind.{Kind}
 use Rattle.object_catalogue.specs.declared.entry.Kind.TheVariants.{Class, Attribute}
@@ -61,4 +61,4 @@ entry_in (word ∷ digits ∷ acronym ∷ other ∷ more) = None
 
 -- the entry that a line is
 abbrev pub entry_of : List ℕ → Option Entry
-entry_of line = entry_in (parts_at 32 line)
+entry_of line = entry_in (words_of line)

@@ -14,12 +14,12 @@ use Rattle.object_catalogue.specs.declared.fault.CatalogueFault.{CatalogueFault}
 use Rattle.object_catalogue.specs.declared.fault.CatalogueFault.TheVariants.{BadLine, Twice}
 
 -- what a line says: its entry, where it is one
-abbrev pub said : List ℕ → List Entry
-said line = if is_silent line then [] else option_to_list (entry_of line)
+abbrev pub entries_on : List ℕ → List Entry
+entries_on line = if is_silent line then [] else option_to_list (entry_of line)
 
 -- the catalogue of lines
 abbrev pub catalogue_on : List (List ℕ) → CatalogueValue
-catalogue_on all = catalogue_of (flat_map said all)
+catalogue_on all = catalogue_of (flat_map entries_on all)
 
 -- the line says something and is no entry
 abbrev pub is_bad : List ℕ → Bool
@@ -32,7 +32,7 @@ line_fault catalogue number line =
     first_of (
     when (nat_lt 10000 number) (BadLine number)
     ∷ when (is_bad line) (BadLine number)
-    ∷ when (list_any (stands_in catalogue) (said line)) (Twice number)
+    ∷ when (list_any (stands_in catalogue) (entries_on line)) (Twice number)
     ∷ []
     )
 
@@ -52,4 +52,4 @@ with_entries catalogue (entry ∷ entries) = with_entries (with_entry catalogue 
 
 -- the catalogue with what the line of this number says, or the line's fault
 unfoldable pub line_in : CatalogueValue → ℕ → List ℕ → Result CatalogueValue CatalogueFault
-line_in catalogue number line = unless (line_fault catalogue number line) (with_entries catalogue (said line))
+line_in catalogue number line = unless (line_fault catalogue number line) (with_entries catalogue (entries_on line))

@@ -17,13 +17,13 @@ pub struct CodeList {
 
 impl Model for CodeList {
     ghost use Rattle.std.specs.Prelude.{List, ℕ, ◌≡◌};
-    ghost use Rattle.object_catalogue.specs.Codes.{turned};
+    ghost use Rattle.object_catalogue.specs.Codes.{by_acronym};
 
     ghost Value = { List (ℕ × List ℕ) };
 
     ghost view = { λ list. list.acronyms.entries };
 
-    ghost invariant = { λ list. list.codes.entries ≡ turned list.acronyms.entries };
+    ghost invariant = { λ list. list.codes.entries ≡ by_acronym list.acronyms.entries };
 }
 
 impl CodeList {

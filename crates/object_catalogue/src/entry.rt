@@ -1,12 +1,11 @@
 //! One entry of a catalogue.
 
-ghost use Rattle.std.specs.Prelude.{◌≡◌, ◌∷◌, []};
-ghost use Rattle.text_lines.specs.Lines.{parts_at};
+ghost use Rattle.std.specs.Prelude.{◌≡◌};
 ghost use Rattle.object_catalogue.specs.Entry.{kind_of, code_of, entry_with, entry_of};
 ghost use Rattle.object_catalogue.specs.Acronym.{acronym_of};
 
 use crate::acronym::{Acronym, read_acronym};
-use text_lines::cut_part;
+use text_lines::{Words, read_words};
 use text_scan::read_number;
 
 /// What an entry of a catalogue names.
@@ -51,7 +50,7 @@ fn read_code(digits: &[u8]) -> Option<u16>
 }
 
 /// The entry of three words.
-fn read_words(word: &[u8], digits: &[u8], acronym: &[u8]) -> Option<Entry>
+fn read_parts(word: &[u8], digits: &[u8], acronym: &[u8]) -> Option<Entry>
     ensures { result ≡ entry_with (kind_of word.now) (code_of digits.now) (acronym_of acronym.now) }
 {
     let kind = read_kind(word)?;
@@ -69,11 +68,8 @@ fn read_words(word: &[u8], digits: &[u8], acronym: &[u8]) -> Option<Entry>
 pub fn read_entry(line: &[u8]) -> Option<Entry>
     ensures { result ≡ entry_of line.now }
 {
-    let (word, rest) = cut_part(line, b' ');
-    let (digits, rest) = cut_part(rest?, b' ');
-    let (acronym, rest) = cut_part(rest?, b' ');
-    match rest {
-        Some(_) => None,
-        None => read_words(word, digits, acronym),
+    match read_words(line) {
+        Words::Three(word, digits, acronym) => read_parts(word, digits, acronym),
+        _ => None,
     }
 }

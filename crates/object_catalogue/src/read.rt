@@ -1,6 +1,5 @@
 //! A catalogue, read.
 
-ghost use Rattle.std.specs.Prelude.{◌≤◌, IfOk};
 ghost use Rattle.object_catalogue.specs.Reading.{catalogue_in, line_in};
 ghost use Rattle.object_catalogue.specs.Answers.{Answers};
 
@@ -8,7 +7,7 @@ use crate::catalogue::Catalogue;
 use crate::entry::read_entry;
 use crate::fault::CatalogueFault;
 use std::alloc::Global;
-use text_lines::{cut_line, is_silent};
+use text_lines::{is_silent, numbered_lines};
 
 /// The most lines of a catalogue.
 const MOST_LINES: u64 = 10_000;
@@ -16,8 +15,7 @@ const MOST_LINES: u64 = 10_000;
 /// The catalogue with what the line of this number says.
 #[tactic(auto, unfolding(crate::specs::Reading::line_in))]
 fn read_line(catalogue: Catalogue, number: u64, line: &[u8]) -> Result<Catalogue, CatalogueFault>
-    ensures answer { Answers result (line_in catalogue number line.now) }
-    ensures within { IfOk result (λ _. number ≤ 10000) }
+    ensures { Answers result (line_in catalogue number line.now) }
 {
     if number > MOST_LINES {
         return Err(CatalogueFault::BadLine(number));
@@ -42,12 +40,8 @@ pub fn read_objects(alloc: Global, bytes: &[u8]) -> Result<Catalogue, CatalogueF
     ensures { Answers result (catalogue_in bytes.now) }
 {
     let mut catalogue = Catalogue::new(alloc);
-    let mut number = 0;
-    let mut rest = bytes;
-    while let Some((line, others)) = cut_line(rest) {
-        number += 1;
+    for (number, line) in numbered_lines(bytes) {
         catalogue = read_line(catalogue, number, line)?;
-        rest = others;
     }
     Ok(catalogue)
 }

@@ -1,3 +1,4 @@
 pub mod Parting
 pub mod FirstFaults
 pub mod LinesSoFar
+pub mod RestSoFar

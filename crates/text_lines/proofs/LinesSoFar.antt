@@ -1,43 +1,77 @@
 -- How far a file is read, line by line.
 use Rattle.std.proofs.Common.{◌≡◌, ℕ, ◌+◌, List, [], ◌∷◌, ◌++◌, length, Option, Some, None, refl, sym, ap, ◌∙◌, append_assoc, append-nil, length-append, arith}
+use Rattle.std.specs.List.{enumerate_from}
 use Rattle.std.specs.Str.Lines.{lines}
+use Rattle.text_lines.specs.Lines.{numbered_lines}
 use Rattle.text_lines.specs.Reading.{first_fault}
 use Rattle.text_lines.proofs.FirstFaults.{faultless_more, faulty, no_lines}
 
+-- the first of numbered lines, and those behind it
+record Begins (start : ℕ) (rest : List (List ℕ)) (n : ℕ) (line : List ℕ) (others : List (ℕ × List ℕ)) : Type 0 where
+  more : List (List ℕ)
+  whole : rest ≡ line ∷ more
+  number : n ≡ start
+  behind : others ≡ enumerate_from (start + 1) more
+
+begins : (start : ℕ) (rest : List (List ℕ)) (n : ℕ) (line : List ℕ) (others : List (ℕ × List ℕ)) → (n, line) ∷ others ≡ enumerate_from start rest
+    → Begins start rest n line others
+begins start [] n line others e = absurd cc
+begins start (x ∷ xs) n line others e =
+    let pair : ◌≡◌ {A = ℕ × List ℕ} (n, line) (start, x) = cc in
+    record {
+      more = xs;
+      whole = ap (λ (l : List ℕ). l ∷ xs) (sym (ap (λ (p : ℕ × List ℕ). p.1) pair));
+      number = ap (λ (p : ℕ × List ℕ). p.0) pair;
+      behind = cc;
+    }
+
+none_left : (start : ℕ) (rest : List (List ℕ)) → [] ≡ enumerate_from start rest → rest ≡ []
+none_left start [] e = refl
+none_left start (x ∷ xs) e = absurd cc
+
 module _ {F : Type 0} (fault_at : List (List ℕ) → List ℕ → Option F) where
-  -- so many lines are passed, none of them has a fault, and the others are those of the rest
-  pub record ArePassed (bytes : List ℕ) (number : ℕ) (rest : List ℕ) (before : List (List ℕ)) : Type 0 where
-    pub whole : lines bytes ≡ before ++ lines rest
-    pub counted : number ≡ length before
+  -- these lines are passed, none of them has a fault, and the others are left with their numbers
+  pub record ArePassed (bytes : List ℕ) (left : List (ℕ × List ℕ)) (before : List (List ℕ)) : Type 0 where
+    pub rest : List (List ℕ)
+    pub whole : lines bytes ≡ before ++ rest
+    pub numbered : left ≡ enumerate_from (length before + 1) rest
     pub faultless : first_fault fault_at [] before ≡ None
 
   -- no line is passed yet
-  pub none_passed : (bytes : List ℕ) → ArePassed bytes 0 bytes []
-  none_passed bytes = record { whole = refl; counted = refl; faultless = no_lines fault_at [] }
+  pub none_passed : (bytes : List ℕ) (left : List (ℕ × List ℕ)) → left ≡ numbered_lines bytes → ArePassed bytes left []
+  none_passed bytes left e = record { rest = lines bytes; whole = refl; numbered = e; faultless = no_lines fault_at [] }
 
-  -- what is cut off the rest stands in the file behind the lines that are passed
-  in_place : (bytes rest : List ℕ) (number : ℕ) (before cut : List (List ℕ)) → ArePassed bytes number rest before → lines rest ≡ cut → lines bytes ≡ before ++ cut
-  in_place bytes rest number before cut passed is = passed.whole ∙ ap (λ (l : List (List ℕ)). before ++ l) is
+  module _ (bytes : List ℕ) (left others : List (ℕ × List ℕ)) (n : ℕ) (line : List ℕ) (before : List (List ℕ))
+      (passed : ArePassed bytes left before) (next : left ≡ (n, line) ∷ others) where
+    first : Begins (length before + 1) passed.rest n line others
+    first = begins (length before + 1) passed.rest n line others (sym next ∙ passed.numbered)
 
-  -- a line more is passed, which has no fault either
-  pub one_passed : (bytes rest others line : List ℕ) (number : ℕ) (before : List (List ℕ)) → ArePassed bytes number rest before → lines rest ≡ line ∷ lines others
-      → fault_at before line ≡ None → ArePassed bytes (number + 1) others (before ++ line ∷ [])
-  one_passed bytes rest others line number before passed cut faultless = record {
-    whole = in_place bytes rest number before (line ∷ lines others) passed cut ∙ sym (append_assoc before (line ∷ []) (lines others));
-    counted = omega (arith, passed.counted, length-append before (line ∷ []));
-    faultless = faultless_more fault_at before line passed.faultless faultless;
-  }
+    in_place : lines bytes ≡ before ++ line ∷ first.more
+    in_place = passed.whole ∙ ap (λ (l : List (List ℕ)). before ++ l) first.whole
 
-  -- the fault of the next line is the first of the file
-  pub fault_found : (bytes rest others line : List ℕ) (number : ℕ) (before : List (List ℕ)) (f : F) → ArePassed bytes number rest before → lines rest ≡ line ∷ lines others
-      → fault_at before line ≡ Some f → first_fault fault_at [] (lines bytes) ≡ Some f
-  fault_found bytes rest others line number before f passed cut here =
-      ap (first_fault fault_at []) (in_place bytes rest number before (line ∷ lines others) passed cut)
-      ∙ faulty fault_at before (lines others) line f passed.faultless here
+    -- the next line's number is by one greater than that of lines passed
+    pub next_number : n ≡ length before + 1
+    next_number = first.number
+
+    -- a line more is passed, which has no fault either
+    pub one_passed : fault_at before line ≡ None → ArePassed bytes others (before ++ line ∷ [])
+    one_passed faultless =
+        let longer : (length before + 1) + 1 ≡ length (before ++ line ∷ []) + 1 = omega (arith, length-append before (line ∷ [])) in
+        record {
+          rest = first.more;
+          whole = in_place ∙ sym (append_assoc before (line ∷ []) first.more);
+          numbered = first.behind ∙ ap (λ (m : ℕ). enumerate_from m first.more) longer;
+          faultless = faultless_more fault_at before line passed.faultless faultless;
+        }
+
+    -- the fault of the next line is the first of the file
+    pub fault_found : (f : F) → fault_at before line ≡ Some f → first_fault fault_at [] (lines bytes) ≡ Some f
+    fault_found f here = ap (first_fault fault_at []) in_place ∙ faulty fault_at before first.more line f passed.faultless here
 
   -- all lines are passed: they are those of the file, which has no fault
-  pub all_passed : (bytes rest : List ℕ) (number : ℕ) (before : List (List ℕ)) → ArePassed bytes number rest before → lines rest ≡ []
+  pub all_passed : (bytes : List ℕ) (left : List (ℕ × List ℕ)) (before : List (List ℕ)) → ArePassed bytes left before → left ≡ []
       → (lines bytes ≡ before) × (first_fault fault_at [] (lines bytes) ≡ None)
-  all_passed bytes rest number before passed end =
-      let whole = in_place bytes rest number before [] passed end ∙ append-nil before in
+  all_passed bytes left before passed end =
+      let none = none_left (length before + 1) passed.rest (sym end ∙ passed.numbered) in
+      let whole = passed.whole ∙ ap (λ (l : List (List ℕ)). before ++ l) none ∙ append-nil before in
       (whole, ap (first_fault fault_at []) whole ∙ passed.faultless)

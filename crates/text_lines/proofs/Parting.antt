@@ -99,6 +99,11 @@ pub cut_gives : (parting : ℕ) (o : Option (Bor (List ℕ))) (rest : Bor (List 
     → IfSome o (λ r. parts_at parting text ≡ first ∷ parts_at parting r.now) → parts_at parting text ≡ first ∷ parts_at parting rest.now
 cut_gives parting o rest text first e h = subst (λ (x : Option (Bor (List ℕ))). IfSome x (λ r. parts_at parting text ≡ first ∷ parts_at parting r.now)) e h
 
+-- parts that stand behind the third
+pub behind_the_third : (parting : ℕ) (parts : List (List ℕ)) (a b c rest : List ℕ) → parts ≡ a ∷ b ∷ c ∷ parts_at parting rest → 3 < length parts
+behind_the_third parting parts a b c rest e =
+    omega (arith, ap (λ (l : List (List ℕ)). length l) e, length-slice_split (parts_by parting) rest)
+
 -- ---- lines
 
 lines_more : (part : List ℕ) (parts : List (List ℕ)) → 1 ≤ length parts → lines_of_parts (part ∷ parts) ≡ strip_carriage_return part ∷ lines_of_parts parts

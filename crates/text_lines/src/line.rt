@@ -22,8 +22,8 @@ fn place_of_line_feed(bytes: &[u8]) -> Option<usize>
     bytes.iter().position(|byte| *byte == b'\n')
 }
 
-/// The line without the carriage return at its end, where it has one.
-fn strip_carriage_return(line: &[u8]) -> &[u8]
+/// A line that a line feed ended, without the carriage return before that, where it has one. It takes no memory.
+pub fn without_carriage_return(line: &[u8]) -> &[u8]
     ensures { result.now ≡ strip_carriage_return line.now }
 {
     match line {
@@ -43,7 +43,7 @@ pub fn cut_line(bytes: &[u8]) -> Option<(&[u8], &[u8])>
         return None;
     }
     match place_of_line_feed(bytes) {
-        Some(at) => Some((strip_carriage_return(&bytes[..at]), &bytes[at + 1..])),
+        Some(at) => Some((without_carriage_return(&bytes[..at]), &bytes[at + 1..])),
         None => Some((bytes, &[])),
     }
 }

@@ -1,8 +1,12 @@
 //! The parts of a line between bytes that part it.
 
 ghost use Rattle.std.specs.Prelude.{◌≡◌, ◌≢◌, ◌==◌, ◌<◌, length, ◌∷◌, [], ◌++◌, position, All, List, ℕ, IfSome, IfNone};
+ghost use Rattle.std.specs.Iterator.{at_most};
 ghost use Rattle.std.specs.List.{join_with_byte};
+ghost use Rattle.std.specs.Map.Iter.{TakesFirst};
 ghost use Rattle.text_lines.specs.Lines.{parts_at, Lacks};
+
+use std::marker::Model;
 
 /// Where a byte first stands.
 fn place_of(text: &[u8], parting: u8) -> Option<usize>
@@ -22,6 +26,49 @@ pub fn cut_part(text: &[u8], parting: u8) -> (&[u8], Option<&[u8]>)
     match place_of(text, parting) {
         Some(at) => (&text[..at], Some(&text[at + 1..])),
         None => (text, None),
+    }
+}
+
+/// The parts that are left of a text. Contracts see their list.
+#[derive(Drop)]
+pub struct Parts<'a> {
+    /// What stands behind the last part that was given, none where that was the text's last.
+    rest: Option<&'a [u8]>,
+    parting: u8,
+}
+
+impl<'a> Model for Parts<'a> {
+    ghost use Rattle.std.specs.Prelude.{List, ℕ};
+    ghost use Rattle.std.specs.Option.{option_copied};
+    ghost use Rattle.text_lines.specs.Lines.{parts_of_rest};
+
+    ghost Value = { List (List ℕ) };
+
+    ghost view = { λ left. parts_of_rest left.parting (option_copied left.rest) };
+}
+
+impl<'a> Iterator for Parts<'a> {
+    type Item = &'a [u8];
+
+    ghost next_gives = { TakesFirst (λ part. part.now) };
+
+    ghost remaining = { λ left. at_most (length left) };
+
+    fn next(&mut self) -> Option<&'a [u8]> {
+        let text = self.rest?;
+        let (part, rest) = cut_part(text, self.parting);
+        self.rest = rest;
+        Some(part)
+    }
+}
+
+/// The parts of a text in order, one at least. They take no memory.
+pub fn parts_of(text: &[u8], parting: u8) -> Parts
+    ensures { result ≡ parts_at parting text.now }
+{
+    Parts {
+        rest: Some(text),
+        parting,
     }
 }
 

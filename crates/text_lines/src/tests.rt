@@ -3,7 +3,7 @@
 use super::*;
 
 #[test]
-fn lines_are_cut(rt: HostRuntime) {
+fn lines_are_numbered(rt: HostRuntime) {
     let cases: [(&[u8], &[&[u8]]); 8] = [
         (b"", &[]),
         (b"\n", &[b""]),
@@ -15,21 +15,17 @@ fn lines_are_cut(rt: HostRuntime) {
         (b"\r", &[b"\r"]),
     ];
     for (bytes, lines) in &cases {
-        let mut rest: &[u8] = bytes;
-        for line in *lines {
-            let cut = cut_line(rest);
-            assert!(rt; cut.is_some());
-            if let Some((first, others)) = cut {
-                assert!(rt; first == *line);
-                rest = others;
-            }
+        let mut left = numbered_lines(bytes);
+        for (at, line) in lines.iter().enumerate() {
+            let next = left.next();
+            assert!(rt; next == Some((at as u64 + 1, *line)));
         }
-        assert!(rt; cut_line(rest).is_none());
+        assert!(rt; left.next().is_none());
     }
 }
 
 #[test]
-fn silent_lines_and_parts(rt: HostRuntime) {
+fn silent_lines_words_and_parts(rt: HostRuntime) {
     let cases: [(&[u8], bool); 5] = [
         (b"", true),
         (b"#", true),
@@ -40,9 +36,19 @@ fn silent_lines_and_parts(rt: HostRuntime) {
     for (line, silent) in &cases {
         assert!(rt; is_silent(line) == *silent);
     }
+    assert!(rt; matches!(read_words(b""), Words::One(b"")));
+    assert!(rt; matches!(read_words(b"box"), Words::One(b"box")));
+    assert!(rt; matches!(read_words(b"1 2"), Words::Two(b"1", b"2")));
+    assert!(rt; matches!(read_words(b" 1 "), Words::Three(b"", b"1", b"")));
+    assert!(rt; matches!(read_words(b"1 2 3 "), Words::More));
     let (first, rest) = cut_part(b"a+=+", b'+');
     assert!(rt; first == b"a".as_slice() && rest == Some(b"=+".as_slice()));
     let (first, rest) = cut_part(b"", b'+');
     assert!(rt; first.is_empty() && rest.is_none());
+    let mut left = parts_of(b"a++", b'+');
+    assert!(rt; left.next() == Some(b"a".as_slice()));
+    assert!(rt; left.next() == Some(b"".as_slice()));
+    assert!(rt; left.next() == Some(b"".as_slice()));
+    assert!(rt; left.next().is_none());
     parts_are_joined();
 }

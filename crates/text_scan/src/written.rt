@@ -9,12 +9,11 @@ use std::alloc::{AllocError, Global};
 
 /// Adds the decimal text of a number: `-` where it is below 0, and its digits without a leading zero.
 ///
-/// Where there is no memory for the text nothing changes.
-pub fn write_number(alloc: Global, out: &mut Octets, n: i128) -> Result<(), AllocError>
+/// Where there is no memory for the text nothing changes. Memory is taken by the text that it is added to alone.
+pub fn write_number(_alloc: Global, out: &mut Octets, n: i128) -> Result<(), AllocError>
     ensures ok { OnOk result (out.new ≡ out.old ++ decimal_of n) }
     ensures err { OnErr result (out.new ≡ out.old) }
 {
-    let _ = alloc;
     let mut buffer = Buffer::new();
     out.extend_from_slice(buffer.format(n).as_bytes())
 }

@@ -10,7 +10,7 @@ returns-in-Some-clause-line c =
     let bytes = c.args.bytes.now in
     let at = c.in-Some.at in
     line_cut bytes at (sym c.place_of_line_feed.ensures ∙ c.in-Some.is)
-    ∙ ap (λ (l : List ℕ). l ∷ lines (take (length bytes - (at + 1)) (drop (at + 1) bytes))) (sym c.strip_carriage_return.ensures)
+    ∙ ap (λ (l : List ℕ). l ∷ lines (take (length bytes - (at + 1)) (drop (at + 1) bytes))) (sym c.without_carriage_return.ensures)
 
 pub returns-in-None-clause-line : goal.returns-in-None-clause-line
 returns-in-None-clause-line c =
