@@ -1,3 +1,4 @@
 pub mod Fault
 pub mod Edited
 pub mod Changed
+pub mod Moves

@@ -1,11 +1,12 @@
 //! A change made to a cell.
 
-ghost use Rattle.std.specs.Prelude.{◌≡◌, None, OnOk, OnErr};
+ghost use Rattle.std.specs.Prelude.{◌≡◌, ◌+◌, ◌≤◌, None, OnOk, OnErr};
 ghost use Rattle.std.specs.Option.{option_map};
 ghost use Rattle.std.specs.FinMap as map;
 ghost use Rattle.update_apply.specs.Changed.{changed, changed_in, inserted_vector, inserted_feature};
 ghost use Rattle.update_apply.specs.Changed.{modified_vector, modified_feature};
 ghost use Rattle.update_apply.specs.Fault as spec;
+ghost use Rattle.update_apply.specs.Moves.{cost_of};
 
 use crate::fault::ChangeFault;
 use crate::judge::{fault_by, held_for};
@@ -97,7 +98,10 @@ fn change_features_owned(
 ///
 /// The first fault of the change; `NoMemory` where there is none and the budget is spent.
 fn judge(cell: &Cell, change: &UpdateRecord, moves: &mut Moves) -> Result<(), ChangeFault>
-    ensures { spec.told result ≡ spec.fault_of cell.now change.now }
+    ensures fault { spec.told result ≡ spec.fault_of cell.now change.now }
+    ensures spent { OnOk result (moves.old
+        ≡ moves.new + cost_of (spec.held_under cell.now change.now.target) change.now) }
+    ensures unspent { OnErr result (moves.new ≡ moves.old) }
 {
     let held = held_for(cell, change);
     if let Some(fault) = fault_by(held, change) {
@@ -119,6 +123,11 @@ pub fn apply_within(
     ensures ok { OnOk result (cell.new ≡ changed cell.old change.now) }
     ensures err { OnErr result (cell.new ≡ cell.old) }
     ensures fault { spec.told result ≡ spec.fault_of cell.old change.now }
+
+    // A change that is made spends what it may move, and is within what was left; no other spends more.
+    ensures spent { OnOk result (moves.old
+        ≡ moves.new + cost_of (spec.held_under cell.old change.now.target) change.now) }
+    ensures no_more { OnErr result (moves.new ≤ moves.old) }
 {
     judge(cell, change, moves)?;
     let done = if change.target.rcnm == FEATURE {
@@ -140,6 +149,10 @@ pub fn apply_owned(
     ensures ok { OnOk result (cell.new ≡ changed cell.old change) }
     ensures err { OnErr result (cell.new ≡ cell.old) }
     ensures fault { spec.told result ≡ spec.fault_of cell.old change }
+
+    // A change that is made spends what it may move, and is within what was left; no other spends more.
+    ensures spent { OnOk result (moves.old ≡ moves.new + cost_of (spec.held_under cell.old change.target) change) }
+    ensures no_more { OnErr result (moves.new ≤ moves.old) }
 {
     judge(cell, &change, moves)?;
     let done = if change.target.rcnm == FEATURE {
@@ -161,6 +174,9 @@ pub fn apply_record(
     ensures ok { OnOk result (cell.new ≡ changed cell.old change.now) }
     ensures err { OnErr result (cell.new ≡ cell.old) }
     ensures fault { spec.told result ≡ spec.fault_of cell.old change.now }
+
+    // A change that may move more items than the budget of a whole file isn't made.
+    ensures within { OnOk result (cost_of (spec.held_under cell.old change.now.target) change.now ≤ 268435456) }
 {
     apply_within(alloc, cell, change, &mut Moves::of_file())
 }

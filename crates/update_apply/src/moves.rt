@@ -4,7 +4,8 @@
 //! edits a long list again and again, can ask for more work than there is time for. No file that was made from a
 //! chart comes near the budget.
 
-ghost use Rattle.std.specs.Prelude.{◌≡◌, ◌≤◌, OnOk, OnErr};
+ghost use Rattle.std.specs.Prelude.{◌≡◌, ◌+◌, ◌<◌, min, OnOk, OnErr};
+ghost use Rattle.update_apply.specs.Moves.{cost_of, items_moved, items_shifted};
 
 use crate::judge::HeldRecord;
 use chart_model::codes::MODIFY;
@@ -15,18 +16,20 @@ use std::marker::Model;
 /// The most items that the changes of one file may move, so that a load ends within seconds.
 const BUDGET: usize = 268_435_456;
 
-/// How many more items are moved for a file. Contracts see the number.
+/// How many more items are moved for a file, at most as many as the budget has. Contracts see the number.
 #[derive(Debug, Drop)]
 pub struct Moves {
     left: usize,
 }
 
 impl Model for Moves {
-    ghost use Rattle.std.specs.Prelude.{ℕ};
+    ghost use Rattle.std.specs.Prelude.{ℕ, ◌≤◌};
 
     ghost Value = { ℕ };
 
     ghost view = { λ moves. moves.left };
+
+    ghost invariant = { λ moves. moves.left ≤ 268435456 };
 }
 
 impl Moves {
@@ -41,30 +44,30 @@ impl Moves {
     ///
     /// # Errors
     ///
-    /// `AllocError` where less is left, and then nothing is taken.
+    /// `AllocError` exactly where less is left, and then nothing is taken.
     pub(crate) fn take(
         &mut self,
         held: Option<HeldRecord>,
         change: &UpdateRecord,
     ) -> Result<(), AllocError>
-        ensures ok { OnOk result (self.new ≤ self.old) }
+        ensures ok { OnOk result (self.old ≡ self.new + cost_of held change.now) }
         ensures err { OnErr result (self.new ≡ self.old) }
+        ensures short { OnErr result (self.old < cost_of held change.now) }
     {
-        if let Some(held) = held
-            && change.ruin == MODIFY
-        {
-            self.left = self
-                .left
-                .checked_sub(moved(&held, change))
-                .ok_or(AllocError)?;
+        let cost = cost_of(held, change);
+        if self.left < cost {
+            return Err(AllocError);
         }
+        self.left -= cost;
         Ok(())
     }
 }
 
 /// The items of a list that an edit may move: all where items are inserted or deleted. A replacement moves none, and
 /// writes as many as the file has of them.
-fn shifted(edit: Option<Control>, length: usize) -> usize {
+fn items_shifted(edit: Option<Control>, length: usize) -> usize
+    ensures { result ≡ items_shifted edit length }
+{
     match edit {
         Some(control) if control.instruction != MODIFY => length,
         _ => 0,
@@ -72,12 +75,24 @@ fn shifted(edit: Option<Control>, length: usize) -> usize {
 }
 
 /// The items that a modification may move: those of the lists that it shifts, and the attributes for each that it
-/// sets.
-fn moved(held: &HeldRecord, change: &UpdateRecord) -> usize {
+/// sets. A number that doesn't fit is over any budget.
+fn items_moved(held: &HeldRecord, change: &UpdateRecord) -> usize
+    ensures { result ≡ min (items_moved held.now change.now) usize.MAX }
+{
     let settings = change.attrs.as_slice().len().min(MOST_SET_IN_PLACE);
     held.attrs
         .saturating_mul(settings)
-        .saturating_add(shifted(change.pointer_edit, held.pointers))
-        .saturating_add(shifted(change.coord_edit, held.coords))
-        .saturating_add(shifted(change.related_edit, held.related))
+        .saturating_add(items_shifted(change.pointer_edit, held.pointers))
+        .saturating_add(items_shifted(change.coord_edit, held.coords))
+        .saturating_add(items_shifted(change.related_edit, held.related))
+}
+
+/// The items that a change may move.
+fn cost_of(held: Option<HeldRecord>, change: &UpdateRecord) -> usize
+    ensures { result ≡ min (cost_of held change.now) usize.MAX }
+{
+    match held {
+        Some(held) if change.ruin == MODIFY => items_moved(&held, change),
+        _ => 0,
+    }
 }

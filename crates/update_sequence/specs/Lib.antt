@@ -1,5 +1,6 @@
 pub mod Answers
 pub mod Reading
+pub mod Info
 pub mod Judged
 pub mod Built
 pub mod Rebuilt

@@ -10,6 +10,7 @@ mod effect;
 mod extension;
 mod fault;
 mod files;
+mod info;
 mod laws;
 mod local;
 mod read;
@@ -19,6 +20,7 @@ pub use effect::{Effect, judge};
 pub use extension::extend;
 pub use fault::{BuildFault, ReadFault, SequenceFault};
 pub use files::rebuild;
+pub use info::{FileInfo, read_info};
 pub use laws::{
     accepted_files_follow, changes_are_made_in_turn, charts_are_cells, charts_are_closed,
     files_are_data_sets, headers_follow, named_records_differ, one_file_more, other_records_stay,

@@ -13,7 +13,7 @@ invariant_of-cell c =
     (subst (λ change. change.target.rcnm ≡ 100) c.change.view_is c.if-change-eq-FEATURE.true)
     c.cell.invariant
     (subst IsChange c.change.view_is c.change.invariant)
-    (ap (λ cell. fault_of cell c.args.change) c.cell.view_is ∙ sym c.in_ok-judge.ensures)
+    (ap (λ cell. fault_of cell c.args.change) c.cell.view_is ∙ sym c.in_ok-judge.ensures.fault)
     c.change_features_owned-done.ensures.ok
     c.change_features_owned-done.ensures.err
 
@@ -25,6 +25,6 @@ invariant_of-cell-else-change-eq-FEATURE c =
     (subst (λ change. change.target.rcnm ≢ 100) c.change.view_is c.if-change-eq-FEATURE.false)
     c.cell.invariant
     (subst IsChange c.change.view_is c.change.invariant)
-    (ap (λ cell. fault_of cell c.args.change) c.cell.view_is ∙ sym c.in_ok-judge.ensures)
+    (ap (λ cell. fault_of cell c.args.change) c.cell.view_is ∙ sym c.in_ok-judge.ensures.fault)
     c.change_vectors_owned-done.ensures.ok
     c.change_vectors_owned-done.ensures.err
