@@ -3,10 +3,10 @@ use Rattle.std.proofs.Common.{◌≡◌, ℕ, ◌+◌, ◌-◌, ◌<◌, ◌≤�
 use Rattle.std.proofs.Common.{Err, refl, sym, ◌∙◌, ap, arith, length-drop}
 use Rattle.std.proofs.lemmas.List.{drop_more, drop-drop, append_assoc, append-nil}
 use Rattle.byteorder.specs.Endian.{big_number}
-use Rattle.bank_journal.specs.declared.reading.ReadFault.{ReadFault}
-use Rattle.bank_journal.specs.declared.reading.ReadFault.TheVariants.{Foreign, NoMemory}
+use Rattle.bank_journal.specs.declared.reading.WalkFault.{WalkFault}
+use Rattle.bank_journal.specs.declared.reading.WalkFault.TheVariants.{Foreign, NoMemory}
 use Rattle.bank_journal.specs.Bank.{IsOpen, HasHeader, checkpoint_length}
-use Rattle.bank_journal.specs.ReadFault.{FaultHas}
+use Rattle.bank_journal.specs.WalkFault.{FaultHas}
 use Rattle.bank_journal.specs.Reading.{behind_bodies, body_in, bodies_in, content_of, bank_of}
 use Rattle.bank_journal.proofs.BankRead.{whole_header}
 use Rattle.bank_journal.proofs.Records.{none_behind, cut_behind, body_behind}
@@ -68,7 +68,7 @@ module _ (bytes : List ℕ) (first : ℕ) (long : 9 < length bytes) (header : Ha
   given_by : bank_of bytes ≡ content_of bytes (bodies_in 0 (drop first bytes))
   given_by = whole_header bytes long header ∙ ap (λ (n : ℕ). content_of bytes (bodies_in 0 (drop n bytes))) (sym place)
 
-  pub bank_foreign : (fault : ReadFault)
+  pub bank_foreign : (fault : WalkFault)
       → FaultHas (λ offset. content_of bytes (bodies_in 0 (drop first bytes)) ≡ Err offset) fault
       → FaultHas (λ offset. bank_of bytes ≡ Err offset) fault
   bank_foreign (Foreign offset) is = given_by ∙ is

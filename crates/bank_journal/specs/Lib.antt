@@ -2,5 +2,5 @@ pub mod Bank
 pub mod Fault
 pub mod Handle
 pub mod Moments
-pub mod ReadFault
+pub mod WalkFault
 pub mod Reading

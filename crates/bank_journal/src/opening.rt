@@ -14,7 +14,7 @@ ghost use Rattle.bank_journal.specs.Reading.{bank_of};
 use crate::bank::Bank;
 use crate::content::{BankContent, BodyList};
 use crate::fault::BankFault;
-use crate::reading::{HEADER, ReadFault, read_bank};
+use crate::reading::{HEADER, WalkFault, read_bank};
 use crate::whole::{read_whole, write_through};
 use chart_model::Octets;
 use chart_ports::Desk;
@@ -38,8 +38,8 @@ fn read_opened(alloc: Global, file: u8, bytes: &[u8]) -> Result<(Bank, BankConte
 {
     match read_bank(alloc, bytes) {
         Ok((content, gate)) => Ok((Bank::at(file, gate as u64), content)),
-        Err(ReadFault::Foreign(place)) => Err(BankFault::Foreign(file, place as u64)),
-        Err(ReadFault::NoMemory) => Err(BankFault::NoMemory),
+        Err(WalkFault::Foreign(place)) => Err(BankFault::Foreign(file, place as u64)),
+        Err(WalkFault::NoMemory) => Err(BankFault::NoMemory),
     }
 }
 

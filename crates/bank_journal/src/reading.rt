@@ -3,10 +3,10 @@
 ghost use Rattle.std.specs.Prelude.{◌≡◌, ◌+◌, ◌<◌, ◌≤◌, Ok, Err, IfOk, IfErr, IfSome, IfNone, length, drop};
 ghost use Rattle.std.specs.List.{sum_by};
 ghost use Rattle.byteorder.specs.Endian.{big_number};
-ghost use Rattle.bank_journal.specs.declared.reading.ReadFault.TheVariants.{NoMemory};
+ghost use Rattle.bank_journal.specs.declared.reading.WalkFault.TheVariants.{NoMemory};
 ghost use Rattle.bank_journal.specs.Bank.{HasHeader, checkpoint_length, gate_of};
 ghost use Rattle.bank_journal.specs.Reading.{body_in, bodies_in, content_of, bank_of};
-ghost use Rattle.bank_journal.specs.ReadFault.{FaultHas};
+ghost use Rattle.bank_journal.specs.WalkFault.{FaultHas};
 
 use crate::content::{BankContent, BodyList};
 use byteorder::{BigEndian, ByteOrder};
@@ -21,17 +21,17 @@ const OVERHEAD: usize = 5;
 
 /// Why bytes give no content.
 #[derive(Clone, Copy)]
-pub(crate) enum ReadFault {
+pub(crate) enum WalkFault {
     /// They have no reading: their first fault is at this place.
     Foreign(usize),
     NoMemory,
 }
 
-impl From<AllocError> for ReadFault {
+impl From<AllocError> for WalkFault {
     ghost from_gives = { λ _ e. e ≡ NoMemory };
 
-    fn from(_: AllocError) -> ReadFault {
-        ReadFault::NoMemory
+    fn from(_: AllocError) -> WalkFault {
+        WalkFault::NoMemory
     }
 }
 
@@ -55,7 +55,7 @@ fn body_at(bytes: &[u8]) -> Option<&[u8]>
 }
 
 /// The bodies of the records from a gate on, and the place of the closed gate that ends them.
-fn read_bodies(alloc: Global, bytes: &[u8], first: usize) -> Result<(BodyList, usize), ReadFault>
+fn read_bodies(alloc: Global, bytes: &[u8], first: usize) -> Result<(BodyList, usize), WalkFault>
     requires { first < length bytes.now }
     ensures bodies { IfOk result (λ found. bodies_in 0 (drop first bytes.now) ≡ Ok found.0) }
     ensures gate { IfOk result (λ found. found.1 ≡ first + sum_by (λ body. 5 + length body) found.0) }
@@ -67,7 +67,7 @@ fn read_bodies(alloc: Global, bytes: &[u8], first: usize) -> Result<(BodyList, u
     let mut at = first;
     while bytes[at] % 2 == 1 {
         let Some(body) = body_at(&bytes[at + 1..]) else {
-            return Err(ReadFault::Foreign(at));
+            return Err(WalkFault::Foreign(at));
         };
         bodies.push(Octets::from_slice(alloc, body)?)?;
         at += OVERHEAD + body.len();
@@ -96,7 +96,7 @@ fn first_gate(bytes: &[u8]) -> Option<usize>
 /// # Errors
 ///
 /// `Foreign` exactly where the bytes have no reading, with the place of their first fault; `NoMemory`.
-pub(crate) fn read_bank(alloc: Global, bytes: &[u8]) -> Result<(BankContent, usize), ReadFault>
+pub(crate) fn read_bank(alloc: Global, bytes: &[u8]) -> Result<(BankContent, usize), WalkFault>
     requires { 9 < length bytes.now }
     ensures content { IfOk result (λ found. bank_of bytes.now ≡ Ok found.0) }
     ensures gate { IfOk result (λ found. found.1 ≡ gate_of found.0) }
@@ -104,7 +104,7 @@ pub(crate) fn read_bank(alloc: Global, bytes: &[u8]) -> Result<(BankContent, usi
     ensures fault { IfErr result (FaultHas (λ place. bank_of bytes.now ≡ Err place)) }
 {
     let Some(first) = first_gate(bytes) else {
-        return Err(ReadFault::Foreign(0));
+        return Err(WalkFault::Foreign(0));
     };
     let (bodies, gate) = read_bodies(alloc, bytes, first)?;
     let checkpoint = Octets::from_slice(alloc, &bytes[HEADER..first])?;

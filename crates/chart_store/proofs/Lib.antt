@@ -7,6 +7,7 @@ mod Accepting
 mod Placing
 mod Keeping
 mod Commanding
+mod Reissuing
 mod Differing
 mod Taking
 mod Preparing

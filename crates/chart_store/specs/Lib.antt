@@ -5,6 +5,7 @@ pub mod Live
 pub mod Taken
 pub mod KeptFiles
 pub mod Outcome
+pub mod Reissued
 pub mod Next
 pub mod Images
 pub mod Store

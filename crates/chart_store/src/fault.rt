@@ -8,15 +8,18 @@ use chart_closure::ClosureFault;
 use iso8211_records::FileFault;
 use s57_records::DatasetFault;
 use std::alloc::{AllocError, AllocFailed};
+use thiserror::Error;
 use update_apply::ChangeFault;
 use update_sequence::{BuildFault, ReadFault, SequenceFault};
 
 /// Why a file is not taken over. What is held stays as it was.
-#[derive(Debug, Drop)]
+#[derive(Debug, Drop, Error)]
 pub enum TakeFault {
     /// It is refused.
+    #[error(transparent)]
     Refused(Refusal),
     /// There was no memory, or a limit on the work for one file was passed.
+    #[error("there was no memory, or too much work for one file")]
     NoMemory,
 }
 

@@ -7,7 +7,10 @@ ghost use Rattle.chart_model.specs.State.{StateValue};
 ghost use Rattle.chart_model.specs.declared.command.Command.{Command};
 ghost use Rattle.update_sequence.specs.Reading.{data_set_in};
 ghost use Rattle.chart_store.specs.declared.refusal.Refusal.{Refusal};
-ghost use Rattle.chart_store.specs.Loaded.{Outcome, nothing_held, loaded};
+ghost use Rattle.chart_model.specs.Cell.{CellValue};
+ghost use Rattle.chart_model.specs.declared.state.Holding.{Holding};
+ghost use Rattle.chart_store.specs.Loaded.{Outcome, held_with, nothing_held, loaded};
+ghost use Rattle.chart_store.specs.Reissued.{IsReissueOf, held_by_file};
 ghost use Rattle.chart_store.specs.KeptFiles.{MayKeep, IsShortestKept, kept_by};
 ghost use Rattle.chart_store.specs.Live.{AreLive, state_after, state_by};
 ghost use Rattle.chart_store.specs.Outcome.{IsKeyOf, outcome, state_with, after, charts};
@@ -82,4 +85,16 @@ pub fn rollbacks_keep_the_shortest_list()
 {
     sequences_grow();
     sequences_are_tested();
+}
+
+/// A re-issue of a chart that is held is refused for no fault of it: it is taken over unless the live files would have
+/// too many bytes, and the numbers and the chart stay as they were.
+pub fn reissues_keep_the_chart()
+    ensures { (state : StateValue) (key : List ℕ) (here : Holding) (chart : CellValue) (file : List ℕ) →
+        AreLive state.cells → map.get state.cells key ≡ Some here → here.chart ≡ Some chart → IsReissueOf chart file →
+        loaded state file ≡ held_with state key (held_by_file here file) }
+{
+    one_file_more();
+    accepted_files_follow();
+    sequences_are_held();
 }

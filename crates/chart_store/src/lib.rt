@@ -32,7 +32,8 @@ pub use fault::TakeFault;
 pub use images_laws::{files_that_stand_are_read, kept_stores_are_read};
 pub use laws::{
     commands_change_their_cell_alone, commands_follow_in_turn, commands_leave_what_is_held,
-    live_files_leave_what_is_held, loads_change_their_cell_alone, rollbacks_keep_the_shortest_list,
+    live_files_leave_what_is_held, loads_change_their_cell_alone, reissues_keep_the_chart,
+    rollbacks_keep_the_shortest_list,
 };
 pub use live::LiveCells;
 pub use load::FILE_LIMIT;

@@ -7,16 +7,20 @@ use crate::fault::TakeFault;
 use crate::refusal::Refusal;
 use bank_journal::AppendFault;
 use std::alloc::AllocError;
+use thiserror::Error;
 
 /// Why a store does not accept a command. What is held stays as it was.
-#[derive(Debug, Drop)]
+#[derive(Debug, Drop, Error)]
 pub enum SubmitFault {
     /// It is refused.
+    #[error(transparent)]
     Refused(Refusal),
     /// A call of the desk failed. The store is used no more, and has to be opened again: it then holds what was held
     /// before the command, or what the command leaves.
+    #[error("the disk failed")]
     DeskFault,
     /// There was no memory, or a limit on the work for one file was passed.
+    #[error("there was no memory, or too much work for one file")]
     NoMemory,
 }
 

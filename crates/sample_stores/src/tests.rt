@@ -4,4 +4,5 @@ mod crashes;
 mod folder;
 mod foreign;
 mod memory;
+mod refusals;
 mod script;

@@ -86,3 +86,22 @@ fn a_failing_call_is_told(rt: HostRuntime) -> Result<(), Fail> {
     }
     Ok(())
 }
+
+/// Faults of an opening, and what they say.
+static SAID: [(BankFault, &str); 3] = [
+    (BankFault::DeskFault, "the disk failed"),
+    (
+        BankFault::Foreign(2, 15),
+        "file 2 is no bank from byte 15 on",
+    ),
+    (BankFault::NoMemory, "there was no memory"),
+];
+
+#[test]
+fn a_fault_says_what_is_wrong_and_where(rt: HostRuntime) -> Result<(), Fail> {
+    for (at, (fault, said)) in SAID.iter().enumerate() {
+        let text = format!(in rt.alloc(); "{fault}")?;
+        assert!(rt; text.as_str() == *said, "case {at}");
+    }
+    Ok(())
+}
