@@ -13,3 +13,5 @@ pub mod Headers
 pub mod Ranges
 pub mod Arrays
 pub mod Counts
+pub mod Digits
+pub mod Modified

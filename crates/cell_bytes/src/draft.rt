@@ -1,7 +1,8 @@
 //! Records in the making.
 
 ghost use Rattle.std.specs.Prelude.{◌≡◌, [], OnOk};
-ghost use Rattle.cell_bytes.specs.Record.{field, list_field, no_fields, with_fields};
+ghost use Rattle.cell_bytes.specs.Record.{alone, field, list_field, no_fields, with_fields};
+ghost use Rattle.cell_bytes.specs.Vector.{identified};
 
 use crate::fields::Fields;
 use chart_model::Octets;
@@ -9,30 +10,30 @@ use std::alloc::{AllocError, Global};
 
 /// A record in the making: its fields so far, and the text of the field that comes next.
 #[derive(Debug, Drop)]
-pub(crate) struct Draft {
+pub(crate) struct RecordDraft {
     pub(crate) fields: Fields,
     pub(crate) text: Octets,
 }
 
-impl Draft {
+impl RecordDraft {
     /// A record without a field. It takes no memory.
-    pub(crate) fn new(alloc: Global) -> Draft
+    pub(crate) fn new(alloc: Global) -> RecordDraft
         ensures fields { result.fields ≡ no_fields }
         ensures text { result.text ≡ [] }
     {
-        Draft {
+        RecordDraft {
             fields: Fields::new(alloc),
             text: Octets::from_vec(Vec::new(alloc)),
         }
     }
 
-    /// Takes all fields out. It takes no memory.
-    pub(crate) fn clear(&mut self)
-        ensures fields { self.new.fields ≡ no_fields }
-        ensures text { self.new.text ≡ [] }
+    /// Begins a record anew, with its number.
+    pub(crate) fn begin(&mut self, number: u16) -> Result<(), AllocError>
+        ensures fields { OnOk result (self.new.fields ≡ alone (identified number)) }
+        ensures text { OnOk result (self.new.text ≡ []) }
     {
-        self.fields.clear();
         self.text.clear();
+        self.fields.begin(number)
     }
 
     /// Ends the field whose text was written.

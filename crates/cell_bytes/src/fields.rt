@@ -1,7 +1,8 @@
 //! The fields of records (ISO/IEC 8211, records).
 
-ghost use Rattle.std.specs.Prelude.{◌≡◌, ◌++◌, ◌+◌, [], length, codes, IfOk, OnOk};
-ghost use Rattle.cell_bytes.specs.Record.{base_of, digits, field, framed, leader_of, no_fields, with_fields};
+ghost use Rattle.std.specs.Prelude.{◌≡◌, ◌++◌, ◌+◌, ◌<◌, [], length, codes, IfOk, OnOk};
+ghost use Rattle.cell_bytes.specs.Record.{alone, base_of, digits, field, framed, leader_of, no_fields, with_fields};
+ghost use Rattle.cell_bytes.specs.Vector.{identified};
 
 use chart_model::Octets;
 use chart_model::codes::FIELD_TERMINATOR;
@@ -42,11 +43,29 @@ pub(crate) struct Fields {
     pub(crate) area: Octets,
 }
 
+/// The digits of a number below 100: most fields are so short, and most records have so few bytes before them.
+#[tactic(auto, using(crate::proofs::Digits::two_of_five))]
+fn two_of_five_digits(number: usize) -> [u8; 5]
+    requires { number < 100 }
+    ensures { result ≡ digits 5 number }
+{
+    [
+        b'0',
+        b'0',
+        b'0',
+        b'0' + (number / 10) as u8,
+        b'0' + (number % 10) as u8,
+    ]
+}
+
 /// The digits of a number below 100,000; of a greater one, the last five.
 #[tactic(auto, unfolding(crate::specs::Record::digits))]
 fn five_digits(number: usize) -> [u8; 5]
     ensures { result ≡ digits 5 number }
 {
+    if number < 100 {
+        return two_of_five_digits(number);
+    }
     let digit = |place: usize| b'0' + (number / place % 10) as u8;
     [digit(10_000), digit(1_000), digit(100), digit(10), digit(1)]
 }
@@ -89,12 +108,16 @@ impl Fields {
         }
     }
 
-    /// Takes all fields out. It takes no memory.
-    pub(crate) fn clear(&mut self)
-        ensures { self.new ≡ no_fields }
+    /// Leaves the identifier of a record alone: the field 0001 with its number, which is the first of each record.
+    #[tactic(auto, unfolding(crate::specs::Vector::identified, crate::specs::Record::field, crate::specs::Record::with_field, crate::specs::Record::entry, crate::specs::Record::digits, crate::specs::Subfields::b12))]
+    pub(crate) fn begin(&mut self, number: u16) -> Result<(), AllocError>
+        ensures { OnOk result (self.new ≡ alone (identified number)) }
     {
         self.directory.clear();
         self.area.clear();
+        self.directory.extend_from_slice(b"00010000300000")?;
+        let [low, high] = number.to_le_bytes();
+        self.area.extend_from_slice(&[low, high, FIELD_TERMINATOR])
     }
 
     /// Adds a field: its entry to the directory, and its text and a field terminator to the field area.

@@ -14,7 +14,7 @@ ghost use Rattle.cell_bytes.specs.FieldValues.{IsFourBytes};
 ghost use Rattle.cell_bytes.specs.RecordsRead.{AreCountsInRange, IsFeatureEntryInRange, IsHeaderInRange};
 ghost use Rattle.cell_bytes.specs.RecordsRead.{IsVectorInRange};
 
-use crate::draft::Draft;
+use crate::draft::RecordDraft;
 use crate::fault::WriteFault;
 use crate::fields::OF_DATA;
 use crate::records::{draft_feature, draft_general, draft_parameters, draft_vector};
@@ -29,7 +29,7 @@ const RECORD_LIMIT: usize = 99_999;
 pub(crate) struct CellFile {
     pub(crate) bytes: Octets,
     pub(crate) number: u16,
-    pub(crate) draft: Draft,
+    pub(crate) draft: RecordDraft,
 }
 
 /// What is wrong with a record of so many bytes.
@@ -52,7 +52,7 @@ impl CellFile {
         CellFile {
             bytes: Octets::from_vec(Vec::new(alloc)),
             number: 1,
-            draft: Draft::new(alloc),
+            draft: RecordDraft::new(alloc),
         }
     }
 

@@ -15,7 +15,6 @@ use chart_model::{
     Pointers, RelatedList, Vector, VectorMap,
 };
 use std::alloc::{AllocError, Global};
-use text_scan::write_number;
 
 /// The class of depth areas.
 pub(crate) const DEPARE: u16 = 42;
@@ -129,13 +128,17 @@ fn made_edge(alloc: Global, number: u32) -> Result<Vector, AllocError>
     })
 }
 
-/// The decimal text of a number.
+/// The decimal text of a number below 100.
+#[tactic(auto, using(crate::proofs::Digits::decimal_below_ten, crate::proofs::Digits::decimal_below_hundred))]
 pub(crate) fn decimal(alloc: Global, number: u32) -> Result<Octets, AllocError>
+    requires { number < 100 }
     ensures { IfOk result (λ text. text ≡ decimal_of (pos number)) }
 {
-    let mut text = Octets::from_vec(Vec::new(alloc));
-    write_number(alloc, &mut text, i128::from(number))?;
-    Ok(text)
+    let ones = b'0' + (number % 10) as u8;
+    if number < 10 {
+        return Octets::from_slice(alloc, &[ones]);
+    }
+    Octets::from_slice(alloc, &[b'0' + (number / 10) as u8, ones])
 }
 
 /// The attributes of an area whose least depth is so many metres.

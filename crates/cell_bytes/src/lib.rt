@@ -22,5 +22,5 @@ pub use laws::{
     fields_are_spelled, files_are_read, records_are_read, the_descriptive_record_is_read,
     values_are_spelled,
 };
-pub use update::{AREA_STRIDE, make_update};
+pub use update::{make_update, modified_count};
 pub use write::spell_cell;

@@ -46,13 +46,23 @@ pub(crate) fn put_attributes(out: &mut Octets, attrs: &AttrMap) -> Result<(), Al
 }
 
 /// Adds a pointer of a vector record.
-#[tactic(auto, unfolding(crate::specs::Vector::vector_pointer, crate::specs::Subfields::b11))]
+#[tactic(auto, unfolding(crate::specs::Vector::vector_pointer, crate::specs::Vector::name_text, crate::specs::Subfields::b11, crate::specs::Subfields::b14))]
 fn put_vector_pointer(out: &mut Octets, pointer: Pointer) -> Result<(), AllocError>
     ensures bytes { OnOk result (out.new ≡ out.old ++ vector_pointer pointer) }
     ensures in_range { IsPointerInRange pointer }
 {
-    put_name(out, pointer.target)?;
-    out.extend_from_slice(&[pointer.ornt, pointer.usag, pointer.topi, pointer.mask])
+    let [a, b, c, d] = pointer.target.rcid.to_le_bytes();
+    out.extend_from_slice(&[
+        pointer.target.rcnm,
+        a,
+        b,
+        c,
+        d,
+        pointer.ornt,
+        pointer.usag,
+        pointer.topi,
+        pointer.mask,
+    ])
 }
 
 /// Adds the pointers of a vector record.
@@ -159,13 +169,22 @@ pub(crate) fn put_related(out: &mut Octets, related: &[Related]) -> Result<(), A
 }
 
 /// Adds a pointer of a feature.
-#[tactic(auto, unfolding(crate::specs::Feature::feature_pointer, crate::specs::Subfields::b11))]
+#[tactic(auto, unfolding(crate::specs::Feature::feature_pointer, crate::specs::Vector::name_text, crate::specs::Subfields::b11, crate::specs::Subfields::b14))]
 fn put_feature_pointer(out: &mut Octets, pointer: Pointer) -> Result<(), AllocError>
     ensures bytes { OnOk result (out.new ≡ out.old ++ feature_pointer pointer) }
     ensures in_range { IsPointerInRange pointer }
 {
-    put_name(out, pointer.target)?;
-    out.extend_from_slice(&[pointer.ornt, pointer.usag, pointer.mask])
+    let [a, b, c, d] = pointer.target.rcid.to_le_bytes();
+    out.extend_from_slice(&[
+        pointer.target.rcnm,
+        a,
+        b,
+        c,
+        d,
+        pointer.ornt,
+        pointer.usag,
+        pointer.mask,
+    ])
 }
 
 /// Adds the pointers of a feature.

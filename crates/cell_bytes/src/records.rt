@@ -4,7 +4,7 @@ ghost use Rattle.std.specs.Prelude.{◌≡◌, ◌++◌, [], codes, OnOk};
 ghost use Rattle.std.specs.List.{AllByRecursion, flat_map};
 ghost use Rattle.chart_model.specs.Cell.{IsFeature, IsVector};
 ghost use Rattle.cell_bytes.specs.Record.{alone, field, list_field, with_fields};
-ghost use Rattle.cell_bytes.specs.Vector.{identified, point, sounding, vector_fields, vector_identifier};
+ghost use Rattle.cell_bytes.specs.Vector.{point, sounding, vector_fields, vector_identifier};
 ghost use Rattle.cell_bytes.specs.Feature.{feature_fields, feature_identifier};
 ghost use Rattle.cell_bytes.specs.DataSet.{general_fields, parameter_fields, revision_fields};
 ghost use Rattle.cell_bytes.specs.FieldValues.{IsCoordInRange, IsFeatureInRange, IsFourBytes};
@@ -12,7 +12,7 @@ ghost use Rattle.cell_bytes.specs.RecordsRead.{AreCountsInRange, IsFeatureEntryI
 ghost use Rattle.cell_bytes.specs.RecordsRead.{IsVectorInRange};
 
 use crate::data_set::{Purpose, put_identification, put_parameters, put_structure};
-use crate::draft::Draft;
+use crate::draft::RecordDraft;
 use crate::lists::{
     put_attributes, put_feature_pointers, put_foid, put_name, put_points, put_related,
     put_soundings, put_vector_pointers,
@@ -22,29 +22,18 @@ use chart_model::codes::INSERT;
 use chart_model::{Cell, Coord, Feature, Header, Name, Octets, Vector};
 use std::alloc::{AllocError, Global};
 
-/// Begins a record, with its number.
-#[tactic(auto, unfolding(crate::specs::Vector::identified))]
-pub(crate) fn begin(draft: &mut Draft, number: u16) -> Result<(), AllocError>
-    ensures fields { OnOk result (draft.new.fields ≡ alone (identified number)) }
-    ensures text { OnOk result (draft.new.text ≡ []) }
-{
-    draft.clear();
-    put_b12(&mut draft.text, number)?;
-    draft.end_field(*b"0001")
-}
-
 /// Adds the identifier of a vector record.
-#[tactic(auto, unfolding(crate::specs::Vector::vector_identifier))]
+#[tactic(auto, unfolding(crate::specs::Vector::vector_identifier, crate::specs::Vector::name_text, crate::specs::Subfields::b11, crate::specs::Subfields::b12, crate::specs::Subfields::b14))]
 fn put_vector_identifier(out: &mut Octets, name: Name, version: u16) -> Result<(), AllocError>
     ensures { OnOk result (out.new ≡ out.old ++ vector_identifier name version) }
 {
-    put_name(out, name)?;
-    put_b12(out, version)?;
-    put_b11(out, INSERT)
+    let [a, b, c, d] = name.rcid.to_le_bytes();
+    let [e, f] = version.to_le_bytes();
+    out.extend_from_slice(&[name.rcnm, a, b, c, d, e, f, INSERT])
 }
 
 /// Adds the fields of coordinates: one for those without a depth, and one for soundings.
-fn put_coordinates(draft: &mut Draft, coords: &[Coord]) -> Result<(), AllocError>
+fn put_coordinates(draft: &mut RecordDraft, coords: &[Coord]) -> Result<(), AllocError>
     requires { draft.old.text ≡ [] }
     ensures fields { OnOk result (draft.new.fields ≡ with_fields draft.old.fields
         (list_field (codes "SG2D") (flat_map point coords.now)
@@ -61,7 +50,7 @@ fn put_coordinates(draft: &mut Draft, coords: &[Coord]) -> Result<(), AllocError
 /// Makes the record of a vector.
 #[tactic(auto, unfolding(crate::specs::Vector::vector_fields))]
 pub(crate) fn draft_vector(
-    draft: &mut Draft,
+    draft: &mut RecordDraft,
     number: u16,
     name: Name,
     vector: &Vector,
@@ -69,7 +58,7 @@ pub(crate) fn draft_vector(
     ensures fields { OnOk result (draft.new.fields ≡ alone (vector_fields number name vector.now)) }
     ensures in_range { OnOk result (IsVector name vector.now → IsVectorInRange (name, vector.now)) }
 {
-    begin(draft, number)?;
+    draft.begin(number)?;
     put_vector_identifier(&mut draft.text, name, vector.version)?;
     draft.end_field(*b"VRID")?;
     put_attributes(&mut draft.text, &vector.attrs)?;
@@ -96,7 +85,7 @@ fn put_feature_identifier(out: &mut Octets, name: Name, feature: &Feature) -> Re
 /// Makes the record of a feature.
 #[tactic(auto, unfolding(crate::specs::Feature::feature_fields))]
 pub(crate) fn draft_feature(
-    draft: &mut Draft,
+    draft: &mut RecordDraft,
     number: u16,
     name: Name,
     feature: &Feature,
@@ -104,7 +93,7 @@ pub(crate) fn draft_feature(
     ensures fields { OnOk result (draft.new.fields ≡ alone (feature_fields number name feature.now)) }
     ensures in_range { OnOk result (IsFeature name feature.now → IsFeatureEntryInRange (name, feature.now)) }
 {
-    begin(draft, number)?;
+    draft.begin(number)?;
     put_feature_identifier(&mut draft.text, name, feature)?;
     draft.end_field(*b"FRID")?;
     put_foid(&mut draft.text, feature.foid)?;
@@ -121,7 +110,7 @@ pub(crate) fn draft_feature(
 #[tactic(auto, unfolding(crate::specs::DataSet::general_fields))]
 pub(crate) fn draft_general(
     alloc: Global,
-    draft: &mut Draft,
+    draft: &mut RecordDraft,
     number: u16,
     cell: &Cell,
 ) -> Result<(), AllocError>
@@ -130,7 +119,7 @@ pub(crate) fn draft_general(
     ensures header { OnOk result (IsFourBytes cell.now.header.scale → IsHeaderInRange cell.now.header) }
     ensures counts { OnOk result (AreCountsInRange cell.now) }
 {
-    begin(draft, number)?;
+    draft.begin(number)?;
     put_identification(alloc, &mut draft.text, Purpose::NewDataSet, &cell.header)?;
     draft.end_field(*b"DSID")?;
     put_structure(&mut draft.text, cell)?;
@@ -139,10 +128,14 @@ pub(crate) fn draft_general(
 
 /// Makes the record of a base file's parameters.
 #[tactic(auto, unfolding(crate::specs::DataSet::parameter_fields))]
-pub(crate) fn draft_parameters(draft: &mut Draft, number: u16, scale: u32) -> Result<(), AllocError>
+pub(crate) fn draft_parameters(
+    draft: &mut RecordDraft,
+    number: u16,
+    scale: u32,
+) -> Result<(), AllocError>
     ensures { OnOk result (draft.new.fields ≡ alone (parameter_fields number scale)) }
 {
-    begin(draft, number)?;
+    draft.begin(number)?;
     put_parameters(&mut draft.text, scale)?;
     draft.end_field(*b"DSPM")
 }
@@ -151,13 +144,13 @@ pub(crate) fn draft_parameters(draft: &mut Draft, number: u16, scale: u32) -> Re
 #[tactic(auto, unfolding(crate::specs::DataSet::revision_fields))]
 pub(crate) fn draft_revision(
     alloc: Global,
-    draft: &mut Draft,
+    draft: &mut RecordDraft,
     number: u16,
     header: &Header,
 ) -> Result<(), AllocError>
     ensures { OnOk result (draft.new.fields ≡ alone (revision_fields number header.now)) }
 {
-    begin(draft, number)?;
+    draft.begin(number)?;
     put_identification(alloc, &mut draft.text, Purpose::Revision, header)?;
     draft.end_field(*b"DSID")
 }

@@ -1,6 +1,6 @@
 //! Updates of the cells that are made for trials.
 
-ghost use Rattle.std.specs.Prelude.{◌≡◌, ◌++◌, ◌∷◌, [], ◌≤◌, filter, map, IfOk, OnOk};
+ghost use Rattle.std.specs.Prelude.{◌≡◌, ◌++◌, ◌∷◌, [], ◌≤◌, filter, length, map, IfOk, OnOk};
 ghost use Rattle.std.specs.Int.{IsInRange};
 ghost use Rattle.chart_model.specs.Codes.{MODIFY as MODIFIES};
 ghost use Rattle.cell_bytes.specs.Record.{alone, of_data, record_of};
@@ -13,18 +13,18 @@ ghost use Rattle.cell_bytes.specs.Subfields.{b11};
 ghost use Rattle.cell_bytes.specs.Written.{next_number, number_behind, numbered};
 
 use crate::descriptive::put_descriptive_record;
-use crate::draft::Draft;
+use crate::draft::RecordDraft;
 use crate::file::CellFile;
 use crate::generator::{DEPARE, DRVAL1, decimal, made_header};
 use crate::lists::{put_attribute, put_name};
-use crate::records::{begin, draft_revision};
+use crate::records::draft_revision;
 use crate::subfields::{put_b11, put_b12};
 use chart_model::codes::{AREA, FEATURE, MODIFY};
 use chart_model::{Header, Name, Octets};
 use std::alloc::{AllocError, Global};
 
 /// An update modifies one area in so many: those whose numbers are equal to its own modulo this.
-pub const AREA_STRIDE: u32 = 30;
+const AREA_STRIDE: u32 = 30;
 
 /// Adds the identifier of the record that modifies an area.
 #[tactic(auto, unfolding(crate::specs::Feature::described))]
@@ -49,7 +49,7 @@ fn put_identifier(out: &mut Octets, update: u32, area: u32) -> Result<(), AllocE
 #[tactic(auto, unfolding(crate::specs::Generator::modified_fields))]
 fn draft_area(
     alloc: Global,
-    draft: &mut Draft,
+    draft: &mut RecordDraft,
     number: u16,
     update: u32,
     area: u32,
@@ -58,7 +58,7 @@ fn draft_area(
     ensures { OnOk result (draft.new.fields ≡ alone (modified_fields update area number)) }
 {
     let depth = decimal(alloc, update % 50)?;
-    begin(draft, number)?;
+    draft.begin(number)?;
     put_identifier(&mut draft.text, update, area)?;
     draft.end_field(*b"FRID")?;
     put_attribute(&mut draft.text, DRVAL1, depth.as_slice())?;
@@ -122,6 +122,21 @@ fn put_areas(file: &mut CellFile, alloc: Global, update: u32, count: u32) -> Res
         put_where_modified(file, alloc, update, before + 1)?;
     }
     Ok(())
+}
+
+/// How many areas of so many an update modifies: one data record of the update is of each.
+pub fn modified_count(update: u32, areas: u32) -> u32
+    requires { areas ≤ 20000 }
+    ensures count { result ≡ length (modified_areas update areas) }
+    ensures most { result ≤ 20000 }
+{
+    let mut count = 0;
+    for before in 0..areas {
+        if (before + 1) % AREA_STRIDE == update % AREA_STRIDE {
+            count += 1;
+        }
+    }
+    count
 }
 
 /// Makes update `u` of the cell for trials with `n` depth areas ([`make_cell`](crate::make_cell)): it sets the least

@@ -8,8 +8,9 @@ use Rattle.iso8211_records.specs.declared.value.Value.{Value}
 use Rattle.s57_subfields.specs.declared.fault.FieldFault.{FieldFault}
 use Rattle.s57_subfields.specs.Answers.{missing, bad}
 use Rattle.s57_subfields.specs.Groups.{AreGrouped, FaultIsFirst, GroupedField, ItemsAreGroups, fault_in, fault_under}
-use Rattle.s57_subfields.specs.Groups.{group_size, in_group, place_in_group}
-use Rattle.s57_subfields.specs.Places.{group_start}
+use Rattle.s57_subfields.specs.Groups.{group_size, in_group}
+use Rattle.s57_subfields.specs.Lists.{column_fault, distance}
+use Rattle.s57_subfields.specs.Places.{group_start, subfield_of}
 use Rattle.s57_subfields.specs.RowValues.{RowValues}
 
 -- the values of the list's fields: one field with all groups, or none where there is no item
@@ -41,9 +42,10 @@ pub no_fault_under : {X B : Type 0} (read : Value → Option B) (label : List �
     (values : X → List Value) (part : X → B) (P : X → Type 0)
     → ((x : X) → P x → in_group read layout label (values x) ≡ Some (part x)) → (x : X) (xs : List X) → AllByRecursion P (x ∷ xs)
     → fault_under read label layout row (map values (x ∷ xs)) ≡ None
+unfolding column_fault
 no_fault_under read label layout row values part P reads x xs all =
     calm _ _ (missing row) (bad row label)
-    (there (place_in_group layout label) _ (part x) (reads x all.0))
+    (there (distance (subfield_of (Some layout) label).place) _ (part x) (reads x all.0))
     (each_there (in_group read layout label) values part P reads (x ∷ xs) all)
 
 none_first : (faults : List (Option FieldFault)) → AllByRecursion (λ fault. fault ≡ None) faults → first_of faults ≡ None
