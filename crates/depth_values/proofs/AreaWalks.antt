@@ -5,16 +5,16 @@ use Rattle.chart_model.specs.declared.name.Name.{Name}
 use Rattle.plane_geometry.specs.declared.point.Pt.{Pt}
 use Rattle.depth_values.specs.DepthArea.{AreaValue}
 use Rattle.plane_bounds.specs.Inside.{is_inside}
-use Rattle.depth_values.specs.Under.{holding, lesser}
+use Rattle.depth_values.specs.Under.{areas_holding, lesser}
 
 abbrev pub holds : List Pt → AreaValue → Bool
 holds points area = list_any (λ p. is_inside p area.rings) points
 
 next_area : (points : List Pt) (areas : List AreaValue) (i : ℕ) (area : AreaValue) → i < length areas → area ≡ get_or areas i area
-    → holding points (drop i areas) ≡ cond (holds points area) (area ∷ holding points (drop (i + 1) areas)) (holding points (drop (i + 1) areas))
+    → areas_holding points (drop i areas) ≡ cond (holds points area) (area ∷ areas_holding points (drop (i + 1) areas)) (areas_holding points (drop (i + 1) areas))
 next_area points areas i area h e =
     rw (add-one, drop-cons areas i area)
-    (ap (λ (a : AreaValue). cond (holds points a) (a ∷ holding points (drop (suc i) areas)) (holding points (drop (suc i) areas))) (sym e))
+    (ap (λ (a : AreaValue). cond (holds points a) (a ∷ areas_holding points (drop (suc i) areas)) (areas_holding points (drop (suc i) areas))) (sym e))
 
 -- whether the area at a place of a list holds one of the points, as it was told
 pub record IsTold (points : List Pt) (areas : List AreaValue) (i : ℕ) (area : AreaValue) (told : Bool) : Type 0 where
@@ -33,9 +33,9 @@ is_told points asked areas i area told within is answer same = record {
 
 -- the areas from a place on that hold a point: that area too where this was told, and those behind it
 holding_from : {points : List Pt} {areas : List AreaValue} {i : ℕ} {area : AreaValue} {told : Bool} → IsTold points areas i area told
-    → cond told (area ∷ holding points (drop (i + 1) areas)) (holding points (drop (i + 1) areas)) ≡ holding points (drop i areas)
+    → cond told (area ∷ areas_holding points (drop (i + 1) areas)) (areas_holding points (drop (i + 1) areas)) ≡ areas_holding points (drop i areas)
 holding_from {points} {areas} {i} {area} {told} t =
-    ap (λ (b : Bool). cond b (area ∷ holding points (drop (i + 1) areas)) (holding points (drop (i + 1) areas))) t.answer
+    ap (λ (b : Bool). cond b (area ∷ areas_holding points (drop (i + 1) areas)) (areas_holding points (drop (i + 1) areas))) t.answer
     ∙ sym (next_area points areas i area t.within t.is)
 
 -- what is gathered of areas, where one area more adds to what was gathered before
@@ -43,18 +43,18 @@ module _ {S R : Type 0} (gathered : S → List AreaValue → R) (add : S → Are
     (adds : (before : S) (area : AreaValue) (rest : List AreaValue) → gathered (add before area) rest ≡ gathered before (area ∷ rest)) where
   -- an area that holds a point adds to it
   pub taken_in : {points : List Pt} {areas : List AreaValue} {i : ℕ} {area : AreaValue} {told : Bool} → IsTold points areas i area told → told ≡ true
-      → (before next : S) → next ≡ add before area → gathered next (holding points (drop (i + 1) areas)) ≡ gathered before (holding points (drop i areas))
+      → (before next : S) → next ≡ add before area → gathered next (areas_holding points (drop (i + 1) areas)) ≡ gathered before (areas_holding points (drop i areas))
   taken_in {points} {areas} {i} {area} {told} t holding_one before next added =
-      ap (λ (s : S). gathered s (holding points (drop (i + 1) areas))) added
-      ∙ adds before area (holding points (drop (i + 1) areas))
-      ∙ ap (gathered before) (ap (λ (b : Bool). cond b (area ∷ holding points (drop (i + 1) areas)) (holding points (drop (i + 1) areas))) (sym holding_one) ∙ holding_from t)
+      ap (λ (s : S). gathered s (areas_holding points (drop (i + 1) areas))) added
+      ∙ adds before area (areas_holding points (drop (i + 1) areas))
+      ∙ ap (gathered before) (ap (λ (b : Bool). cond b (area ∷ areas_holding points (drop (i + 1) areas)) (areas_holding points (drop (i + 1) areas))) (sym holding_one) ∙ holding_from t)
 
   -- another area leaves it
   pub left_out : {points : List Pt} {areas : List AreaValue} {i : ℕ} {area : AreaValue} {told : Bool} → IsTold points areas i area told → told ≡ false
-      → (before next : S) → next ≡ before → gathered next (holding points (drop (i + 1) areas)) ≡ gathered before (holding points (drop i areas))
+      → (before next : S) → next ≡ before → gathered next (areas_holding points (drop (i + 1) areas)) ≡ gathered before (areas_holding points (drop i areas))
   left_out {points} {areas} {i} {area} {told} t holding_none before next kept =
-      ap (λ (s : S). gathered s (holding points (drop (i + 1) areas))) kept
-      ∙ ap (gathered before) (ap (λ (b : Bool). cond b (area ∷ holding points (drop (i + 1) areas)) (holding points (drop (i + 1) areas))) (sym holding_none) ∙ holding_from t)
+      ap (λ (s : S). gathered s (areas_holding points (drop (i + 1) areas))) kept
+      ∙ ap (gathered before) (ap (λ (b : Bool). cond b (area ∷ areas_holding points (drop (i + 1) areas)) (areas_holding points (drop (i + 1) areas))) (sym holding_none) ∙ holding_from t)
 
 -- names, with those of areas that follow
 abbrev pub with_names : List Name → List AreaValue → List Name

@@ -1,6 +1,6 @@
 -- The depth over a wreck, a rock or an obstruction, in centimetres.
 use Rattle.std.specs.Prelude.{ℕ, ℤ, pos, negsuc, ◌≤ℤ◌, unsigned_abs}
-use Rattle.std.specs.Prelude.{nat_le, Bool, false, ◌&&◌, ◌||◌, ◌==◌, if◌then◌else◌}
+use Rattle.std.specs.Prelude.{nat_le, Bool, false, ◌&&◌, ◌||◌, ◌==◌, if◌then◌else◌, is_none}
 use Rattle.std.specs.Prelude.{List, [], ◌∷◌, All, codes, Option, Some, None, option_and_then, unwrap_or}
 use Rattle.std.specs.List.{Contains}
 use Rattle.chart_model.specs.declared.cell.Feature.{Feature}
@@ -19,12 +19,12 @@ pub record IsLeast (numbers : List ℤ) (n : ℤ) : Type 0 where
   pub none_less : All (λ other. n ≤ℤ other) numbers
 
 -- a depth that a sounding can have: up to 9,999,999 either way
-abbrev pub known : ℤ → Option ℤ
-known depth = if nat_le (unsigned_abs depth) 9999999 then Some depth else None
+abbrev pub sounding_depth : ℤ → Option ℤ
+sounding_depth depth = if nat_le (unsigned_abs depth) 9999999 then Some depth else None
 
 -- value of sounding
 abbrev pub sounding_of : Feature → Option ℤ
-sounding_of feature = option_and_then known (depth_at feature VALSOU)
+sounding_of feature = option_and_then sounding_depth (depth_at feature VALSOU)
 
 -- water level effect
 abbrev pub has_watlev : List ℕ → Feature → Bool
@@ -56,13 +56,9 @@ abbrev pub depth_below : List AreaValue → Option Shape → Feature → Option 
 depth_below areas shape feature =
     if lies_at_bottom feature then option_and_then (least_among areas) shape else None
 
--- the same of the depth areas of the cell
-abbrev pub depth_under : CellValue → Feature → Option ℤ
-depth_under cell feature = depth_below (areas_of cell) (shape_of cell feature) feature
-
 -- what is taken of a hazard of no known depth, by its categories and then by the water level
-abbrev pub assumed : Feature → List (Option ℤ)
-assumed feature =
+abbrev pub assumed_depths : Feature → List (Option ℤ)
+assumed_depths feature =
     when (is_wreck (codes "1") feature) (pos 2010)
     ∷ when (is_wreck (codes "2") feature) (pos 0)
     ∷ when (is_wreck (codes "4") feature || is_wreck (codes "5") feature) (negsuc 1499)
@@ -73,12 +69,20 @@ assumed feature =
 
 -- and of all others: they dry 15 metres
 abbrev pub assumed_depth : Feature → ℤ
-assumed_depth feature = unwrap_or (first_of (assumed feature)) (negsuc 1499)
+assumed_depth feature = unwrap_or (first_of (assumed_depths feature)) (negsuc 1499)
+
+-- the areas under it are asked for the depth of a hazard that has none of its own and lies at their bottom
+abbrev pub asks_areas : Feature → Bool
+asks_areas feature = is_none (sounding_of feature) && lies_at_bottom feature
 
 -- the first of these that there is: its own depth, that of the areas under it, an assumed one
+abbrev pub first_depth : Feature → Option ℤ → ℤ
+first_depth feature below =
+    unwrap_or (first_of (sounding_of feature ∷ below ∷ assumed_depths feature)) (negsuc 1499)
+
+-- by some depth areas and a shape
 abbrev pub hazard_depth_by : List AreaValue → Option Shape → Feature → ℤ
-hazard_depth_by areas shape feature =
-    unwrap_or (first_of (sounding_of feature ∷ depth_below areas shape feature ∷ assumed feature)) (negsuc 1499)
+hazard_depth_by areas shape feature = first_depth feature (depth_below areas shape feature)
 
 -- by the depth areas of the cell and the shape that the feature has there
 abbrev pub hazard_depth : CellValue → Feature → ℤ

@@ -42,11 +42,11 @@ abbrev pub areas_of : CellValue → List AreaValue
 areas_of cell = filter_map (area_at cell) (finite.entries cell.features)
 
 -- the areas in or on which one of the points lies
-abbrev pub holding : List Pt → List AreaValue → List AreaValue
-holding points areas = filter (λ area. list_any (λ p. is_inside p area.rings) points) areas
+abbrev pub areas_holding : List Pt → List AreaValue → List AreaValue
+areas_holding points areas = filter (λ area. list_any (λ p. is_inside p area.rings) points) areas
 
 abbrev pub names_among : List AreaValue → Shape → List Name
-names_among areas shape = map (λ area. area.name) (holding (points_in shape) areas)
+names_among areas shape = map (λ area. area.name) (areas_holding (points_in shape) areas)
 
 abbrev pub areas_under : CellValue → Shape → List Name
 areas_under cell shape = names_among (areas_of cell) shape
@@ -62,10 +62,10 @@ abbrev pub least : List ℤ → Option ℤ
 least numbers = fold lesser None numbers
 
 abbrev pub least_among : List AreaValue → Shape → Option ℤ
-least_among areas shape = least (map (λ area. area.d1) (holding (points_in shape) areas))
+least_among areas shape = least (map (λ area. area.d1) (areas_holding (points_in shape) areas))
 
 -- ---- a safe area among them
 
 -- one of the areas in or on which a point of the shape lies is the safety contour deep or more
 abbrev pub is_safe_among : List AreaValue → ℤ → Shape → Bool
-is_safe_among areas contour shape = list_any (λ area. int_le contour area.d1) (holding (points_in shape) areas)
+is_safe_among areas contour shape = list_any (λ area. int_le contour area.d1) (areas_holding (points_in shape) areas)

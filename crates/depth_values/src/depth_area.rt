@@ -9,7 +9,7 @@ use area_rings::{RingList, rings};
 use chart_model::codes::AREA;
 use chart_model::{Cell, Feature, Name, Sequence};
 use plane_bounds::{Bounds, bounds_of};
-use plane_geometry::Pt;
+use plane_geometry::{Pt, Ring};
 use std::alloc::{AllocError, Global};
 use std::marker::Model;
 
@@ -39,6 +39,7 @@ pub type DepthAreas = Sequence<DepthArea>;
 impl DepthArea {
     ghost use Rattle.std.specs.Prelude.{◌≡◌, IfOk};
     ghost use Rattle.std.specs.List.{list_any};
+    ghost use Rattle.plane_bounds.specs.Bounds.{RingsIn};
     ghost use Rattle.plane_bounds.specs.Inside.{is_inside};
 
     /// The name of the feature.
@@ -53,6 +54,20 @@ impl DepthArea {
         ensures { result ≡ self.now.d1 }
     {
         self.d1
+    }
+
+    /// The rings of the area.
+    pub fn rings(&self) -> &[Ring]
+        ensures { result.now ≡ self.now.rings }
+    {
+        self.rings.as_slice()
+    }
+
+    /// The box round the rings.
+    pub fn bounds(&self) -> Bounds
+        ensures { RingsIn result self.now.rings }
+    {
+        self.bounds
     }
 
     /// The rings of the area, copied point by point: no edge is followed for them again.

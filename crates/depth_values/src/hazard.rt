@@ -4,7 +4,7 @@ ghost use Rattle.std.specs.Prelude.{◌≡◌, Some, IfOk, IfSome};
 ghost use Rattle.chart_model.specs.Record.{IsWithin};
 ghost use Rattle.depth_values.specs.Under.{areas_of};
 ghost use Rattle.depth_values.specs.Hazard.{sounding_of, is_wreck, is_obstruction, lies_at_bottom};
-ghost use Rattle.depth_values.specs.Hazard.{depth_among, depth_under, assumed_depth, lies_in_safe_area};
+ghost use Rattle.depth_values.specs.Hazard.{asks_areas, depth_among, assumed_depth, first_depth};
 ghost use Rattle.depth_values.specs.Hazard.{hazard_depth, hazard_depth_by};
 
 use crate::attributes::{depth_at, has_value};
@@ -14,7 +14,7 @@ use crate::codes::{
     WRECK_WITH_MAST, WRECKS,
 };
 use crate::depth_area::{DepthArea, depth_areas};
-use crate::under::{is_safe_among, least_among};
+use crate::under::least_among;
 use area_rings::{Shape, feature_shape};
 use chart_model::{Cell, Feature};
 use std::alloc::{AllocError, Global};
@@ -99,33 +99,41 @@ fn depth_among(
     }
 }
 
-/// The least depth of the depth areas under a feature that lies at their bottom.
-fn depth_under(alloc: Global, cell: &Cell, feature: &Feature) -> Result<Option<i32>, AllocError>
-    ensures { IfOk result (λ depth. depth ≡ depth_under cell.now feature.now) }
+/// Whether the areas under a hazard are asked for its depth: it has none of its own, and lies at their bottom.
+fn asks_areas(feature: &Feature) -> bool
+    ensures { result ≡ asks_areas feature.now }
 {
-    if !lies_at_bottom(feature) {
-        return Ok(None);
-    }
-    let areas = depth_areas(alloc, cell)?;
-    depth_among(alloc, areas.as_slice(), cell, feature)
+    sounding(feature).is_none() && lies_at_bottom(feature)
+}
+
+/// The first depth of a hazard that there is: its own, that of the areas under it, or the one that its category or the
+/// water level make of it.
+fn first_depth(feature: &Feature, below: Option<i32>) -> i32
+    ensures { result ≡ first_depth feature.now below }
+{
+    sounding(feature)
+        .or(below)
+        .unwrap_or_else(|| assumed_depth(feature))
 }
 
 /// The depth over a hazard in centimetres: its own, that is VALSOU; or, where it is always under water and not less
 /// deep than the depths around it, the least of the depth areas under it; or else what its category or the water
 /// level make of it, which where nothing is known is that it dries 15 metres.
+///
+/// The depth areas of the cell are made only where they are asked.
 pub fn hazard_depth(alloc: Global, cell: &Cell, feature: &Feature) -> Result<i32, AllocError>
     ensures { IfOk result (λ depth. depth ≡ hazard_depth cell.now feature.now) }
 {
-    if let Some(depth) = sounding(feature) {
-        return Ok(depth);
+    if !asks_areas(feature) {
+        return Ok(first_depth(feature, None));
     }
-    match depth_under(alloc, cell, feature)? {
-        Some(depth) => Ok(depth),
-        None => Ok(assumed_depth(feature)),
-    }
+    let areas = depth_areas(alloc, cell)?;
+    let below = depth_among(alloc, areas.as_slice(), cell, feature)?;
+    Ok(first_depth(feature, below))
 }
 
-/// The same by the depth areas of the cell, which a drawing makes once.
+/// The same by the depth areas of the cell, which a drawing makes once. The shape of the feature is made only where the
+/// areas are asked.
 pub fn hazard_depth_among(
     alloc: Global,
     areas: &[DepthArea],
@@ -135,15 +143,11 @@ pub fn hazard_depth_among(
     requires { areas.now ≡ areas_of cell.now }
     ensures { IfOk result (λ depth. depth ≡ hazard_depth cell.now feature.now) }
 {
-    if let Some(depth) = sounding(feature) {
-        return Ok(depth);
+    if !asks_areas(feature) {
+        return Ok(first_depth(feature, None));
     }
-    if lies_at_bottom(feature)
-        && let Some(depth) = depth_among(alloc, areas, cell, feature)?
-    {
-        return Ok(depth);
-    }
-    Ok(assumed_depth(feature))
+    let below = depth_among(alloc, areas, cell, feature)?;
+    Ok(first_depth(feature, below))
 }
 
 /// The same of a feature whose shape was made already.
@@ -155,31 +159,9 @@ pub fn hazard_depth_at(
 ) -> Result<i32, AllocError>
     ensures { IfOk result (λ depth. depth ≡ hazard_depth_by areas.now (Some shape.now) feature.now) }
 {
-    if let Some(depth) = sounding(feature) {
-        return Ok(depth);
+    if !asks_areas(feature) {
+        return Ok(first_depth(feature, None));
     }
-    if lies_at_bottom(feature)
-        && let Some(depth) = least_among(alloc, areas, shape)?
-    {
-        return Ok(depth);
-    }
-    Ok(assumed_depth(feature))
-}
-
-/// Whether a safe area is under the feature: a depth area or a dredged area that is nowhere less deep than the safety
-/// contour, in centimetres, and in or on which a point of the feature's shape lies.
-pub fn lies_in_safe_area(
-    alloc: Global,
-    areas: &[DepthArea],
-    cell: &Cell,
-    safety_contour: i32,
-    feature: &Feature,
-) -> Result<bool, AllocError>
-    requires { areas.now ≡ areas_of cell.now }
-    ensures { IfOk result (λ safe. safe ≡ lies_in_safe_area cell.now safety_contour feature.now) }
-{
-    match feature_shape(alloc, cell, feature)? {
-        Some(shape) => is_safe_among(alloc, areas, safety_contour, &shape),
-        None => Ok(false),
-    }
+    let below = least_among(alloc, areas, shape)?;
+    Ok(first_depth(feature, below))
 }

@@ -91,7 +91,7 @@ pub(crate) fn least_among(
 
 /// Whether one of those areas in or on which a point of the shape lies is safe: its least depth is the safety contour,
 /// in centimetres, or more.
-pub(crate) fn is_safe_among(
+pub fn is_safe_among(
     alloc: Global,
     areas: &[DepthArea],
     safety_contour: i32,

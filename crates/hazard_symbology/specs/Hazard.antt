@@ -1,5 +1,5 @@
 -- The procedures for hazards.
-use Rattle.std.specs.Prelude.{int_le, Bool, ◌==◌, if◌then◌else◌, List, [], Option, Some, None}
+use Rattle.std.specs.Prelude.{int_le, Bool, ◌==◌, if◌then◌else◌, List, [], option_map, unwrap_or}
 use Rattle.std.specs.FinMap as finite
 use Rattle.chart_model.specs.Cell.{CellValue}
 use Rattle.chart_model.specs.Codes.{POINT, LINE, AREA}
@@ -23,11 +23,7 @@ hazard_items cell settings feature =
     else if feature.prim == AREA then area_items (is_danger cell settings feature) feature
     else []
 
--- the same of the feature that is there
-abbrev pub hazard_items_in : CellValue → Settings → Option Feature → List Item
-hazard_items_in cell settings None = []
-hazard_items_in cell settings (Some feature) = hazard_items cell settings feature
-
--- what is drawn of the feature with a name
+-- what is drawn of the feature with a name; nothing where there is none
 abbrev pub hazard_items_at : CellValue → Settings → Name → List Item
-hazard_items_at cell settings name = hazard_items_in cell settings (finite.get cell.features name)
+hazard_items_at cell settings name =
+    unwrap_or (option_map (hazard_items cell settings) (finite.get cell.features name)) []

@@ -21,8 +21,9 @@ depth_items depth safety_depth =
     whole (danger_symbol depth safety_depth) ∷ digit_items Whole depth safety_depth
 
 -- no deeper than the safety contour, over a safe area
-abbrev pub is_isolated : CellValue → ℤ → Feature → ℤ → Bool
-is_isolated cell contour feature depth = int_le depth contour && lies_in_safe_area cell contour feature
+abbrev pub is_isolated : CellValue → ℤ → Feature → Bool
+is_isolated cell contour feature =
+    int_le (hazard_depth cell feature) contour && lies_in_safe_area cell contour feature
 
 -- by its own depth, where that is known
 abbrev pub items_by : Settings → Feature → Option ℤ → List Item
@@ -32,6 +33,6 @@ items_by settings feature (Some depth) = depth_items depth settings.safety_depth
 -- an isolated danger has its mark alone
 abbrev pub point_items : CellValue → Settings → Feature → List Item
 point_items cell settings feature =
-    if is_isolated cell settings.safety_contour feature (hazard_depth cell feature)
+    if is_isolated cell settings.safety_contour feature
     then whole (codes "SY(ISODGR01)") ∷ []
     else items_by settings feature (sounding_of feature)

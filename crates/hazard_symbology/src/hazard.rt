@@ -2,7 +2,7 @@
 
 ghost use Rattle.std.specs.Prelude.{◌≡◌, ◌++◌, OnOk, IfOk};
 ghost use Rattle.depth_values.specs.Under.{areas_of};
-ghost use Rattle.hazard_symbology.specs.Hazard.{hazard_items, hazard_items_at};
+ghost use Rattle.hazard_symbology.specs.Hazard.{is_danger, hazard_items, hazard_items_at};
 
 use crate::edges::{push_area, push_line};
 use crate::point::push_point;
@@ -10,6 +10,21 @@ use chart_model::codes::{AREA, LINE, POINT};
 use chart_model::{Cell, Feature, ItemList, Name, Settings};
 use depth_values::{DepthArea, depth_areas, hazard_depth_among};
 use std::alloc::{AllocError, Global};
+
+/// Whether a hazard is a danger: its depth is at most the safety contour.
+fn is_danger(
+    alloc: Global,
+    areas: &[DepthArea],
+    cell: &Cell,
+    settings: &Settings,
+    feature: &Feature,
+) -> Result<bool, AllocError>
+    requires { areas.now ≡ areas_of cell.now }
+    ensures { IfOk result (λ danger. danger ≡ is_danger cell.now settings.now feature.now) }
+{
+    let depth = hazard_depth_among(alloc, areas, cell, feature)?;
+    Ok(depth <= settings.safety_contour)
+}
 
 /// Adds what is drawn of a hazard, by its geometry and its depth: a hazard no deeper than the safety contour is a
 /// danger. Nothing is drawn of what has no geometry. It needs the depth areas of the cell.
@@ -24,12 +39,16 @@ pub fn push_hazard(
     requires { areas.now ≡ areas_of cell.now }
     ensures { OnOk result (items.new ≡ items.old ++ hazard_items cell.now settings.now feature.now) }
 {
-    let depth = hazard_depth_among(alloc, areas, cell, feature)?;
-    let is_danger = depth <= settings.safety_contour;
     match feature.prim {
-        POINT => push_point(alloc, items, areas, cell, settings, feature, depth),
-        LINE => push_line(alloc, items, feature, is_danger),
-        AREA => push_area(alloc, items, feature, is_danger),
+        POINT => push_point(alloc, items, areas, cell, settings, feature),
+        LINE => {
+            let danger = is_danger(alloc, areas, cell, settings, feature)?;
+            push_line(alloc, items, feature, danger)
+        }
+        AREA => {
+            let danger = is_danger(alloc, areas, cell, settings, feature)?;
+            push_area(alloc, items, feature, danger)
+        }
         _ => Ok(()),
     }
 }

@@ -3,12 +3,13 @@
 ghost use Rattle.std.specs.Prelude.{◌≡◌, ◌++◌, OnOk, IfOk};
 ghost use Rattle.chart_model.specs.Record.{IsWithin};
 ghost use Rattle.depth_values.specs.Under.{areas_of};
-ghost use Rattle.depth_values.specs.Hazard.{hazard_depth, sounding_of};
+ghost use Rattle.depth_values.specs.Hazard.{sounding_of};
 ghost use Rattle.hazard_symbology.specs.Point.{danger_symbol, depth_items, is_isolated, items_by, point_items};
 
 use crate::symbol::symbol_of;
+use area_rings::feature_shape;
 use chart_model::{Cell, Feature, ItemList, Settings, Target};
-use depth_values::{DepthArea, lies_in_safe_area, push_digits, sounding};
+use depth_values::{DepthArea, hazard_depth_at, is_safe_among, push_digits, sounding};
 use draw_items::push_item;
 use std::alloc::{AllocError, Global};
 
@@ -42,22 +43,26 @@ fn push_depth(
     push_digits(alloc, items, Target::Whole, depth, safety_depth)
 }
 
-/// Whether a hazard of this depth is an isolated danger: no deeper than the safety contour, in water that is safe.
+/// Whether a hazard at a point is an isolated danger: no deeper than the safety contour, in water that is safe. Its
+/// shape is made once, for its depth and for the areas under it.
 fn is_isolated(
     alloc: Global,
     areas: &[DepthArea],
     cell: &Cell,
     safety_contour: i32,
     feature: &Feature,
-    depth: i32,
 ) -> Result<bool, AllocError>
     requires { areas.now ≡ areas_of cell.now }
-    ensures { IfOk result (λ isolated. isolated ≡ is_isolated cell.now safety_contour feature.now depth) }
+    ensures { IfOk result (λ isolated. isolated ≡ is_isolated cell.now safety_contour feature.now) }
 {
+    let Some(shape) = feature_shape(alloc, cell, feature)? else {
+        return Ok(false);
+    };
+    let depth = hazard_depth_at(alloc, areas, feature, &shape)?;
     if safety_contour < depth {
         return Ok(false);
     }
-    lies_in_safe_area(alloc, areas, cell, safety_contour, feature)
+    is_safe_among(alloc, areas, safety_contour, &shape)
 }
 
 /// Adds the symbol and the digits of a hazard's own depth, where that is known, or else the symbol of its class.
@@ -76,8 +81,8 @@ fn push_by_depth(
     }
 }
 
-/// Adds what is drawn of a hazard of this depth at a point: the mark of an isolated danger alone; or else the symbol
-/// and the digits of its own depth, where that is known; or else the symbol of its class.
+/// Adds what is drawn of a hazard at a point: the mark of an isolated danger alone; or else the symbol and the digits
+/// of its own depth, where that is known; or else the symbol of its class.
 pub fn push_point(
     alloc: Global,
     items: &mut ItemList,
@@ -85,13 +90,11 @@ pub fn push_point(
     cell: &Cell,
     settings: &Settings,
     feature: &Feature,
-    depth: i32,
 ) -> Result<(), AllocError>
-    requires areas { areas.now ≡ areas_of cell.now }
-    requires depth { depth ≡ hazard_depth cell.now feature.now }
+    requires { areas.now ≡ areas_of cell.now }
     ensures { OnOk result (items.new ≡ items.old ++ point_items cell.now settings.now feature.now) }
 {
-    if is_isolated(alloc, areas, cell, settings.safety_contour, feature, depth)? {
+    if is_isolated(alloc, areas, cell, settings.safety_contour, feature)? {
         return push_item(alloc, items, Target::Whole, b"SY(ISODGR01)");
     }
     push_by_depth(alloc, items, settings, feature)

@@ -5,7 +5,7 @@ use Rattle.std.specs.List.{filter_map, cons_option}
 use Rattle.std.specs.Str.Lines.{lines}
 use Rattle.chart_model.specs.Answers.{◌>>=◌, unless, FailsBy}
 use Rattle.text_lines.specs.Reading.{first_fault}
-use Rattle.text_lines.proofs.LinesSoFar.{ArePassed, none_passed, one_passed, fault_found, all_passed}
+use Rattle.text_lines.proofs.RestSoFar.{ArePassed, none_passed, one_passed, fault_found, all_passed}
 use Rattle.route_check.specs.declared.route.Route.{Route}
 use Rattle.route_check.specs.declared.draft.Draft.{Draft}
 use Rattle.route_check.specs.declared.fault.RouteFault.{RouteFault}

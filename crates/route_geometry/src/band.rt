@@ -6,31 +6,31 @@ ghost use Rattle.route_geometry.specs.Side.{IsOpposite};
 use crate::side::Side;
 use plane_geometry::Pt;
 
-/// The coordinates of two ends on an axis.
+/// A way on an axis, by the coordinates of its two ends.
 #[derive(Clone, Copy)]
-pub(crate) struct Span {
+pub(crate) struct Way {
     from: i32,
     to: i32,
 }
 
-impl Span {
+impl Way {
     /// The longitudes of two points.
-    pub(crate) fn of_x(from: Pt, to: Pt) -> Span
+    pub(crate) fn of_x(from: Pt, to: Pt) -> Way
         ensures from { result.from ≡ from.x }
         ensures to { result.to ≡ to.x }
     {
-        Span {
+        Way {
             from: from.x,
             to: to.x,
         }
     }
 
     /// The latitudes of two points.
-    pub(crate) fn of_y(from: Pt, to: Pt) -> Span
+    pub(crate) fn of_y(from: Pt, to: Pt) -> Way
         ensures from { result.from ≡ from.y }
         ensures to { result.to ≡ to.y }
     {
-        Span {
+        Way {
             from: from.y,
             to: to.y,
         }
@@ -57,12 +57,12 @@ impl Band {
     ghost use Rattle.std.specs.Prelude.{◌↔◌, ◌≤◌, ◌*◌};
     ghost use Rattle.route_geometry.specs.Leg.{apart};
     ghost use Rattle.route_geometry.specs.Side.{Place};
-    ghost use Rattle.route_geometry.specs.Band.{IsBetween};
+    ghost use Rattle.route_geometry.specs.Band.{IsInBand};
 
     /// The band in which a leg and a segment differ by at most `reach` on an axis.
-    pub(crate) fn new(reach: u32, leg: Span, segment: Span) -> Band
+    pub(crate) fn new(reach: u32, leg: Way, segment: Way) -> Band
         ensures { (p : Place) →
-            (apart p.d p.t p.s leg.from leg.to segment.from segment.to ≤ p.d * reach) ↔ IsBetween p result }
+            (apart p.d p.t p.s leg.from leg.to segment.from segment.to ≤ p.d * reach) ↔ IsInBand p result }
     {
         let reach = i64::from(reach);
         let apart = difference(segment.from, leg.from);

@@ -3,7 +3,7 @@
 ghost use Rattle.std.specs.Prelude.{◌↔◌, ◌*ℤ◌, ◌≤ℤ◌, ◌<ℤ◌, pos, IsTrue};
 ghost use Rattle.route_geometry.specs.Side.{BothMet};
 
-use crate::crossing::{both_reached, product};
+use crate::crossing::{both_reached, wide_product};
 use crate::side::Side;
 
 /// Whether some place is within both sides.
@@ -62,7 +62,7 @@ fn opposed_met(f: Side, g: Side) -> bool
     requires segment_falls { g.segment <ℤ pos 0 }
     ensures { IsTrue result ↔ BothMet f g }
 {
-    if product(f.leg, g.segment) <= product(f.segment, g.leg) {
+    if wide_product(f.leg, g.segment) <= wide_product(f.segment, g.leg) {
         leg_first_met(f, g)
     } else {
         leg_first_met(f.exchanged(), g.exchanged())

@@ -36,12 +36,12 @@ fn falling_reached(f: Slope, g: Slope) -> bool
     if f.start >= 0 {
         g.start >= 0
     } else {
-        product(f.start, g.step) <= product(f.step, g.start)
+        wide_product(f.start, g.step) <= wide_product(f.step, g.start)
     }
 }
 
 /// The product of two numbers, which always fits.
-pub(crate) fn product(a: i64, b: i64) -> i128
+pub(crate) fn wide_product(a: i64, b: i64) -> i128
     ensures { result ≡ a *ℤ b }
 {
     i128::from(a) * i128::from(b)

@@ -3,7 +3,7 @@
 ghost use Rattle.std.specs.Prelude.{◌↔◌, IsTrue};
 ghost use Rattle.route_geometry.specs.Leg.{MeetsSegment, MeetsPoint};
 
-use crate::band::{Band, Span};
+use crate::band::{Band, Way};
 use crate::meeting::bands_meet;
 use plane_geometry::Pt;
 
@@ -25,8 +25,8 @@ pub struct Leg {
 pub fn leg_meets_segment(leg: &Leg, c: Pt, e: Pt) -> bool
     ensures { IsTrue result ↔ MeetsSegment leg.now c e }
 {
-    let x = Band::new(leg.w, Span::of_x(leg.a, leg.b), Span::of_x(c, e));
-    let y = Band::new(leg.h, Span::of_y(leg.a, leg.b), Span::of_y(c, e));
+    let x = Band::new(leg.w, Way::of_x(leg.a, leg.b), Way::of_x(c, e));
+    let y = Band::new(leg.h, Way::of_y(leg.a, leg.b), Way::of_y(c, e));
     bands_meet(x, y)
 }
 

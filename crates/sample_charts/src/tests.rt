@@ -2,3 +2,4 @@ mod changes;
 mod differences;
 mod faults;
 mod shapes;
+mod words;

@@ -3,5 +3,6 @@ mod areas_under;
 mod digits;
 mod hazard_depths;
 mod hazards;
+mod many_areas;
 mod safety;
 mod squares;

@@ -30,11 +30,14 @@ fn octets_give_their_bytes_back(rt: HostRuntime) -> Result<(), Fail> {
     Ok(())
 }
 
+/// How many bytes octets have: as many as stand in place, one more, and a cell file's.
+static COUNTS: [usize; 9] = [0, 1, 21, 22, 23, 24, 60, 65_535, 65_536];
+
 #[test]
 fn octets_in_place_and_beyond(rt: HostRuntime) -> Result<(), Fail> {
-    let text = [7; 60];
-    for count in [0, 1, 21, 22, 23, 24, 60] {
-        let bytes = &text[..count];
+    for count in COUNTS {
+        let text = vec![in rt.alloc(); 7u8; count]?;
+        let bytes = text.as_slice();
         let mut octets = Octets::from_slice(rt.alloc(), bytes)?;
         assert_eq!(rt; octets.as_slice(), bytes, "{count}");
         let copy = octets.clone()?;
@@ -47,6 +50,8 @@ fn octets_in_place_and_beyond(rt: HostRuntime) -> Result<(), Fail> {
         octets.extend_from_slice(b"z")?;
         assert_eq!(rt; octets.as_slice(), b"z".as_slice(), "{count}");
         assert_eq!(rt; copy.as_slice(), bytes, "{count}");
+        let taken = copy.into_vec(rt.alloc())?;
+        assert_eq!(rt; taken.as_slice(), bytes, "{count}");
     }
     Ok(())
 }
@@ -181,6 +186,48 @@ fn pages_come_and_go(rt: HostRuntime) -> Result<(), Fail> {
         4,
     )?;
     assert!(rt; has(&names, &[(16, 4)]));
+    Ok(())
+}
+
+/// The name of a record that is alone on its page: its number is a multiple of 64.
+fn alone(place: u16) -> Name {
+    Name {
+        rcnm: 130,
+        rcid: place as u32 * 64,
+    }
+}
+
+/// Changes a map as one small update does: at this place a value is edited, or every fourth time taken out, and 600
+/// places on another is put.
+fn update(names: &mut NameMap<u8>, place: u16) -> Result<(), AllocError> {
+    if place % 4 == 0 {
+        names.remove(alone(place))?;
+    } else {
+        names.edit(alone(place), Exchange(2))?;
+    }
+    names.insert(alone(place.wrapping_add(600)), 3)
+}
+
+#[test]
+fn small_updates_of_records_alone_on_their_pages(rt: HostRuntime) -> Result<(), Fail> {
+    let mut names = NameMap::new(rt.alloc());
+    for place in 0..600 {
+        names.insert(alone(place), 1)?;
+    }
+    for place in 0..600 {
+        let before = names.clone()?;
+        update(&mut names, place)?;
+        assert_eq!(rt; before.get(alone(place)).copied(), Some(1), "{place}");
+    }
+    for place in 0..1_200 {
+        let wanted = match (place < 600, place % 4 == 0) {
+            (true, true) => None,
+            (true, false) => Some(2),
+            (false, _) => Some(3),
+        };
+        assert_eq!(rt; names.get(alone(place)).copied(), wanted, "{place}");
+    }
+    assert_eq!(rt; names.len(), 1_050);
     Ok(())
 }
 

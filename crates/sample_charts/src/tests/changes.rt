@@ -2,6 +2,7 @@
 
 mod identifiers;
 mod lists;
+mod settings;
 mod versions;
 
 use chart_model::{AttrMap, Cell, Feature, Name, Vector};

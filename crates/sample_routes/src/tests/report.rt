@@ -8,7 +8,7 @@ use chart_model::{
 };
 use plane_geometry::Pt;
 use route_check::{Danger, DangerList, PtList, Route, report, reports_are_exact};
-use sample_rows::{Row, add_rows, feature, name, vector};
+use sample_rows::{Row, Setting, add_rows, feature, name, vector};
 use std::alloc::{AllocError, Global};
 use std::test::Fail;
 
@@ -307,6 +307,7 @@ fn chart_under(alloc: Global, key: Key, rows: &[Row]) -> Result<Cell, Fail> {
         agency: 1,
         scale: 50_000,
     };
+    // For the proof alone: a key is known to be one where it is read.
     let _ = key.as_slice();
     let mut cell = Cell::new(alloc, header);
     add_rows(alloc, &mut cell, rows)?;
@@ -342,6 +343,7 @@ fn hold(
     requires cancelled { (chart ≡ None) ↔ (held.cancelled ≡ true) }
     requires chart { IfSome chart (IsChartOf key held) }
 {
+    // For the proof alone: a key is known to be one where it is read.
     let _ = key.as_slice();
     let files = one_file(alloc)?;
     state.cells.insert(key, Holding { held, files, chart })?;
@@ -444,5 +446,57 @@ fn rows_of_charts(rt: HostRuntime) -> Result<(), Fail> {
         whole(2, last, 3),
     ];
     assert!(rt; found.as_slice() == wanted.as_slice());
+    Ok(())
+}
+
+/// The number of the first of many depth areas.
+const FIRST: u32 = 1_001;
+
+/// The number of the last.
+const LAST: u32 = 2_000;
+
+/// The harbour with its rock, and 1,000 depth areas more in the place of the second square: of 20 metres all but one,
+/// which is of 1.5.
+fn many_areas(alloc: Global, key: Key, shoal: u32) -> Result<Cell, Fail> {
+    let mut chart = chart_under(alloc, key, &HARBOUR)?;
+    add_rows(alloc, &mut chart, &ROCKS)?;
+    for number in FIRST..=LAST {
+        let depth: &'static [Setting] = if number == shoal {
+            &[(87, b"1.5")]
+        } else {
+            &[(87, b"20")]
+        };
+        let row = Row {
+            grup: 1,
+            attrs: depth,
+            ..feature!(3, number, [(130, 6, 1)])
+        };
+        add_rows(alloc, &mut chart, &[row])?;
+    }
+    Ok(chart)
+}
+
+/// How many rows the report at the rock has, of a safety contour.
+fn count_rows(alloc: Global, state: &State, contour: i32) -> Result<usize, Fail> {
+    let route = route_over(alloc, [0, 0], &[[150, 165], [150, 165]])?;
+    let found = report(alloc, state, &settings(contour, 0), &route)?;
+    Ok(found.as_slice().len())
+}
+
+// The rock is as deep as the shoal at its place, which is the first area, one among the others or the last: up to that
+// depth nothing is reported, at that depth the rock, and from the next on the shoal with it. From 20.01 metres on the
+// second square and all 1,000 areas are reported too.
+#[test]
+fn a_hazard_over_many_areas(rt: HostRuntime) -> Result<(), Fail> {
+    let key = Key::from_bytes(b"AA5TEST1").ok_or("a key")?;
+    for shoal in [FIRST, 1_500, LAST] {
+        let chart = many_areas(rt.alloc(), key, shoal)?;
+        let mut state = nothing_held(rt.alloc());
+        hold_chart(rt.alloc(), &mut state, chart)?;
+        for (contour, count) in [(149, 0), (150, 1), (151, 2), (2_000, 3), (2_001, 1_002)] {
+            let found = count_rows(rt.alloc(), &state, contour)?;
+            assert_eq!(rt; found, count, "{shoal} {contour}");
+        }
+    }
     Ok(())
 }

@@ -18,8 +18,8 @@ returns-else-f-ge0 c =
     let f_step : SFits w64 c.args.f.step = search rules in
     let g_start : SFits w64 c.args.g.start = search rules in
     let g_step : SFits w64 c.args.g.step = search rules in
-    let left = simp to_z-of_z at c.product.ensures in
-    let right = simp to_z-of_z at c.product-else-f-ge0.ensures in (
+    let left = simp to_z-of_z at c.wide_product.ensures in
+    let right = simp to_z-of_z at c.wide_product-else-f-ge0.ensures in (
       λ h. reached_at_crossing c.args.f c.args.g (omega (arith, ints)) c.requires.reached (omega (arith, ints, h, left, right)),
-      λ both. let before = before_crossing c.args.f c.args.g c.requires.rises c.requires.falls both in tested (to_z w128 (of_z w128 c.product.result)) (to_z w128 (of_z w128 c.product-else-f-ge0.result)) (omega (arith, ints, before, left, right)),
+      λ both. let before = before_crossing c.args.f c.args.g c.requires.rises c.requires.falls both in tested (to_z w128 (of_z w128 c.wide_product.result)) (to_z w128 (of_z w128 c.wide_product-else-f-ge0.result)) (omega (arith, ints, before, left, right)),
     )
