@@ -13,14 +13,13 @@ use Rattle.route_check.specs.declared.fault.RouteFault.TheVariants as of_route
 use Rattle.route_check.specs.declared.route.Route.{Route}
 use Rattle.script_reader.specs.declared.reply.Reply.{Reply}
 use Rattle.session_core.specs.declared.fault.EventFault.{EventFault}
-use Rattle.session_core.specs.declared.fault.EventFault.TheVariants.{Refused, DeskFault, NoMemory}
-use Rattle.session_core.specs.declared.refusal.Refusal.{Refusal}
+use Rattle.session_core.specs.declared.refusal.LineRefusal.{LineRefusal}
 use Rattle.session_core.specs.Answers.{Gives}
 use Rattle.session_core.specs.Fetch.{file_in}
 use Rattle.session_core.specs.Route.{ROUTE_LIMIT, checked, fault_of_route, or_refused, reply_along, route_of}
-use Rattle.session_core.proofs.Fetching.{passed-gives}
+use Rattle.session_core.proofs.Fetching.{next-stopped, passed-gives}
 
-abbrev reply_by : StateValue → Settings → Result Route RouteFault → Result Reply Refusal
+abbrev reply_by : StateValue → Settings → Result Route RouteFault → Result Reply LineRefusal
 reply_by state settings route = or_refused route >>= λ read. Ok (reply_along read (report_of state settings read))
 
 unread-fails : (state : StateValue) (settings : Settings) (fault : RouteFault) (wanted : Result Route RouteFault) → Answers (Err fault) wanted
@@ -49,23 +48,17 @@ by_file : (settings : Settings) (state : StateValue) (name : List ℕ) (o : Opti
 unfolding route_of
 by_file settings state name o = refl
 
-stopped : (settings : Settings) (state : StateValue) (fault : EventFault) (file : Result (List ℕ) Refusal) → Gives (Err fault) file
-    → Gives {A = Reply} (Err fault) (file >>= checked settings state)
-stopped settings state (Refused refusal) file h = ap (λ (f : Result (List ℕ) Refusal). f >>= checked settings state) h
-stopped settings state DeskFault file h = tt
-stopped settings state NoMemory file h = tt
-
 -- a file that isn't there
 pub unfetched : (settings : Settings) (state : StateValue) (name : List ℕ) (o : Option Fetched) (r : Result Reply EventFault) (fault : EventFault)
     → IsErrAnd r (λ passed. passed ≡ fault) → Gives (Err fault) (file_in ROUTE_LIMIT name o) → Gives r (route_of settings state name o)
 unfetched settings state name o r fault passed h =
     subst (Gives r) (sym (by_file settings state name o))
-    (passed-gives r fault (file_in ROUTE_LIMIT name o >>= checked settings state) passed (stopped settings state fault (file_in ROUTE_LIMIT name o) h))
+    (next-stopped (checked settings state) (file_in ROUTE_LIMIT name o) r fault passed h)
 
 -- one that is
 pub fetched-checked : (settings : Settings) (state : StateValue) (name : List ℕ) (o : Option Fetched) (bytes shown : List ℕ) (r : Result Reply EventFault)
     → file_in ROUTE_LIMIT name o ≡ Ok bytes → shown ≡ bytes → Gives r (checked settings state shown) → Gives r (route_of settings state name o)
 fetched-checked settings state name o bytes shown r found same h =
     subst (Gives r)
-    (ap (checked settings state) same ∙ sym (ap (λ (f : Result (List ℕ) Refusal). f >>= checked settings state) found) ∙ sym (by_file settings state name o))
+    (ap (checked settings state) same ∙ sym (ap (λ (f : Result (List ℕ) LineRefusal). f >>= checked settings state) found) ∙ sym (by_file settings state name o))
     h

@@ -16,24 +16,39 @@ use Rattle.chart_store.specs.Loaded.{FILE_LIMIT}
 use Rattle.chart_store.specs.Refusal.{refusal_of_read}
 use Rattle.chart_store.specs.declared.refusal.Refusal as of_store
 use Rattle.chart_store.specs.declared.refusal.Refusal.TheVariants.{NoGeneral}
+use Rattle.script_reader.specs.declared.reply.Reply.{Reply}
 use Rattle.session_core.specs.declared.fault.EventFault.{EventFault}
 use Rattle.session_core.specs.declared.fault.EventFault.TheVariants.{Refused, DeskFault, NoMemory}
-use Rattle.session_core.specs.declared.general.General.{General}
-use Rattle.session_core.specs.declared.refusal.Refusal.{Refusal}
-use Rattle.session_core.specs.declared.refusal.Refusal.TheVariants.{ShelfFault, Store}
+use Rattle.update_sequence.specs.declared.info.FileInfo.{FileInfo}
+use Rattle.session_core.specs.declared.refusal.LineRefusal.{LineRefusal}
+use Rattle.session_core.specs.declared.refusal.LineRefusal.TheVariants.{ShelfFault, Store}
 use Rattle.session_core.specs.Answers.{Gives, fault_of_read, fault_of_shelf, refused_or_none}
 use Rattle.session_core.specs.Fetch.{AreFetched, Fetches, Files, fetches_of, file_in}
-use Rattle.session_core.specs.General.{general_in}
-use Rattle.session_core.specs.Info.{info_of}
+use Rattle.update_sequence.specs.Info.{info_in}
+use Rattle.session_core.specs.Info.{info_of, info_reply}
 
 -- ---- faults that are passed up
 
 pub passed-is : {A : Type 0} (r : Result A EventFault) (fault : EventFault) → IsErrAnd r (λ passed. passed ≡ fault) → r ≡ Err fault
 passed-is r fault passed = let p = err_from_is_err_and r passed in p.1 ∙ ap Err p.2
 
-pub passed-gives : {A : Type 0} (r : Result A EventFault) (fault : EventFault) (wanted : Result A Refusal) → IsErrAnd r (λ passed. passed ≡ fault)
+pub passed-gives : {A : Type 0} (r : Result A EventFault) (fault : EventFault) (wanted : Result A LineRefusal) → IsErrAnd r (λ passed. passed ≡ fault)
     → Gives (Err fault) wanted → Gives r wanted
 passed-gives {A = A} r fault wanted passed h = subst (λ (s : Result A EventFault). Gives s wanted) (sym (passed-is r fault passed)) h
+
+-- what comes next of a value that isn't there: its fault is passed up
+stopped : {A B : Type 0} (next : A → Result B LineRefusal) (fault : EventFault) (wanted : Result A LineRefusal) → Gives {A = A} (Err fault) wanted
+    → Gives {A = B} (Err fault) (wanted >>= next)
+stopped {A = A} next (Refused refusal) wanted h = ap (λ (w : Result A LineRefusal). w >>= next) h
+stopped {A = A} next DeskFault wanted h = tt
+stopped {A = A} next NoMemory wanted h = tt
+
+pub next-stopped : {A B : Type 0} (next : A → Result B LineRefusal) (wanted : Result A LineRefusal) (r : Result B EventFault) (fault : EventFault)
+    → IsErrAnd r (λ passed. passed ≡ fault) → Gives {A = A} (Err fault) wanted → Gives {A = B} r (wanted >>= next)
+next-stopped next wanted r fault passed h = passed-gives r fault (wanted >>= next) passed (stopped next fault wanted h)
+
+pub next-done : {A B : Type 0} (next : A → Result B LineRefusal) (wanted : Result A LineRefusal) (x : A) → wanted ≡ Ok x → (wanted >>= next) ≡ next x
+next-done {A = A} next wanted x h = ap (λ (w : Result A LineRefusal). w >>= next) h
 
 -- ---- fetches
 
@@ -76,56 +91,51 @@ served-found false files before now limit name shown fetched answer same is h = 
 
 -- ---- what a file says of itself
 
-abbrev by_file : Result (List ℕ) Refusal → Result General Refusal
-by_file file = file >>= λ bytes. or_fault_as Store (or_refused refusal_of_read (general_in bytes))
+abbrev by_read : Result FileInfo ReadFault → Result Reply LineRefusal
+by_read read = or_fault_as Store (or_refused refusal_of_read read) >>= λ info. Ok (info_reply info)
 
-info-by_file : (name : List ℕ) (o : Option Fetched) → info_of name o ≡ by_file (file_in FILE_LIMIT name o)
+abbrev by_bytes : List ℕ → Result Reply LineRefusal
+by_bytes bytes = by_read (info_in bytes)
+
+info-by_file : (name : List ℕ) (o : Option Fetched) → info_of name o ≡ (file_in FILE_LIMIT name o >>= by_bytes)
 unfolding info_of
 info-by_file name o = refl
 
-stopped : (fault : EventFault) (file : Result (List ℕ) Refusal) → Gives (Err fault) file → Gives (Err fault) (by_file file)
-stopped (Refused refusal) file h = ap by_file h
-stopped DeskFault file h = tt
-stopped NoMemory file h = tt
-
-pub info-stopped : (name : List ℕ) (o : Option Fetched) (r : Result General EventFault) (fault : EventFault) → IsErrAnd r (λ passed. passed ≡ fault)
+pub info-stopped : (name : List ℕ) (o : Option Fetched) (r : Result Reply EventFault) (fault : EventFault) → IsErrAnd r (λ passed. passed ≡ fault)
     → Gives (Err fault) (file_in FILE_LIMIT name o) → Gives r (info_of name o)
 info-stopped name o r fault passed h =
-    subst (Gives r) (sym (info-by_file name o)) (passed-gives r fault (by_file (file_in FILE_LIMIT name o)) passed (stopped fault (file_in FILE_LIMIT name o) h))
+    subst (Gives r) (sym (info-by_file name o)) (next-stopped by_bytes (file_in FILE_LIMIT name o) r fault passed h)
 
 info-read_as : (name : List ℕ) (o : Option Fetched) (bytes shown : List ℕ) → file_in FILE_LIMIT name o ≡ Ok bytes → shown ≡ bytes
-    → info_of name o ≡ or_fault_as Store (or_refused refusal_of_read (general_in shown))
+    → info_of name o ≡ by_bytes shown
 info-read_as name o bytes shown found same =
-    info-by_file name o ∙ ap by_file found
-    ∙ ap (λ (l : List ℕ). or_fault_as Store (or_refused refusal_of_read (general_in l))) (sym same)
+    info-by_file name o ∙ next-done by_bytes (file_in FILE_LIMIT name o) bytes found ∙ ap by_bytes (sym same)
 
 -- a fault below is refused as its row of the table
 refused-row : (row : Option of_store.Refusal) (fault : ReadFault) → refusal_of_read fault ≡ row
-    → Gives {A = General} (Err (refused_or_none row)) (Err (Store (unwrap_or (refusal_of_read fault) NoGeneral)))
+    → Gives {A = Reply} (Err (refused_or_none row)) (Err (Store (unwrap_or (refusal_of_read fault) NoGeneral)))
 refused-row (Some refusal) fault e = ap (λ (o : Option of_store.Refusal). Err (Store (unwrap_or o NoGeneral))) e
 refused-row None fault e = tt
 
-read-row : (fault : ReadFault) (wanted : Result General ReadFault) → wanted ≡ Err fault
-    → Gives {A = General} (Err (fault_of_read fault)) (or_fault_as Store (or_refused refusal_of_read wanted))
+read-row : (fault : ReadFault) (wanted : Result FileInfo ReadFault) → wanted ≡ Err fault
+    → Gives {A = Reply} (Err (fault_of_read fault)) (by_read wanted)
 read-row fault wanted h =
-    subst (λ (w : Result General ReadFault). Gives {A = General} (Err (fault_of_read fault)) (or_fault_as Store (or_refused refusal_of_read w)))
+    subst (λ (w : Result FileInfo ReadFault). Gives {A = Reply} (Err (fault_of_read fault)) (by_read w))
     (sym h) (refused-row (refusal_of_read fault) fault refl)
 
-read-fails : (fault : ReadFault) (wanted : Result General ReadFault) → GivesRead (Err fault) wanted
-    → Gives {A = General} (Err (fault_of_read fault)) (or_fault_as Store (or_refused refusal_of_read wanted))
+read-fails : (fault : ReadFault) (wanted : Result FileInfo ReadFault) → GivesRead (Err fault) wanted
+    → Gives {A = Reply} (Err (fault_of_read fault)) (by_read wanted)
 read-fails (of_read.File fault) wanted h = read-row (of_read.File fault) wanted h
 read-fails (of_read.Dataset fault) wanted h = read-row (of_read.Dataset fault) wanted h
 read-fails of_read.NoMemory wanted h = tt
 
-pub info-refused : (name : List ℕ) (o : Option Fetched) (bytes shown : List ℕ) (r : Result General EventFault) (fault : ReadFault)
-    → IsErrAnd r (λ passed. passed ≡ fault_of_read fault) → file_in FILE_LIMIT name o ≡ Ok bytes → shown ≡ bytes → GivesRead (Err fault) (general_in shown)
+pub info-refused : (name : List ℕ) (o : Option Fetched) (bytes shown : List ℕ) (r : Result Reply EventFault) (fault : ReadFault)
+    → IsErrAnd r (λ passed. passed ≡ fault_of_read fault) → file_in FILE_LIMIT name o ≡ Ok bytes → shown ≡ bytes → GivesRead (Err fault) (info_in shown)
     → Gives r (info_of name o)
 info-refused name o bytes shown r fault passed found same h =
     subst (Gives r) (sym (info-read_as name o bytes shown found same))
-    (passed-gives r (fault_of_read fault) (or_fault_as Store (or_refused refusal_of_read (general_in shown))) passed (read-fails fault (general_in shown) h))
+    (passed-gives r (fault_of_read fault) (by_bytes shown) passed (read-fails fault (info_in shown) h))
 
-pub info-done : (name : List ℕ) (o : Option Fetched) (bytes shown : List ℕ) (general : General) → file_in FILE_LIMIT name o ≡ Ok bytes → shown ≡ bytes
-    → general_in shown ≡ Ok general → info_of name o ≡ Ok general
-info-done name o bytes shown general found same h =
-    info-read_as name o bytes shown found same
-    ∙ ap (λ (r : Result General ReadFault). or_fault_as Store (or_refused refusal_of_read r)) h
+pub info-done : (name : List ℕ) (o : Option Fetched) (bytes shown : List ℕ) (info : FileInfo) → file_in FILE_LIMIT name o ≡ Ok bytes → shown ≡ bytes
+    → info_in shown ≡ Ok info → info_of name o ≡ Ok (info_reply info)
+info-done name o bytes shown info found same h = info-read_as name o bytes shown found same ∙ ap by_read h

@@ -1,19 +1,17 @@
 -- Files that are written, and the number of their records.
-use Rattle.std.proofs.Common.{◌≡◌, ℕ, zero, suc, ◌+◌, ◌≤◌, ◌%◌, Bool, true, false, cond, add-one, [], ◌∷◌, length, Result, Ok, refl, sym, ◌∙◌, ap, subst, arith, length-append}
-use Rattle.std.specs.Prelude.{filter, is_some}
+use Rattle.std.proofs.Common.{◌≡◌, ℕ, zero, suc, ◌+◌, ◌≤◌, Bool, true, false, cond, length, Result, Ok, refl, sym, ◌∙◌, ap, subst, arith, length-append}
+use Rattle.std.specs.Prelude.{is_some}
 use Rattle.std.specs.FinMap as finite
-use Rattle.std.proofs.lemmas.Bool.{eq-eqb, eqb-true, false_from_ne_true}
 use Rattle.std.proofs.lemmas.List.{length-map}
-use Rattle.std.proofs.lemmas.List.Elements.{filter-append}
 use Rattle.chart_model.specs.Cell.{CellValue}
 use Rattle.chart_model.specs.declared.name.Name.{Name}
 use Rattle.chart_model.specs.declared.cell.Vector.{Vector}
 use Rattle.chart_model.specs.Names.{name_cmp}
 use Rattle.chart_model.proofs.Names.{name_cmp-total}
-use Rattle.cell_bytes.specs.Generator.{areas_to, area_name, modified_areas, edge_name, edges_to, is_modified, made_area, made_cell, made_edge, made_node, node_name, nodes_to, numbers_to}
+use Rattle.cell_bytes.specs.Generator.{areas_to, area_name, edge_name, edges_to, made_area, made_cell, made_edge, made_node, node_name, nodes_to}
 use Rattle.cell_bytes.specs.Written.{data_records, feature_record, feature_records, vector_record, vector_records}
 use Rattle.session_core.specs.declared.fault.EventFault.{EventFault}
-use Rattle.session_core.specs.declared.written.MadeFile.{MadeFile}
+use Rattle.session_core.specs.declared.changes.written.MadeFile.{MadeFile}
 use Rattle.session_core.specs.Answers.{Gives}
 use Rattle.session_core.specs.Written.{base_of, made_file, update_of}
 
@@ -64,39 +62,6 @@ few-vectors-made count cell is most =
 pub few-features-made : (count : ℕ) (cell : CellValue) → cell ≡ made_cell count → count ≤ 20000 → finite.len cell.features ≤ 20000
 unfolding made_cell
 few-features-made count cell is most = omega (arith, ap (λ (c : CellValue). finite.len c.features) is, few-areas count, most)
-
--- ---- the areas that an update modifies
-
-abbrev pub modified_to : ℕ → ℕ → ℕ
-modified_to update count = length (modified_areas update count)
-
-pub none_modified : (update : ℕ) → modified_to update 0 ≡ 0
-unfolding modified_areas numbers_to
-none_modified update = refl
-
-modified_next : (update count : ℕ) → modified_to update (suc count) ≡ modified_to update count + length (filter (is_modified update) (suc count ∷ []))
-unfolding modified_areas numbers_to
-modified_next update count =
-    ap length (filter-append (is_modified update) (numbers_to count) (suc count ∷ []))
-    ∙ length-append (filter (is_modified update) (numbers_to count)) (filter (is_modified update) (suc count ∷ []))
-
-one_kept : (p : ℕ → Bool) (x : ℕ) → p x ≡ true → length (filter p (x ∷ [])) ≡ 1
-one_kept p x h = rw h refl
-
-none_kept : (p : ℕ → Bool) (x : ℕ) → p x ≡ false → length (filter p (x ∷ [])) ≡ 0
-none_kept p x h = rw h refl
-
--- the next area is modified, or not
-pub modified_in : (update before : ℕ) → (before + 1) % 30 ≡ update % 30 → modified_to update (before + 1) ≡ modified_to update before + 1
-modified_in update before h =
-    ap (modified_to update) (add-one before) ∙ modified_next update before
-    ∙ ap (λ (n : ℕ). modified_to update before + n) (one_kept (is_modified update) (suc before) (ap (is_modified update) (sym (add-one before)) ∙ eq-eqb ((before + 1) % 30) (update % 30) h))
-
-pub modified_out : (update before : ℕ) → ((before + 1) % 30 ≡ update % 30 → ⊥) → modified_to update (before + 1) ≡ modified_to update before
-modified_out update before h =
-    let other = false_from_ne_true (is_modified update (before + 1)) (λ is. h (eqb-true ((before + 1) % 30) (update % 30) is)) in
-    let none = none_kept (is_modified update) (suc before) (ap (is_modified update) (sym (add-one before)) ∙ other) in
-    omega (arith, ap (modified_to update) (add-one before), modified_next update before, none)
 
 -- ---- what is made
 

@@ -8,19 +8,19 @@ use Rattle.chart_store.specs.Refusal.{refusal_of_read}
 use Rattle.chart_store.specs.declared.submit_fault.SubmitFault.{SubmitFault}
 use Rattle.chart_store.specs.declared.submit_fault.SubmitFault.TheVariants as of_submit
 use Rattle.chart_store.specs.declared.refusal.Refusal as of_store
-use Rattle.session_core.specs.declared.refusal.Refusal.{Refusal}
-use Rattle.session_core.specs.declared.refusal.Refusal.TheVariants.{ShelfFault, Store}
+use Rattle.session_core.specs.declared.refusal.LineRefusal.{LineRefusal}
+use Rattle.session_core.specs.declared.refusal.LineRefusal.TheVariants.{ShelfFault, Store}
 use Rattle.session_core.specs.declared.fault.EventFault.{EventFault}
 use Rattle.session_core.specs.declared.fault.EventFault.TheVariants.{Refused, DeskFault, NoMemory}
 
 -- the refusal that a fault tells
-abbrev pub told : EventFault → Option Refusal
+abbrev pub told : EventFault → Option LineRefusal
 told (Refused refusal) = Some refusal
 told DeskFault = None
 told NoMemory = None
 
 -- the answer is what was to be answered, unless memory ran out or the desk failed
-abbrev pub Gives : {A : Type 0} → Result A EventFault → Result A Refusal → Type 0
+abbrev pub Gives : {A : Type 0} → Result A EventFault → Result A LineRefusal → Type 0
 Gives answer wanted = answers.Gives told answer wanted
 
 -- the faults below, as those of an event

@@ -5,8 +5,8 @@ use Rattle.chart_ports.specs.Fetched.{fetched_of}
 use Rattle.chart_ports.specs.declared.shelf.Fetched.{Fetched}
 use Rattle.chart_ports.specs.declared.shelf.Fetched.TheVariants.{Bytes, Absent, Long}
 use Rattle.chart_store.specs.declared.refusal.Refusal.TheVariants.{FileLong}
-use Rattle.session_core.specs.declared.refusal.Refusal.{Refusal}
-use Rattle.session_core.specs.declared.refusal.Refusal.TheVariants.{NoFile, ShelfFault, Store}
+use Rattle.session_core.specs.declared.refusal.LineRefusal.{LineRefusal}
+use Rattle.session_core.specs.declared.refusal.LineRefusal.TheVariants.{NoFile, ShelfFault, Store}
 
 -- the bytes under each name
 abbrev pub Files : Type 0
@@ -27,7 +27,7 @@ pub record AreFetched (tells : Bool) (files : Files) (before now : ℕ) (fetches
   pub cause : (limit : ℕ) (name : List ℕ) → fetches limit name ≡ None → Rose before now
 
 -- the bytes of the file of a name, which may have at most so many, or why a line that asks for it is refused
-abbrev pub file_in : ℕ → List ℕ → Option Fetched → Result (List ℕ) Refusal
+abbrev pub file_in : ℕ → List ℕ → Option Fetched → Result (List ℕ) LineRefusal
 file_in limit name None = Err ShelfFault
 file_in limit name (Some (Bytes bytes)) = Ok bytes
 file_in limit name (Some Absent) = Err (NoFile name)

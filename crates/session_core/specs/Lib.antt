@@ -1,5 +1,5 @@
 pub mod Fetch
-pub mod General
+pub mod Held
 pub mod Info
 pub mod Listing
 pub mod Values
@@ -9,5 +9,6 @@ pub mod Model
 pub mod Draw
 pub mod Route
 pub mod Written
+pub mod Order
 pub mod Turn
 pub mod Session

@@ -6,6 +6,8 @@ use Rattle.chart_model.specs.Cell.{CellValue}
 use Rattle.chart_model.specs.declared.state.Holding.{Holding}
 use Rattle.chart_store.specs.Loaded.{HoldingsByKey}
 use Rattle.script_reader.specs.Reply.{number, line_of}
+use Rattle.script_reader.specs.declared.reply.Reply.{Reply}
+use Rattle.script_reader.specs.declared.reply.Reply.TheVariants.{Cells}
 
 -- the number of vector and feature records
 abbrev pub records_of : CellValue → ℕ
@@ -24,3 +26,7 @@ cell_line key here = line_of (codes "cell" ∷ key ∷ number here.held.edition 
 -- the lines, in the order of the keys
 abbrev pub listing : HoldingsByKey → List ℕ
 listing cells = flat_map (λ (entry : List ℕ × Holding). cell_line entry.0 entry.1) (map.entries cells)
+
+-- their number and their lines, as a reply
+abbrev pub cells_reply : HoldingsByKey → Reply
+cells_reply cells = Cells (map.len cells) (listing cells)

@@ -6,9 +6,9 @@ use Rattle.chart_store.specs.declared.refusal.Refusal.TheVariants as refuses
 use Rattle.script_reader.specs.Reply.{number}
 use Rattle.script_reader.specs.declared.reply.Reply.{Reply}
 use Rattle.script_reader.specs.declared.reply.Reply.TheVariants.{Refused}
-use Rattle.session_core.specs.declared.refusal.Refusal.{Refusal}
-use Rattle.session_core.specs.declared.refusal.Refusal.TheVariants.{RecordLong, CellLong, RouteLine, RouteFew}
-use Rattle.session_core.specs.declared.refusal.Refusal.TheVariants.{RouteMany, BadLine, NoFile, ShelfFault, Store}
+use Rattle.session_core.specs.declared.refusal.LineRefusal.{LineRefusal}
+use Rattle.session_core.specs.declared.refusal.LineRefusal.TheVariants.{RecordLong, CellLong, RouteLine, RouteFew}
+use Rattle.session_core.specs.declared.refusal.LineRefusal.TheVariants.{RouteMany, BadLine, NoFile, ShelfFault, Store}
 
 -- numbers as they are printed
 abbrev pub numbers : List ℕ → List (List ℕ)
@@ -89,7 +89,7 @@ store_values (refuses.NoCell key) = key ∷ []
 store_values (refuses.NoUpdate key update) = key ∷ number update ∷ []
 
 -- the number that says why a line is refused
-abbrev pub code_of : Refusal → ℕ
+abbrev pub code_of : LineRefusal → ℕ
 code_of (RecordLong name bytes) = 64
 code_of (CellLong bytes) = 65
 code_of (RouteLine line) = 66
@@ -101,7 +101,7 @@ code_of ShelfFault = 72
 code_of (Store refusal) = store_code refusal
 
 -- what it names
-abbrev pub values_of : Refusal → List (List ℕ)
+abbrev pub values_of : LineRefusal → List (List ℕ)
 values_of (RecordLong name bytes) = numbers (name.rcnm ∷ name.rcid ∷ bytes ∷ [])
 values_of (CellLong bytes) = numbers (bytes ∷ [])
 values_of (RouteLine line) = numbers (line ∷ [])
@@ -113,5 +113,5 @@ values_of ShelfFault = []
 values_of (Store refusal) = store_values refusal
 
 -- what is replied: the code, and what it names parted by single spaces
-abbrev pub reply_of : Refusal → Reply
+abbrev pub reply_of : LineRefusal → Reply
 reply_of refusal = Refused (code_of refusal) (join_with_byte 32 (values_of refusal))

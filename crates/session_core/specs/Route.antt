@@ -17,8 +17,8 @@ use Rattle.script_reader.specs.declared.reply.Reply.{Reply}
 use Rattle.script_reader.specs.declared.reply.Reply.TheVariants as replies
 use Rattle.session_core.specs.declared.fault.EventFault.{EventFault}
 use Rattle.session_core.specs.declared.fault.EventFault.TheVariants.{Refused, NoMemory}
-use Rattle.session_core.specs.declared.refusal.Refusal.{Refusal}
-use Rattle.session_core.specs.declared.refusal.Refusal.TheVariants.{RouteLine, RouteFew, RouteMany}
+use Rattle.session_core.specs.declared.refusal.LineRefusal.{LineRefusal}
+use Rattle.session_core.specs.declared.refusal.LineRefusal.TheVariants.{RouteLine, RouteFew, RouteMany}
 use Rattle.session_core.specs.Fetch.{file_in}
 
 -- the most bytes of a route's file
@@ -28,7 +28,7 @@ ROUTE_LIMIT = 65536
 -- ---- faults
 
 -- why a route is refused; want of memory is no fault of it
-abbrev pub refusal_of_route : RouteFault → Option Refusal
+abbrev pub refusal_of_route : RouteFault → Option LineRefusal
 refusal_of_route (of_route.BadLine line) = Some (RouteLine line)
 refusal_of_route (of_route.Few points) = Some (RouteFew points)
 refusal_of_route (of_route.Many points) = Some (RouteMany points)
@@ -43,7 +43,7 @@ fault_of_route of_route.NoMemory = NoMemory
 
 -- The value, or what its fault is refused as. No definition answers want of memory, so what stands in its place is
 -- never seen.
-abbrev pub or_refused : {A : Type 0} → Result A RouteFault → Result A Refusal
+abbrev pub or_refused : {A : Type 0} → Result A RouteFault → Result A LineRefusal
 or_refused result = or_fault_as (λ fault. unwrap_or (refusal_of_route fault) (RouteFew 0)) result
 
 -- ---- replies
@@ -61,10 +61,10 @@ abbrev pub reply_along : Route → List Danger → Reply
 reply_along route dangers = replies.Route (length (legs_of route)) (length dangers) (danger_lines dangers)
 
 -- the dangers along the route that the bytes of a file are
-abbrev pub checked : Settings → StateValue → List ℕ → Result Reply Refusal
+abbrev pub checked : Settings → StateValue → List ℕ → Result Reply LineRefusal
 checked settings state bytes =
     or_refused (route_in bytes) >>= λ route. Ok (reply_along route (report_of state settings route))
 
 -- the same of the file of a name
-unfoldable pub route_of : Settings → StateValue → List ℕ → Option Fetched → Result Reply Refusal
+unfoldable pub route_of : Settings → StateValue → List ℕ → Option Fetched → Result Reply LineRefusal
 route_of settings state name fetched = file_in ROUTE_LIMIT name fetched >>= checked settings state

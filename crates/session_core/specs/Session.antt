@@ -2,10 +2,7 @@
 use Rattle.std.specs.Prelude.{◌≡◌, ℕ, List, Result, Ok, Err}
 use Rattle.chart_ports.specs.declared.images.Images.{Images}
 use Rattle.chart_model.specs.State.{StateValue}
-use Rattle.chart_store.specs.declared.accepted.Accepted.{Accepted}
 use Rattle.chart_store.specs.declared.store.Store.{Store}
-use Rattle.chart_store.specs.Loaded.{Outcome}
-use Rattle.chart_store.specs.Submitted.{accepted_with}
 use Rattle.chart_store.specs.Store.{StandsForEither, room_of, state_of}
 use Rattle.script_reader.specs.declared.event.Event.{Event}
 use Rattle.script_reader.specs.declared.reply.Reply.{Reply}
@@ -44,11 +41,6 @@ GivesEvent (Ok reply) before now turn = (turn.reply ≡ reply) × (turn.model �
 GivesEvent (Err (Refused refusal)) before now turn = (turn ≡ refused before refusal) × (now ≡ before)
 GivesEvent (Err DeskFault) before now turn = now.state ≡ before.state
 GivesEvent (Err NoMemory) before now turn = now.state ≡ before.state
-
--- the reply to what was accepted, or the fault
-abbrev pub reply_by : StateValue → (Outcome → Reply) → Result Accepted EventFault → Result Reply EventFault
-reply_by state reply (Ok done) = Ok (reply (accepted_with state done))
-reply_by state reply (Err fault) = Err fault
 
 -- A turn of an event: by some answers of the shelf it is the one that is given, and a crash at any moment of it leaves
 -- files that stand for what was held before, or for what the turn leaves. Nothing is said.

@@ -10,15 +10,15 @@ use Rattle.chart_store.specs.Loaded.{HoldingsByKey}
 use Rattle.chart_store.specs.declared.refusal.Refusal.TheVariants.{NoCell}
 use Rattle.session_core.specs.declared.fault.EventFault.{EventFault}
 use Rattle.session_core.specs.declared.fault.EventFault.TheVariants.{Refused, NoMemory}
-use Rattle.session_core.specs.declared.refusal.Refusal.{Refusal}
-use Rattle.session_core.specs.declared.refusal.Refusal.TheVariants.{RecordLong, CellLong, Store}
-use Rattle.session_core.specs.declared.written.MadeFile.{MadeFile}
-use Rattle.session_core.specs.Draw.{chart_of}
+use Rattle.session_core.specs.declared.refusal.LineRefusal.{LineRefusal}
+use Rattle.session_core.specs.declared.refusal.LineRefusal.TheVariants.{RecordLong, CellLong, Store}
+use Rattle.session_core.specs.declared.changes.written.MadeFile.{MadeFile}
+use Rattle.session_core.specs.Held.{chart_of}
 
 -- ---- faults
 
 -- why a cell is not written; want of memory is no fault of it
-abbrev pub refusal_of_write : WriteFault → Option Refusal
+abbrev pub refusal_of_write : WriteFault → Option LineRefusal
 refusal_of_write (of_write.RecordLong name bytes) = Some (RecordLong name bytes)
 refusal_of_write (of_write.CellLong bytes) = Some (CellLong bytes)
 refusal_of_write of_write.NoMemory = None
@@ -31,7 +31,7 @@ fault_of_write of_write.NoMemory = NoMemory
 
 -- The value, or what its fault is refused as. No definition answers want of memory, so what stands in its place is
 -- never seen.
-abbrev pub or_refused : {A : Type 0} → Result A WriteFault → Result A Refusal
+abbrev pub or_refused : {A : Type 0} → Result A WriteFault → Result A LineRefusal
 or_refused result = or_fault_as (λ fault. unwrap_or (refusal_of_write fault) (CellLong 0)) result
 
 -- ---- the line `make`
@@ -41,7 +41,7 @@ abbrev pub file_with : ℕ → List ℕ → MadeFile
 file_with records bytes = record { bytes = bytes; records = records }
 
 -- the base file of a cell
-abbrev pub base_of : CellValue → Result MadeFile Refusal
+abbrev pub base_of : CellValue → Result MadeFile LineRefusal
 base_of cell = or_refused (written cell) >>= λ bytes. Ok (file_with (length (data_records cell)) bytes)
 
 -- an update: a record of general information, and one for each area that it modifies
@@ -49,14 +49,14 @@ abbrev pub update_of : ℕ → ℕ → MadeFile
 update_of areas update = file_with (1 + length (modified_areas update areas)) (made_update areas update)
 
 -- the base file of the cell for trials with so many areas where the number of the update is 0, or else that update
-unfoldable pub made_file : ℕ → ℕ → Result MadeFile Refusal
+unfoldable pub made_file : ℕ → ℕ → Result MadeFile LineRefusal
 made_file areas zero = base_of (made_cell areas)
 made_file areas (suc before) = Ok (update_of areas (suc before))
 
 -- ---- the line `reissue`
 
 -- the base file of the chart of a cell, where the cell is held and not cancelled
-unfoldable pub reissued : HoldingsByKey → List ℕ → Result (List ℕ) Refusal
+unfoldable pub reissued : HoldingsByKey → List ℕ → Result (List ℕ) LineRefusal
 reissued cells key = do
   chart ← or_fault (Store (NoCell key)) (chart_of cells key)
   or_refused (written chart)

@@ -4,7 +4,7 @@ ghost use Rattle.std.specs.Prelude.{◌≡◌};
 ghost use Rattle.session_core.specs.declared.fault.EventFault.TheVariants.{NoMemory as NoMemoryForEvent};
 ghost use Rattle.session_core.specs.declared.fault.TurnFault.TheVariants.{NoMemory};
 
-use crate::refusal::Refusal;
+use crate::refusal::LineRefusal;
 use cell_writer::WriteFault;
 use chart_ports::ShelfError;
 use chart_store::{SubmitFault, TakeFault};
@@ -35,7 +35,7 @@ impl From<AllocError> for TurnFault {
 #[derive(Debug, Drop)]
 pub enum EventFault {
     /// It is refused.
-    Refused(Refusal),
+    Refused(LineRefusal),
     /// A call of the desk failed.
     DeskFault,
     /// There was no memory.
@@ -66,7 +66,7 @@ impl From<ShelfError> for EventFault {
 
     fn from(fault: ShelfError) -> EventFault {
         match fault {
-            ShelfError::Failed => EventFault::Refused(Refusal::ShelfFault),
+            ShelfError::Failed => EventFault::Refused(LineRefusal::ShelfFault),
             ShelfError::NoMemory => EventFault::NoMemory,
         }
     }
@@ -80,7 +80,7 @@ impl From<ReadFault> for EventFault {
 
     fn from(fault: ReadFault) -> EventFault {
         match TakeFault::from(fault) {
-            TakeFault::Refused(refusal) => EventFault::Refused(Refusal::Store(refusal)),
+            TakeFault::Refused(refusal) => EventFault::Refused(LineRefusal::Store(refusal)),
             TakeFault::NoMemory => EventFault::NoMemory,
         }
     }
@@ -94,9 +94,9 @@ impl From<RouteFault> for EventFault {
 
     fn from(fault: RouteFault) -> EventFault {
         match fault {
-            RouteFault::BadLine(line) => EventFault::Refused(Refusal::RouteLine(line)),
-            RouteFault::Few(points) => EventFault::Refused(Refusal::RouteFew(points)),
-            RouteFault::Many(points) => EventFault::Refused(Refusal::RouteMany(points)),
+            RouteFault::BadLine(line) => EventFault::Refused(LineRefusal::RouteLine(line)),
+            RouteFault::Few(points) => EventFault::Refused(LineRefusal::RouteFew(points)),
+            RouteFault::Many(points) => EventFault::Refused(LineRefusal::RouteMany(points)),
             RouteFault::NoMemory => EventFault::NoMemory,
         }
     }
@@ -111,9 +111,9 @@ impl From<WriteFault> for EventFault {
     fn from(fault: WriteFault) -> EventFault {
         match fault {
             WriteFault::RecordLong(name, bytes) => {
-                EventFault::Refused(Refusal::RecordLong(name, bytes))
+                EventFault::Refused(LineRefusal::RecordLong(name, bytes))
             }
-            WriteFault::CellLong(bytes) => EventFault::Refused(Refusal::CellLong(bytes)),
+            WriteFault::CellLong(bytes) => EventFault::Refused(LineRefusal::CellLong(bytes)),
             WriteFault::NoMemory => EventFault::NoMemory,
         }
     }
@@ -127,7 +127,7 @@ impl From<SubmitFault> for EventFault {
 
     fn from(fault: SubmitFault) -> EventFault {
         match fault {
-            SubmitFault::Refused(refusal) => EventFault::Refused(Refusal::Store(refusal)),
+            SubmitFault::Refused(refusal) => EventFault::Refused(LineRefusal::Store(refusal)),
             SubmitFault::DeskFault => EventFault::DeskFault,
             SubmitFault::NoMemory => EventFault::NoMemory,
         }

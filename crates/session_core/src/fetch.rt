@@ -6,7 +6,7 @@ ghost use Rattle.session_core.specs.Answers.{Gives};
 ghost use Rattle.session_core.specs.Fetch.{AreFetched, Fetches, file_in};
 
 use crate::fault::EventFault;
-use crate::refusal::Refusal;
+use crate::refusal::LineRefusal;
 use chart_model::Octets;
 use chart_ports::{Fetched, Shelf};
 use chart_store::Refusal as StoreRefusal;
@@ -20,10 +20,10 @@ fn file_in(name: Word, limit: u64, fetched: Fetched) -> Result<Octets, EventFaul
 {
     match fetched {
         Fetched::Bytes(bytes) => Ok(Octets::from_vec(bytes.into_vec())),
-        Fetched::Absent => Err(EventFault::Refused(Refusal::NoFile(name))),
+        Fetched::Absent => Err(EventFault::Refused(LineRefusal::NoFile(name))),
         Fetched::Long => {
             let refusal = StoreRefusal::FileLong(limit);
-            Err(EventFault::Refused(Refusal::Store(refusal)))
+            Err(EventFault::Refused(LineRefusal::Store(refusal)))
         }
     }
 }

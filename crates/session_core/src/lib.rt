@@ -5,20 +5,17 @@
 //! command leaves that it stands for. A refusal is a reply.
 #![tactic(auto)]
 
-mod cells;
-mod draw;
+mod changes;
 mod fault;
 mod fetch;
-mod general;
-mod info;
+mod held;
 mod laws;
+mod questions;
 mod refusal;
-mod route;
 mod session;
 mod values;
-mod written;
 
 pub use fault::TurnFault;
 pub use laws::turns_follow_their_commands;
-pub use refusal::Refusal;
+pub use refusal::LineRefusal;
 pub use session::Session;

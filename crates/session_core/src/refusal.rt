@@ -12,7 +12,7 @@ use std::alloc::{AllocError, Global};
 
 /// Why a line is refused: with its code, what it names.
 #[derive(Debug, Drop)]
-pub enum Refusal {
+pub enum LineRefusal {
     /// 64: the record of this name would have so many bytes in a written file, more than 99,999.
     RecordLong(Name, usize),
     /// 65: a written file would have so many bytes, more than 8,388,608.
@@ -180,21 +180,21 @@ fn store_values(alloc: Global, refusal: &StoreRefusal) -> Result<Octets, AllocEr
     }
 }
 
-impl Refusal {
+impl LineRefusal {
     /// The number that says why.
     pub fn code(&self) -> u8
         ensures { result ≡ code_of self.now }
     {
         match self {
-            Refusal::RecordLong(..) => 64,
-            Refusal::CellLong(_) => 65,
-            Refusal::RouteLine(_) => 66,
-            Refusal::RouteFew(_) => 67,
-            Refusal::RouteMany(_) => 68,
-            Refusal::BadLine(_) => 70,
-            Refusal::NoFile(_) => 71,
-            Refusal::ShelfFault => 72,
-            Refusal::Store(refusal) => store_code(refusal),
+            LineRefusal::RecordLong(..) => 64,
+            LineRefusal::CellLong(_) => 65,
+            LineRefusal::RouteLine(_) => 66,
+            LineRefusal::RouteFew(_) => 67,
+            LineRefusal::RouteMany(_) => 68,
+            LineRefusal::BadLine(_) => 70,
+            LineRefusal::NoFile(_) => 71,
+            LineRefusal::ShelfFault => 72,
+            LineRefusal::Store(refusal) => store_code(refusal),
         }
     }
 
@@ -203,18 +203,18 @@ impl Refusal {
         ensures { IfOk result (λ values. values ≡ join_with_byte 32 (values_of self.now)) }
     {
         match self {
-            Refusal::RecordLong(name, bytes) => join(
+            LineRefusal::RecordLong(name, bytes) => join(
                 alloc,
                 &[Value::Name(*name), Value::Number(*bytes as u64)],
             ),
-            Refusal::CellLong(bytes) => join(alloc, &[Value::Number(*bytes as u64)]),
-            Refusal::RouteLine(number)
-            | Refusal::RouteFew(number)
-            | Refusal::RouteMany(number)
-            | Refusal::BadLine(number) => join(alloc, &[Value::Number(*number)]),
-            Refusal::NoFile(name) => join(alloc, &[Value::Text(name.as_str().as_bytes())]),
-            Refusal::ShelfFault => join(alloc, &[]),
-            Refusal::Store(refusal) => store_values(alloc, refusal),
+            LineRefusal::CellLong(bytes) => join(alloc, &[Value::Number(*bytes as u64)]),
+            LineRefusal::RouteLine(number)
+            | LineRefusal::RouteFew(number)
+            | LineRefusal::RouteMany(number)
+            | LineRefusal::BadLine(number) => join(alloc, &[Value::Number(*number)]),
+            LineRefusal::NoFile(name) => join(alloc, &[Value::Text(name.as_str().as_bytes())]),
+            LineRefusal::ShelfFault => join(alloc, &[]),
+            LineRefusal::Store(refusal) => store_values(alloc, refusal),
         }
     }
 

@@ -1,35 +1,15 @@
 //! A session: a store, and the turns of events over it.
 
-ghost use Rattle.std.specs.Prelude.{◌≡◌};
-ghost use Rattle.chart_model.specs.State.{StateValue};
-ghost use Rattle.chart_store.specs.Submitted.{accepted_with};
-ghost use Rattle.session_core.specs.Turn.{load_reply};
-
-use crate::cells::list;
-use crate::draw::draw;
+use crate::changes::{Order, drop_order, load_order, make_order, reissue_order, rollback_order};
 use crate::fault::{EventFault, TurnFault};
-use crate::fetch::fetch;
-use crate::info::inform;
-use crate::route::check_route;
-use crate::written::{made_file, reissue};
-use chart_model::{Command, Settings};
+use crate::questions::{check_route, draw_chart, inform, list_cells};
+use chart_model::Settings;
 use chart_ports::{Desk, Shelf, Steps};
-use chart_store::{Accepted, FILE_LIMIT, Store, kept_stores_are_read};
+use chart_store::{Store, kept_stores_are_read};
 use lookup_table::Table;
 use script_reader::{Event, Reply};
 use std::alloc::{AllocError, Global};
 use std::sync::ledger::Ledger;
-
-/// What is replied where a file was taken over, or has cancelled its cell.
-fn load_reply(done: &Accepted) -> Reply
-    ensures { (state : StateValue) → result ≡ load_reply (accepted_with state done.now) }
-{
-    if done.held.cancelled {
-        Reply::Cancel(done.key)
-    } else {
-        Reply::Load(done.key, done.held.edition, done.held.update)
-    }
-}
 
 /// What a run of events goes on with: the store, and the table and the settings by which cells are drawn. The shelf and
 /// the desk are handed in at each turn.
@@ -41,21 +21,19 @@ pub struct Session {
 }
 
 impl Session {
-    ghost use Rattle.std.specs.Prelude.{◌≡◌, ◌≢◌, ◌+◌, ◌<◌, ◌≤◌, ◌^◌, Err, IfOk, IsTrue, OnOk, OnErr};
+    ghost use Rattle.std.specs.Prelude.{◌≡◌, ◌≢◌, ◌+◌, ◌<◌, ◌≤◌, ◌^◌, Ok, Err, IfOk, IsTrue, OnOk, OnErr};
     ghost use Rattle.bank_journal.specs.Fault.{HasDeskCause};
     ghost use Rattle.chart_ports.specs.Disk.{LeavesNoMoreOfOthers, SameOthers};
     ghost use Rattle.chart_ports.specs.Moments.{LeavesOnly};
-    ghost use Rattle.chart_store.specs.Loaded.{Outcome};
     ghost use Rattle.chart_store.specs.Store.{IsKept, StandsForEither, count_of, is_sound};
-    ghost use Rattle.script_reader.specs.declared.reply.Reply.{Reply as ReplyValue};
     ghost use Rattle.script_reader.specs.Line.{AreInRange};
     ghost use Rattle.session_core.specs.declared.fault.EventFault.TheVariants.{DeskFault as EventFailed};
     ghost use Rattle.session_core.specs.declared.fault.TurnFault.TheVariants.{DeskFault};
     ghost use Rattle.session_core.specs.Fetch.{AreFetched};
     ghost use Rattle.session_core.specs.Session.{GivesEvent, GivesTurn, Turned, model_of};
-    ghost use Rattle.session_core.specs.Session.{portrayal_of, reply_by, store_of};
+    ghost use Rattle.session_core.specs.Session.{portrayal_of, store_of};
     ghost use Rattle.session_core.specs.Model.{portrayal_with};
-    ghost use Rattle.session_core.specs.Turn.{commanded};
+    ghost use Rattle.session_core.specs.Turn.{order_turn};
 
     /// A session over a store that was just opened, which draws cells by a table and by what the mariner set.
     pub fn new(
@@ -76,22 +54,22 @@ impl Session {
         })
     }
 
-    /// Carries out a command. With any reply to what was accepted this is the turn of the command.
-    fn submit<D: Desk, C: Ledger>(
+    /// Carries out what a line orders, and tells its reply where it isn't refused.
+    fn obey<D: Desk, C: Ledger>(
         &mut self,
         alloc: Global,
-        command: Command,
+        order: Order,
         desk: &mut D,
         steps: &mut Steps<C>,
-    ) -> Result<Accepted, EventFault>
+    ) -> Result<Reply, EventFault>
         requires sound { IsTrue (is_sound (store_of self.old)) }
         requires count { count_of (store_of self.old) < 2 ^ 63 }
         requires kept { IsTrue D.tells → IsKept (D.contents desk.old) (D.may_leave desk.old) (store_of self.old) }
-        ensures given { (reply : Outcome → ReplyValue) → GivesEvent (reply_by (model_of self.new).state reply result)
-            (model_of self.old) (model_of self.new) (commanded (model_of self.old) command reply) }
-        ensures moments { IsTrue D.tells → (reply : Outcome → ReplyValue) → LeavesOnly D.clock D.might desk.old desk.new
+        ensures given { GivesEvent result (model_of self.old) (model_of self.new)
+            (order_turn (model_of self.old) (Ok order)) }
+        ensures moments { IsTrue D.tells → LeavesOnly D.clock D.might desk.old desk.new
             (StandsForEither (D.said desk.old) (model_of self.old).state
-            (commanded (model_of self.old) command reply).model.state) }
+            (order_turn (model_of self.old) (Ok order)).model.state) }
         ensures count { count_of (store_of self.new) ≤ count_of (store_of self.old) + 1 }
         ensures count_err { OnErr result (count_of (store_of self.new) ≡ count_of (store_of self.old)) }
         ensures count_ok { OnOk result (count_of (store_of self.new) ≡ count_of (store_of self.old) + 1) }
@@ -104,7 +82,9 @@ impl Session {
         ensures crash_others { IsTrue D.tells → LeavesNoMoreOfOthers 1 (D.may_leave desk.old) (D.may_leave desk.new) }
         ensures cause { HasDeskCause EventFailed (D.faults desk.old) (D.faults desk.new) result }
     {
-        Ok(self.store.submit(alloc, command, desk, steps)?)
+        let Order { command, success } = order;
+        let done = self.store.submit(alloc, command, desk, steps)?;
+        Ok(success.reply(&done))
     }
 
     /// Carries out an event, and tells its reply where it isn't refused.
@@ -139,49 +119,34 @@ impl Session {
     {
         kept_stores_are_read::<D>();
         match event {
-            Event::Info(name) => {
-                let general = inform(alloc, name, shelf, steps)?;
-                Ok(Reply::Info(
-                    general.key,
-                    general.edition,
-                    general.update,
-                    general.records as u64,
-                ))
-            }
-            Event::Load(name) => {
-                let file = fetch(alloc, name, FILE_LIMIT, shelf)?;
-                let done = self.submit(alloc, Command::Load(file), desk, steps)?;
-                Ok(load_reply(&done))
-            }
-            Event::Rollback(key, update) => {
-                let done = self.submit(alloc, Command::Rollback(key, update), desk, steps)?;
-                Ok(Reply::Rollback(done.key, done.held.edition, done.held.update))
-            }
-            Event::Drop(key) => {
-                let done = self.submit(alloc, Command::Drop(key), desk, steps)?;
-                Ok(Reply::Drop(done.key))
-            }
+            Event::Info(name) => inform(alloc, name, shelf, steps),
             Event::Cells => {
                 let cells = &self.store.state().cells;
-                Ok(Reply::Cells(cells.len() as u64, list(alloc, cells)?))
+                list_cells(alloc, cells)
             }
             Event::Draw(key) => {
                 let cells = &self.store.state().cells;
-                draw(alloc, key, cells, &self.table, &self.settings, steps)
+                draw_chart(alloc, key, cells, &self.table, &self.settings, steps)
             }
             Event::Route(name) => {
                 let state = self.store.state();
                 check_route(alloc, name, state, &self.settings, shelf)
             }
+            Event::Load(name) => {
+                let order = load_order(alloc, name, shelf)?;
+                self.obey(alloc, order, desk, steps)
+            }
+            Event::Rollback(key, update) => {
+                self.obey(alloc, rollback_order(key, update), desk, steps)
+            }
+            Event::Drop(key) => self.obey(alloc, drop_order(key), desk, steps),
             Event::Make(areas, update) => {
-                let file = made_file(alloc, areas, update)?;
-                let done = self.submit(alloc, Command::Load(file.bytes), desk, steps)?;
-                Ok(Reply::Make(done.key, done.held.edition, done.held.update, file.records))
+                let order = make_order(alloc, areas, update)?;
+                self.obey(alloc, order, desk, steps)
             }
             Event::Reissue(key) => {
-                let file = reissue(alloc, key, &self.store.state().cells)?;
-                let done = self.submit(alloc, Command::Load(file), desk, steps)?;
-                Ok(Reply::Reissue(done.key, done.held.edition, done.held.update))
+                let order = reissue_order(alloc, key, &self.store.state().cells)?;
+                self.obey(alloc, order, desk, steps)
             }
         }
     }

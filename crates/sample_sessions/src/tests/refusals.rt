@@ -3,8 +3,8 @@
 use chart_model::{Foid, Key, Name};
 use chart_store::Refusal as StoreRefusal;
 use script_reader::{Word, print_reply};
-use session_core::Refusal;
-use session_core::Refusal::Store;
+use session_core::LineRefusal;
+use session_core::LineRefusal::Store;
 use std::alloc::{AllocError, Global};
 use std::test::Fail;
 
@@ -31,20 +31,20 @@ const GIVEN: Foid = Foid {
 };
 
 /// Refusals, and the replies to them.
-const REFUSALS: [(Refusal, &[u8]); 36] = [
+const REFUSALS: [(LineRefusal, &[u8]); 36] = [
     (
-        Refusal::RecordLong(FEATURE, 100_004),
+        LineRefusal::RecordLong(FEATURE, 100_004),
         b"no 64 100 16 100004\n",
     ),
-    (Refusal::CellLong(8_388_609), b"no 65 8388609\n"),
-    (Refusal::RouteLine(3), b"no 66 3\n"),
-    (Refusal::RouteFew(1), b"no 67 1\n"),
-    (Refusal::RouteMany(1_001), b"no 68 1001\n"),
+    (LineRefusal::CellLong(8_388_609), b"no 65 8388609\n"),
+    (LineRefusal::RouteLine(3), b"no 66 3\n"),
+    (LineRefusal::RouteFew(1), b"no 67 1\n"),
+    (LineRefusal::RouteMany(1_001), b"no 68 1001\n"),
     (
-        Refusal::BadLine(18_446_744_073_709_551_615),
+        LineRefusal::BadLine(18_446_744_073_709_551_615),
         b"no 70 18446744073709551615\n",
     ),
-    (Refusal::ShelfFault, b"no 72\n"),
+    (LineRefusal::ShelfFault, b"no 72\n"),
     (Store(StoreRefusal::Leader(1)), b"no 10 1\n"),
     (Store(StoreRefusal::Directory(2)), b"no 11 2\n"),
     (Store(StoreRefusal::Span(3)), b"no 12 3\n"),
@@ -167,7 +167,7 @@ const REFUSALS: [(Refusal, &[u8]); 36] = [
 ];
 
 /// Whether the reply to a refusal is this line.
-fn is_replied(alloc: Global, refusal: &Refusal, line: &[u8]) -> Result<bool, AllocError> {
+fn is_replied(alloc: Global, refusal: &LineRefusal, line: &[u8]) -> Result<bool, AllocError> {
     let reply = refusal.reply(alloc)?;
     Ok(print_reply(alloc, &reply)?.as_slice() == line)
 }
@@ -183,7 +183,7 @@ fn refusals(rt: HostRuntime) -> Result<(), Fail> {
 #[test]
 fn refusals_of_cells(rt: HostRuntime) -> Result<(), Fail> {
     let key = Key::from_bytes(b"ZZ").ok_or("a key")?;
-    let cases: [(Refusal, &[u8]); 4] = [
+    let cases: [(LineRefusal, &[u8]); 4] = [
         (Store(StoreRefusal::NoBase(key)), b"no 30 ZZ\n"),
         (Store(StoreRefusal::Cancelled(key)), b"no 34 ZZ\n"),
         (Store(StoreRefusal::NoCell(key)), b"no 73 ZZ\n"),
@@ -201,7 +201,7 @@ fn refusals_of_cells(rt: HostRuntime) -> Result<(), Fail> {
 #[test]
 fn refusals_of_names(rt: HostRuntime) -> Result<(), Fail> {
     let name = Word::from_bytes(rt.alloc(), b"X")?.ok_or("a word")?;
-    let refusal = Refusal::NoFile(name);
+    let refusal = LineRefusal::NoFile(name);
     assert!(rt; is_replied(rt.alloc(), &refusal, b"no 71 X\n")?);
     Ok(())
 }

@@ -1,0 +1,71 @@
+//! The line `cells`.
+
+ghost use Rattle.std.specs.Prelude.{◌≡◌, ◌≢◌, ◌++◌, ◌∷◌, pos, Ok, Err, IfOk, OnOk};
+ghost use Rattle.script_reader.specs.Reply.{number};
+ghost use Rattle.session_core.specs.declared.fault.EventFault.TheVariants.{DeskFault};
+ghost use Rattle.session_core.specs.Answers.{Gives};
+ghost use Rattle.session_core.specs.Listing.{records_of, chart_word, cell_line, cells_reply, listing};
+
+use crate::fault::EventFault;
+use chart_model::{Cell, Holding, HoldingMap, Key, Octets};
+use script_reader::{Reply, end_line, push_number, push_word};
+use std::alloc::{AllocError, Global};
+use text_scan::write_number;
+
+/// The number of the chart's vector and feature records.
+fn records_of(chart: &Cell) -> i128
+    ensures { result ≡ pos (records_of chart.now) }
+{
+    chart.vectors.len() as i128 + chart.features.len() as i128
+}
+
+/// Adds behind a space the number of the chart's records, or that there is no chart.
+fn push_chart(alloc: Global, line: &mut Octets, chart: &Option<Cell>) -> Result<(), AllocError>
+    ensures { OnOk result (line.new ≡ line.old ++ 32 ∷ chart_word chart.now) }
+{
+    match chart {
+        Some(chart) => {
+            line.extend_from_slice(b" ")?;
+            write_number(alloc, line, records_of(chart))
+        }
+        None => push_word(line, b"cancelled"),
+    }
+}
+
+/// Adds the line of a cell.
+fn push_cell(
+    alloc: Global,
+    lines: &mut Octets,
+    key: &Key,
+    holding: &Holding,
+) -> Result<(), AllocError>
+    ensures { OnOk result (lines.new ≡ lines.old ++ cell_line key.now holding.now) }
+{
+    lines.extend_from_slice(b"cell")?;
+    push_word(lines, key.as_slice())?;
+    push_number(alloc, lines, holding.held.edition as u64)?;
+    push_number(alloc, lines, holding.held.update as u64)?;
+    push_number(alloc, lines, holding.files.as_slice().len() as u64)?;
+    push_chart(alloc, lines, &holding.chart)?;
+    end_line(lines)
+}
+
+/// A line for each cell that is held, in the order of their keys.
+fn list(alloc: Global, cells: &HoldingMap) -> Result<Octets, AllocError>
+    ensures { IfOk result (λ lines. lines ≡ listing cells.now) }
+{
+    let mut lines = Octets::from_vec(Vec::new(alloc));
+    for (key, holding) in cells.iter() {
+        push_cell(alloc, &mut lines, key, holding)?;
+    }
+    Ok(lines)
+}
+
+/// The cells that are held, as a reply.
+pub fn list_cells(alloc: Global, cells: &HoldingMap) -> Result<Reply, EventFault>
+    ensures given { Gives result (Ok (cells_reply cells.now)) }
+    ensures desk { result ≢ Err DeskFault }
+{
+    let lines = list(alloc, cells)?;
+    Ok(Reply::Cells(cells.len() as u64, lines))
+}
