@@ -112,7 +112,7 @@ module _ {D : Type 0} (clock : D → ℕ) (might : D → ℕ → Images → List
   -- there is no reply
   pub answered-silent : (IsGiven : Step → Type 0) (d0 d1 : D) (now : World) → now.faults ≡ faults → now.said ≡ before.said
       → ((step : Step) → IsGiven step → (step.reply ≡ None) × (step.model ≡ now.model))
-      → Replied tells files (LeavesOnly clock might d0 d1) before.said number line before.model before.faults faults IsGiven
+      → Replied tells files (LeavesOnly clock might d0 d1) number line before faults IsGiven
       → Answered tells files (LeavesOnly clock might d0 d1) number line before now
   answered-silent IsGiven d0 d1 now counted silent gives x =
       let step : Step = step_to x.fetches before.model number line in
@@ -129,7 +129,7 @@ module _ {D : Type 0} (clock : D → ℕ) (might : D → ℕ → Images → List
 
   -- it isn't come to
   pub interrupted-before : (IsGiven : Step → Type 0) (d0 d1 : D) (now : World) → now.faults ≡ faults → now.said ≡ before.said
-      → Replied tells files (LeavesOnly clock might d0 d1) before.said number line before.model before.faults faults IsGiven
+      → Replied tells files (LeavesOnly clock might d0 d1) number line before faults IsGiven
       → Interrupted tells files (LeavesOnly clock might d0 d1) number line before now
   interrupted-before IsGiven d0 d1 now counted silent x =
       let step : Step = step_to x.fetches before.model number line in
@@ -162,7 +162,7 @@ module _ {D : Type 0} (clock : D → ℕ) (might : D → ℕ → Images → List
       → now.faults ≡ faults → middle ≡ before.said
       → ((step : Step) → IsGiven step → (step.reply ≡ Some reply) × (step.model ≡ now.model))
       → ((images : Images) → MayBeLeft may_leave images → StandFor images now.model.state)
-      → (x : Replied tells files (LeavesOnly clock might d0 d1) before.said number line before.model before.faults faults IsGiven)
+      → (x : Replied tells files (LeavesOnly clock might d0 d1) number line before faults IsGiven)
       → LeavesOnly clock might d1 d2 (LeavesSaying may_leave middle (printed reply))
       → Taken tells files (LeavesOnly clock might d0 d2) before now.faults (x.fetches ∷ []) (step_to x.fetches before.model number line ∷ [])
   taken-said IsGiven d0 d1 d2 may_leave reply middle now counted silent gives stands x then_said =
@@ -177,7 +177,7 @@ module _ {D : Type 0} (clock : D → ℕ) (might : D → ℕ → Images → List
       → now.faults ≡ faults → middle ≡ before.said → now.said ≡ middle ++ printed reply
       → ((step : Step) → IsGiven step → (step.reply ≡ Some reply) × (step.model ≡ now.model))
       → ((images : Images) → MayBeLeft may_leave images → StandFor images now.model.state)
-      → Replied tells files (LeavesOnly clock might d0 d1) before.said number line before.model before.faults faults IsGiven
+      → Replied tells files (LeavesOnly clock might d0 d1) number line before faults IsGiven
       → LeavesOnly clock might d1 d2 (LeavesSaying may_leave middle (printed reply))
       → Answered tells files (LeavesOnly clock might d0 d2) number line before now
   answered-said IsGiven d0 d1 d2 may_leave reply middle now counted silent said gives stands x then_said =
@@ -197,7 +197,7 @@ module _ {D : Type 0} (clock : D → ℕ) (might : D → ℕ → Images → List
       → now.faults ≡ faults → middle ≡ before.said → SaysFront middle (printed reply) now.said
       → ((step : Step) → IsGiven step → (step.reply ≡ Some reply) × (step.model ≡ now.model))
       → ((images : Images) → MayBeLeft may_leave images → StandFor images now.model.state)
-      → Replied tells files (LeavesOnly clock might d0 d1) before.said number line before.model before.faults faults IsGiven
+      → Replied tells files (LeavesOnly clock might d0 d1) number line before faults IsGiven
       → LeavesOnly clock might d1 d2 (LeavesSaying may_leave middle (printed reply))
       → Interrupted tells files (LeavesOnly clock might d0 d2) number line before now
   interrupted-said IsGiven d0 d1 d2 may_leave reply middle now counted silent front gives stands x then_said =
@@ -231,11 +231,11 @@ module _ {D : Type 0} (clock : D → ℕ) (might : D → ℕ → Images → List
       (λ images so_far left front. record { left = left; front = front })
 
   -- the same moments under a premise that holds
-  pub Replied-told : (T : Type 0) → T → (tells : Bool) (files : Files) (said : List ℕ) (number : ℕ) (line : List ℕ) (before : Model) (a b : ℕ)
+  pub Replied-told : (T : Type 0) → T → (tells : Bool) (files : Files) (number : ℕ) (line : List ℕ) (before : World) (faults : ℕ)
       (IsGiven : Step → Type 0) (d0 d1 : D)
-      → Replied tells files (λ P. T → LeavesOnly clock might d0 d1 P) said number line before a b IsGiven
-      → Replied tells files (LeavesOnly clock might d0 d1) said number line before a b IsGiven
-  Replied-told T t tells files said number line before a b IsGiven d0 d1 x =
+      → Replied tells files (λ P. T → LeavesOnly clock might d0 d1 P) number line before faults IsGiven
+      → Replied tells files (LeavesOnly clock might d0 d1) number line before faults IsGiven
+  Replied-told T t tells files number line before faults IsGiven d0 d1 x =
       record { fetches = x.fetches; answers = x.answers; gives = x.gives; leaves = x.leaves t }
 
   -- the files stand for what is held before and after, and nothing is called
@@ -256,30 +256,31 @@ gives-stopped (Err stop) now step e = tt
 
 -- the desk isn't called
 pub Replied-quiet : {D : Type 0} (clock : D → ℕ) (might : D → ℕ → Images → List ℕ → Type 0) (T : Type 0) (tells : Bool) (files : Files) (desk : D)
-    (may_leave : ℕ → List ℕ → Type 0) (said : List ℕ) (number : ℕ) (line : List ℕ) (before : Model) (a : ℕ) (IsGiven : Step → Type 0)
-    → (T → (images : Images) (so_far : List ℕ) → might desk (clock desk) images so_far → MayBeLeft may_leave images × (so_far ≡ said))
-    → (T → (images : Images) → MayBeLeft may_leave images → StandFor images before.state)
-    → IsGiven (step_to (fetches_of files false) before number line)
-    → Replied tells files (λ P. T → LeavesOnly clock might desk desk P) said number line before a a IsGiven
-Replied-quiet clock might T tells files desk may_leave said number line before a IsGiven only_now stands gives = record {
+    (may_leave : ℕ → List ℕ → Type 0) (number : ℕ) (line : List ℕ) (before : World) (IsGiven : Step → Type 0)
+    → (T → (images : Images) (so_far : List ℕ) → might desk (clock desk) images so_far → MayBeLeft may_leave images × (so_far ≡ before.said))
+    → (T → (images : Images) → MayBeLeft may_leave images → StandFor images before.model.state)
+    → IsGiven (step_to (fetches_of files false) before.model number line)
+    → Replied tells files (λ P. T → LeavesOnly clock might desk desk P) number line before before.faults IsGiven
+Replied-quiet clock might T tells files desk may_leave number line before IsGiven only_now stands gives = record {
   fetches = fetches_of files false;
   answers = record { told = λ t. (false, refl); cause = λ limit name e. cc };
   gives = gives;
-  leaves = λ t. leaves-none clock might desk may_leave said before.state (step_to (fetches_of files false) before number line).model.state (only_now t) (stands t);
+  leaves = λ t. leaves-none clock might desk may_leave before.said before.model.state
+      (step_to (fetches_of files false) before.model number line).model.state (only_now t) (stands t);
 }
 
 -- a turn is taken
-pub Replied-turn : (tells : Bool) (files : Files) (Leaves : (Images → List ℕ → Type 0) → Type 0) (said : List ℕ) (number : ℕ) (line : List ℕ)
-    (before : Model) (a b : ℕ) (event : Event) (IsTurn : Turn → Type 0) (IsGiven : Step → Type 0)
-    → ((fetches : Fetches) → step_to fetches before number line ≡ spoken (turn_of fetches before event))
+pub Replied-turn : (tells : Bool) (files : Files) (Leaves : (Images → List ℕ → Type 0) → Type 0) (number : ℕ) (line : List ℕ)
+    (before : World) (faults : ℕ) (event : Event) (IsTurn : Turn → Type 0) (IsGiven : Step → Type 0)
+    → ((fetches : Fetches) → step_to fetches before.model number line ≡ spoken (turn_of fetches before.model event))
     → ((turn : Turn) → IsTurn turn → IsGiven (spoken turn))
-    → Turned (AreFetched tells files a b) Leaves said event before IsTurn
-    → Replied tells files Leaves said number line before a b IsGiven
-Replied-turn tells files Leaves said number line before a b event IsTurn IsGiven is gives x = record {
+    → Turned (AreFetched tells files before.faults faults) Leaves before.said event before.model IsTurn
+    → Replied tells files Leaves number line before faults IsGiven
+Replied-turn tells files Leaves number line before faults event IsTurn IsGiven is gives x = record {
   fetches = x.fetches;
   answers = x.answers;
-  gives = subst IsGiven (sym (is x.fetches)) (gives (turn_of x.fetches before event) x.gives);
-  leaves = subst (λ (s : Step). Leaves (StandsForEither said before.state s.model.state)) (sym (is x.fetches)) x.leaves;
+  gives = subst IsGiven (sym (is x.fetches)) (gives (turn_of x.fetches before.model event) x.gives);
+  leaves = subst (λ (s : Step). Leaves (StandsForEither before.said before.model.state s.model.state)) (sym (is x.fetches)) x.leaves;
 }
 
 pub gives-spoken : (reply : Reply) (before now : Model) (turn : Turn) → GivesTurn (Ok reply) before now turn → GivesStep (Ok (Some reply)) now (spoken turn)

@@ -1,4 +1,5 @@
 mod Lists
+mod Devices
 mod Crashes
 mod Taking
 mod Failures

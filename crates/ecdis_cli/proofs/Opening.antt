@@ -177,6 +177,25 @@ ran-later tells files files' model status Leaves LeavesElse Left left said fault
   end = x.end;
 }
 
+-- a run on devices that were lent to it: its owner has them as it left them
+pub ran-lent : {L D : Type 0} (shelf_faults : L → ℕ) (said : D → List ℕ) (may_leave : D → ℕ → List ℕ → Type 0) (clock : D → ℕ)
+    (might : D → ℕ → Images → List ℕ → Type 0) (tells : Bool) (files : Files) (model : Model) (status : Status)
+    (LeavesElse : Images → List ℕ → Type 0) (before : Outside) (left : List ℕ) (desk lent now : D) (lent' now' : L)
+    → lent ≡ now → lent' ≡ now'
+    → Ran tells files model status (LeavesOnly clock might desk lent) LeavesElse (MayBeLeft (may_leave lent)) before
+    (outside_of left (said lent) (shelf_faults lent'))
+    → Ran tells files model status (LeavesOnly clock might desk now) LeavesElse (MayBeLeft (may_leave now)) before
+    (outside_of left (said now) (shelf_faults now'))
+ran-lent {L = L} {D = D} shelf_faults said may_leave clock might tells files model status LeavesElse before left desk lent now lent' now' same same' x =
+    subst (λ (d : D). Ran tells files model status (LeavesOnly clock might desk d) LeavesElse (MayBeLeft (may_leave d)) before
+    (outside_of left (said d) (shelf_faults now'))) same
+    (subst (λ (l : L). Ran tells files model status (LeavesOnly clock might desk lent) LeavesElse (MayBeLeft (may_leave lent)) before
+    (outside_of left (said lent) (shelf_faults l))) same' x)
+
+-- the same of a count that is steady
+pub steady-lent : {D : Type 0} (faults : D → ℕ) (before : ℕ) (now lent : D) → lent ≡ now → IsSteady before (faults now) → IsSteady before (faults lent)
+steady-lent {D = D} faults before now lent same x = subst (λ (d : D). IsSteady before (faults d)) (sym same) x
+
 -- ---- statuses
 
 pub other-status : IsOther status.NoMemory

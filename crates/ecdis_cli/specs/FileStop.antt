@@ -12,14 +12,14 @@ use Rattle.ecdis_cli.specs.declared.run.status.Status.TheVariants as status
 use Rattle.ecdis_cli.specs.declared.run.tables_fault.TablesFault.{TablesFault}
 
 -- what is wrong with the file; a fault of the shelf and want of memory tell nothing of it
-abbrev pub told : FileStop → Option TablesFault
-told (Fault fault) = Some fault
-told ShelfFault = None
-told NoMemory = None
+abbrev pub fault_of_stop : FileStop → Option TablesFault
+fault_of_stop (Fault fault) = Some fault
+fault_of_stop ShelfFault = None
+fault_of_stop NoMemory = None
 
 -- the answer is what was to be answered, unless the shelf failed or memory ran out
 abbrev pub Gives : {X : Type 0} → Result X FileStop → Result X TablesFault → Type 0
-Gives answer wanted = answers.Gives told answer wanted
+Gives answer wanted = answers.Gives fault_of_stop answer wanted
 
 -- a fetch that fails, and a file that isn't read
 

@@ -3,6 +3,7 @@ pub mod Ended
 pub mod Step
 pub mod Script
 pub mod Crash
+pub mod Devices
 pub mod World
 pub mod Progress
 pub mod Replied

@@ -10,6 +10,7 @@ use Rattle.session_core.specs.Model.{Model}
 use Rattle.ecdis_cli.specs.declared.run.stop.Stop.{Stop}
 use Rattle.ecdis_cli.specs.Progress.{Leaving}
 use Rattle.ecdis_cli.specs.Step.{Step, step_to}
+use Rattle.ecdis_cli.specs.World.{World}
 
 -- the reply and the model after it are those of the step
 abbrev pub GivesStep : Result (Option Reply) Stop → Model → Step → Type 0
@@ -18,12 +19,13 @@ GivesStep (Err stop) now step = Unit {0}
 
 -- The step of a line was taken, by some answers of the shelf, and a crash at any moment of it leaves files that stand
 -- for what was held before, or for what the step leaves. Nothing is said.
-pub record Replied (tells : Bool) (files : Files) (Leaves : Leaving) (said : List ℕ) (number : ℕ) (line : List ℕ)
-    (before : Model) (faults_before faults_now : ℕ) (IsGiven : Step → Type 0) : Type 0 where
+pub record Replied (tells : Bool) (files : Files) (Leaves : Leaving) (number : ℕ) (line : List ℕ) (before : World)
+    (faults : ℕ) (IsGiven : Step → Type 0) : Type 0 where
   pub fetches : Fetches
-  pub answers : AreFetched tells files faults_before faults_now fetches
-  pub gives : IsGiven (step_to fetches before number line)
-  pub leaves : Leaves (StandsForEither said before.state (step_to fetches before number line).model.state)
+  pub answers : AreFetched tells files before.faults faults fetches
+  pub gives : IsGiven (step_to fetches before.model number line)
+  pub leaves : Leaves (StandsForEither before.said before.model.state
+      (step_to fetches before.model number line).model.state)
 
 -- while a reply is said a front of it is, and the files are as a crash might have left them before
 pub record LeavesSaying (may_leave : ℕ → List ℕ → Type 0) (said reply : List ℕ) (images : Images)

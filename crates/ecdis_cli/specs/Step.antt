@@ -10,7 +10,7 @@ use Rattle.script_reader.specs.declared.reply.Reply.TheVariants as replies
 use Rattle.session_core.specs.Fetch.{Fetches}
 use Rattle.session_core.specs.Model.{Model}
 use Rattle.session_core.specs.Turn.{Turn, refused, turn_of}
-use Rattle.session_core.specs.declared.refusal.Refusal.TheVariants.{BadLine}
+use Rattle.session_core.specs.declared.refusal.LineRefusal.TheVariants.{BadLine}
 
 -- what is replied, the command that is accepted, and the model after it, where there are such
 pub record Step : Type 0 where

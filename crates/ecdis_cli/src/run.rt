@@ -1,6 +1,7 @@
 //! All that the program does.
 
 mod answer;
+mod devices;
 mod file_stop;
 mod line;
 mod opened;
@@ -28,6 +29,7 @@ ghost use Rattle.ecdis_cli.specs.Status.{is_early};
 ghost use Rattle.ecdis_cli.specs.Tables.{TablesEnd, table_in};
 ghost use Rattle.ecdis_cli.specs.declared.run.tables_fault.TablesFault.{TablesFault as FaultValue};
 
+use crate::run::devices::Devices;
 use crate::run::opened::run_opened;
 use crate::run::status::Status;
 use crate::run::tables::fetch_tables;
@@ -86,15 +88,15 @@ pub fn run_ecdis<S: Source, L: Shelf, D: Desk, C: Ledger>(
         (MayBeLeft (D.may_leave desk.new))
         (outside_of (S.left script.old) (D.said desk.old) (L.faults shelf.old))
         (outside_of (S.left script.new) (D.said desk.new) (L.faults shelf.new)) }
+
+    // A run that is done has read the whole script, which is no longer than may be.
     ensures done { result ≡ Status.Done → IsTrue (S.is_at_end script.new) }
     ensures read { IsTrue S.tells → result ≡ Status.Done → S.left script.new ≡ [] }
     ensures short { IsTrue S.tells → result ≡ Status.Done → length (S.left script.old) ≤ SCRIPT_LIMIT }
-    ensures same { IsTrue L.tells → L.files shelf.new ≡ L.files shelf.old }
 
-    // Each other end has its cause. Want of memory alone needs none. Where the files are no store's, nothing is read of
-    // the script and nothing said, however the run ends, and at every moment a crash leaves files that read the same, or
-    // as one might have left them at the start; it ends for them unless the disk fails or memory runs out, and then they
-    // are left as they were.
+    // Where the files are no store's, nothing is read of the script and nothing said, however the run ends, and at every
+    // moment a crash leaves files that read the same, or as one might have left them at the start; it ends for them
+    // unless the disk fails or memory runs out, and then they are left as they were.
     ensures foreign { (bank at : ℕ) → IsTrue D.tells → result ≡ Status.Foreign bank at →
         read_of (images_of (D.contents desk.old)) ≡ Err (record { bank = bank; at = at }) }
     ensures refused_files { (bank at : ℕ) → IsTrue D.tells →
@@ -110,17 +112,22 @@ pub fn run_ecdis<S: Source, L: Shelf, D: Desk, C: Ledger>(
         (LeavesReading (D.contents desk.old) (D.may_leave desk.old) (D.said desk.old)) }
     ensures left { (bank at : ℕ) → IsTrue D.tells → result ≡ Status.Foreign bank at →
         SameFiles (D.contents desk.old) (D.contents desk.new) }
+
+    // Each other end has its cause. Want of memory alone needs none.
     ensures script_failed { result ≡ Status.ScriptFault → Rose (S.faults script.old) (S.faults script.new) }
     ensures script_long { result ≡ Status.ScriptLong →
         RoseBy (SCRIPT_LIMIT + 1) (S.given script.old) (S.given script.new) }
     ensures script_over { IsTrue S.tells → result ≡ Status.ScriptLong → SCRIPT_LIMIT < length (S.left script.old) }
     ensures desk_failed { result ≡ Status.DeskFault → Rose (D.faults desk.old) (D.faults desk.new) }
     ensures shelf_failed { result ≡ Status.ShelfFault → Rose (L.faults shelf.old) (L.faults shelf.new) }
+
+    // No count of faults falls, and the shelf's files stay.
     ensures script_later { S.faults script.old ≤ S.faults script.new }
     ensures shelf_later { L.faults shelf.old ≤ L.faults shelf.new }
     ensures desk_later { D.faults desk.old ≤ D.faults desk.new }
+    ensures same { IsTrue L.tells → L.files shelf.new ≡ L.files shelf.old }
 
-    // Where none of these holds, the run is done, unless memory runs out or a fetch of the catalogue or the table
+    // Where no other end has its cause, the run is done, unless memory runs out or a fetch of the catalogue or the table
     // fails.
     ensures complete { (said : WordsValue) (lines : List LineValue) (opening : Reading) →
         IsTrue S.tells → IsTrue L.tells → IsTrue D.tells → words_of (map string_bytes words.now) ≡ Some said →
@@ -140,5 +147,6 @@ pub fn run_ecdis<S: Source, L: Shelf, D: Desk, C: Ledger>(
         Ok(table) => table,
         Err(status) => return status,
     };
-    run_opened(alloc, table, words.settings, script, shelf, desk, steps)
+    let mut devices = Devices { shelf, desk, steps };
+    run_opened(alloc, table, words.settings, script, &mut devices)
 }

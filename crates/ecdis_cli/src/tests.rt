@@ -144,12 +144,19 @@ fn outcome(alloc: Global, words: &[String], case: &Case) -> Result<(Status, Vec<
 }
 
 /// The words that the program takes.
-fn words(alloc: Global) -> Result<Vec<String>, AllocError> {
+static WORDS: [&str; 5] = ["ecdis", "--catalogue", "catalogue", "--table", "table"];
+
+/// The first of them.
+fn first_words(alloc: Global, count: usize) -> Result<Vec<String>, AllocError> {
     let mut words = Vec::new(alloc);
-    for word in ["ecdis", "--catalogue", "catalogue", "--table", "table"] {
+    for word in WORDS.iter().take(count) {
         words.push(String::from_str(alloc, word)?)?;
     }
     Ok(words)
+}
+
+fn words(alloc: Global) -> Result<Vec<String>, AllocError> {
+    first_words(alloc, WORDS.len())
 }
 
 /// A line of a front and then so many bytes `x`.
@@ -315,16 +322,25 @@ fn ends_at_words(alloc: Global, words: &[String]) -> Result<bool, AllocError> {
 }
 
 #[test]
-fn other_words_do_nothing(rt: HostRuntime) -> Result<(), Fail> {
+fn fewer_words_do_nothing(rt: HostRuntime) -> Result<(), Fail> {
     let alloc = rt.alloc();
-    let none: [String; 0] = [];
-    let mut more = words(alloc)?;
-    more.push(String::from_str(alloc, "--shades=3")?)?;
-    let mut fewer = words(alloc)?;
-    let _ = fewer.pop();
-    assert!(rt; ends_at_words(alloc, &none)?);
-    assert!(rt; ends_at_words(alloc, fewer.as_slice())?);
-    assert!(rt; ends_at_words(alloc, more.as_slice())?);
+    // None, no option, one option of two, and an option without its value.
+    for count in [0, 1, 3, 4] {
+        let words = first_words(alloc, count)?;
+        assert!(rt; ends_at_words(alloc, &words)?, "{count} words");
+    }
+    Ok(())
+}
+
+#[test]
+fn more_words_do_nothing(rt: HostRuntime) -> Result<(), Fail> {
+    let alloc = rt.alloc();
+    // An option that there isn't, a value out of its range, and the call for help.
+    for word in ["--day=1", "--shades=3", "--help"] {
+        let mut words = words(alloc)?;
+        words.push(String::from_str(alloc, word)?)?;
+        assert!(rt; ends_at_words(alloc, &words)?, "{word}");
+    }
     Ok(())
 }
 

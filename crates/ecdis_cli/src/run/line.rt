@@ -1,14 +1,19 @@
 //! Lines of the script.
 
-ghost use Rattle.std.specs.Prelude.{◌≡◌};
-ghost use Rattle.std.specs.Str.Lines.{strip_carriage_return};
+ghost use Rattle.std.specs.Prelude.{◌≡◌, take};
 
-/// The line without the one carriage return that stood before its line feed.
-pub fn without_carriage_return(line: &[u8]) -> &[u8]
-    ensures { result.now ≡ strip_carriage_return line.now }
+/// The most bytes of a line that are looked at. One of more than 1,024 bytes is a bad line, unless it is a remark, and
+/// so many tell which.
+///
+/// Of the line as it is read, one byte more is kept: a carriage return at its end is no part of it.
+pub const LOOKED_AT: usize = 1_025;
+
+/// The front of a line that is looked at.
+pub fn front_of(line: &[u8]) -> &[u8]
+    ensures { result.now ≡ take 1025 line.now }
 {
-    if !line.is_empty() && line[line.len() - 1] == b'\r' {
-        &line[..line.len() - 1]
+    if line.len() > LOOKED_AT {
+        &line[..LOOKED_AT]
     } else {
         line
     }

@@ -3,18 +3,20 @@
 ghost use Rattle.std.specs.Prelude.{◌≡◌, ◌+◌, ◌<◌, ◌≤◌, ◌⊎◌, [], ℕ, IsTrue, false, length, Ok, Err};
 ghost use Rattle.chart_ports.specs.Count.{IsSteady, Rose, RoseBy};
 ghost use Rattle.chart_ports.specs.Disk.{SameFiles};
-ghost use Rattle.chart_ports.specs.Moments.{LeavesOnly, MayBeLeft, images_of};
+ghost use Rattle.chart_ports.specs.Moments.{MayBeLeft, images_of};
 ghost use Rattle.chart_store.specs.Images.{Reading, read_of};
 ghost use Rattle.chart_store.specs.Store.{LeavesBefore, LeavesReading};
 ghost use Rattle.session_core.specs.Model.{portrayal_with};
+ghost use Rattle.ecdis_cli.specs.Devices.{KeepsDevices, leaving};
 ghost use Rattle.ecdis_cli.specs.Limits.{SCRIPT_LIMIT};
 ghost use Rattle.ecdis_cli.specs.Run.{Ran, model_at, outside_of};
 ghost use Rattle.ecdis_cli.specs.Status.{is_early};
 
+use crate::run::devices::Devices;
 use crate::run::rounds::run_script;
 use crate::run::status::Status;
 use chart_model::Settings;
-use chart_ports::{Desk, Shelf, Source, Steps};
+use chart_ports::{Desk, Shelf, Source};
 use chart_store::{files_that_stand_are_read, open_store};
 use lookup_table::Table;
 use session_core::{Session, turns_follow_their_commands};
@@ -30,49 +32,58 @@ pub fn run_opened<S: Source, L: Shelf, D: Desk, C: Ledger>(
     table: Table,
     settings: Settings,
     script: &mut S,
-    shelf: &mut L,
-    desk: &mut D,
-    steps: &mut Steps<C>,
+    devices: &mut Devices<L, D, C>,
 ) -> Status
+    // From files that read as what is held, the replies to the script's lines are said, and a crash leaves what they
+    // acknowledge, or what one might have left before.
     ensures ran { IsTrue S.tells → IsTrue D.tells → (opening : Reading) →
-        read_of (images_of (D.contents desk.old)) ≡ Ok opening →
-        Ran L.tells (L.files shelf.old) (model_at (portrayal_with table settings) opening) result
-        (λ P. LeavesOnly D.clock D.might desk.old desk.new P) (LeavesBefore (D.may_leave desk.old) (D.said desk.old))
-        (MayBeLeft (D.may_leave desk.new))
-        (outside_of (S.left script.old) (D.said desk.old) (L.faults shelf.old))
-        (outside_of (S.left script.new) (D.said desk.new) (L.faults shelf.new)) }
-    ensures begun { is_early result ≡ false }
+        read_of (images_of (D.contents devices.old.desk.now)) ≡ Ok opening →
+        Ran L.tells (L.files devices.old.shelf.now) (model_at (portrayal_with table settings) opening) result
+        (leaving D.clock D.might devices.old devices.new)
+        (LeavesBefore (D.may_leave devices.old.desk.now) (D.said devices.old.desk.now))
+        (MayBeLeft (D.may_leave devices.new.desk.now))
+        (outside_of (S.left script.old) (D.said devices.old.desk.now) (L.faults devices.old.shelf.now))
+        (outside_of (S.left script.new) (D.said devices.new.desk.now) (L.faults devices.new.shelf.now)) }
+
+    // A run that is done has read the whole script, which is no longer than may be.
     ensures done { result ≡ Status.Done → IsTrue (S.is_at_end script.new) }
     ensures read { IsTrue S.tells → result ≡ Status.Done → S.left script.new ≡ [] }
     ensures short { IsTrue S.tells → result ≡ Status.Done → length (S.left script.old) ≤ SCRIPT_LIMIT }
-    ensures same { IsTrue L.tells → L.files shelf.new ≡ L.files shelf.old }
+
+    // Files that are no store's are told by their first fault, unless the disk fails or memory runs out. Nothing is read
+    // or said then, and they are left as they were.
     ensures foreign { (bank at : ℕ) → IsTrue D.tells → result ≡ Status.Foreign bank at →
-        read_of (images_of (D.contents desk.old)) ≡ Err (record { bank = bank; at = at }) }
+        read_of (images_of (D.contents devices.old.desk.now)) ≡ Err (record { bank = bank; at = at }) }
     ensures refused_files { (bank at : ℕ) → IsTrue D.tells →
-        read_of (images_of (D.contents desk.old)) ≡ Err (record { bank = bank; at = at }) →
+        read_of (images_of (D.contents devices.old.desk.now)) ≡ Err (record { bank = bank; at = at }) →
         (result ≡ Status.Foreign bank at) ⊎ ((result ≡ Status.DeskFault) ⊎ (result ≡ Status.NoMemory)) }
     ensures unread { (bank at : ℕ) → result ≡ Status.Foreign bank at → script.new ≡ script.old }
     ensures unopened { (bank at : ℕ) → IsTrue D.tells →
-        read_of (images_of (D.contents desk.old)) ≡ Err (record { bank = bank; at = at }) →
-        (script.new ≡ script.old) × (D.said desk.new ≡ D.said desk.old) }
+        read_of (images_of (D.contents devices.old.desk.now)) ≡ Err (record { bank = bank; at = at }) →
+        (script.new ≡ script.old) × (D.said devices.new.desk.now ≡ D.said devices.old.desk.now) }
     ensures refused_moments { (bank at : ℕ) → IsTrue D.tells →
-        read_of (images_of (D.contents desk.old)) ≡ Err (record { bank = bank; at = at }) →
-        LeavesOnly D.clock D.might desk.old desk.new
-        (LeavesReading (D.contents desk.old) (D.may_leave desk.old) (D.said desk.old)) }
+        read_of (images_of (D.contents devices.old.desk.now)) ≡ Err (record { bank = bank; at = at }) →
+        leaving D.clock D.might devices.old devices.new (LeavesReading (D.contents devices.old.desk.now)
+        (D.may_leave devices.old.desk.now) (D.said devices.old.desk.now)) }
     ensures left { (bank at : ℕ) → IsTrue D.tells → result ≡ Status.Foreign bank at →
-        SameFiles (D.contents desk.old) (D.contents desk.new) }
+        SameFiles (D.contents devices.old.desk.now) (D.contents devices.new.desk.now) }
+
+    // Each other end has its cause, and none is of the words or the tables.
+    ensures begun { is_early result ≡ false }
     ensures script_failed { result ≡ Status.ScriptFault → Rose (S.faults script.old) (S.faults script.new) }
     ensures script_long { result ≡ Status.ScriptLong →
         RoseBy (SCRIPT_LIMIT + 1) (S.given script.old) (S.given script.new) }
     ensures script_over { IsTrue S.tells → result ≡ Status.ScriptLong → SCRIPT_LIMIT < length (S.left script.old) }
-    ensures desk_failed { result ≡ Status.DeskFault → Rose (D.faults desk.old) (D.faults desk.new) }
+    ensures desk_failed { result ≡ Status.DeskFault →
+        Rose (D.faults devices.old.desk.now) (D.faults devices.new.desk.now) }
+
+    // No count of faults falls, and files stay.
     ensures script_later { S.faults script.old ≤ S.faults script.new }
-    ensures shelf_later { L.faults shelf.old ≤ L.faults shelf.new }
-    ensures desk_later { D.faults desk.old ≤ D.faults desk.new }
+    ensures keeps { KeepsDevices L.tells L.files L.faults D.faults devices.old devices.new }
 {
     files_that_stand_are_read();
     turns_follow_their_commands();
-    let store = match open_store(alloc, desk, steps) {
+    let store = match open_store(alloc, devices.desk, devices.steps) {
         Ok(store) => store,
         Err(fault) => return Status::of_opening(fault),
     };
@@ -82,5 +93,5 @@ pub fn run_opened<S: Source, L: Shelf, D: Desk, C: Ledger>(
     let Ok(mut buffer) = vec![in alloc; 0; BUFFER] else {
         return Status::NoMemory;
     };
-    run_script(alloc, &mut buffer, session, script, shelf, desk, steps)
+    run_script(alloc, &mut buffer, session, script, devices)
 }

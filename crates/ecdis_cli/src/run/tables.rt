@@ -4,6 +4,7 @@ ghost use Rattle.std.specs.Prelude.{◌≡◌, ◌≤◌, IsTrue, IfErr, IsErrOf
 ghost use Rattle.chart_ports.specs.Count.{Rose};
 ghost use Rattle.chart_ports.specs.Fetched.{fetched_of};
 ghost use Rattle.command_words.specs.Reading.{value_of};
+ghost use Rattle.ecdis_cli.specs.Devices.{KeepsShelf};
 ghost use Rattle.ecdis_cli.specs.FileStop.{EndsAtFile, Gives, GivesTable};
 ghost use Rattle.ecdis_cli.specs.Tables.{TABLES_LIMIT, bytes_in, catalogue_by, in_file, lines_by, table_in};
 
@@ -23,8 +24,7 @@ const LIMIT: u64 = 1_048_576;
 fn fetch_file<L: Shelf>(alloc: Global, name: &str, shelf: &mut L) -> Result<FileBytes, FileStop>
     ensures found { IsTrue L.tells → Gives result (bytes_in (fetched_of TABLES_LIMIT (L.files shelf.old name.now))) }
     ensures failed { IsErrOf result FileStop.ShelfFault → Rose (L.faults shelf.old) (L.faults shelf.new) }
-    ensures same { IsTrue L.tells → L.files shelf.new ≡ L.files shelf.old }
-    ensures later { L.faults shelf.old ≤ L.faults shelf.new }
+    ensures keeps { KeepsShelf L.tells L.files L.faults shelf.old shelf.new }
 {
     let fetched = shelf.fetch(alloc, name, LIMIT)?;
     match fetched {
@@ -42,8 +42,7 @@ fn fetch_catalogue<L: Shelf>(
 ) -> Result<Catalogue, FileStop>
     ensures found { IsTrue L.tells → Gives result (catalogue_by (fetched_of TABLES_LIMIT (L.files shelf.old name.now))) }
     ensures failed { IsErrOf result FileStop.ShelfFault → Rose (L.faults shelf.old) (L.faults shelf.new) }
-    ensures same { IsTrue L.tells → L.files shelf.new ≡ L.files shelf.old }
-    ensures later { L.faults shelf.old ≤ L.faults shelf.new }
+    ensures keeps { KeepsShelf L.tells L.files L.faults shelf.old shelf.new }
 {
     let file = fetch_file(alloc, name, shelf)?;
     Ok(read_objects(alloc, file.as_slice())?)
@@ -59,8 +58,7 @@ fn fetch_table<L: Shelf>(
     ensures found { IsTrue L.tells →
         Gives result (lines_by catalogue.now (fetched_of TABLES_LIMIT (L.files shelf.old name.now))) }
     ensures failed { IsErrOf result FileStop.ShelfFault → Rose (L.faults shelf.old) (L.faults shelf.new) }
-    ensures same { IsTrue L.tells → L.files shelf.new ≡ L.files shelf.old }
-    ensures later { L.faults shelf.old ≤ L.faults shelf.new }
+    ensures keeps { KeepsShelf L.tells L.files L.faults shelf.old shelf.new }
 {
     let file = fetch_file(alloc, name, shelf)?;
     Ok(read_table(alloc, file.as_slice(), catalogue)?)
@@ -77,8 +75,7 @@ fn take_table<L: Shelf>(
         GivesTable result (in_file 1 (lines_by catalogue.now (fetched_of TABLES_LIMIT (L.files shelf.old name.now)))) }
     ensures ends { IfErr result EndsAtFile }
     ensures failed { IsErrOf result Status.ShelfFault → Rose (L.faults shelf.old) (L.faults shelf.new) }
-    ensures same { IsTrue L.tells → L.files shelf.new ≡ L.files shelf.old }
-    ensures later { L.faults shelf.old ≤ L.faults shelf.new }
+    ensures keeps { KeepsShelf L.tells L.files L.faults shelf.old shelf.new }
 {
     match fetch_table(alloc, name, catalogue, shelf) {
         Ok(table) => Ok(table),
@@ -92,8 +89,7 @@ pub fn fetch_tables<L: Shelf>(alloc: Global, words: &Words, shelf: &mut L) -> Re
     ensures found { IsTrue L.tells → GivesTable result (table_in (L.files shelf.old) (value_of words.now)) }
     ensures ends { IfErr result EndsAtFile }
     ensures failed { IsErrOf result Status.ShelfFault → Rose (L.faults shelf.old) (L.faults shelf.new) }
-    ensures same { IsTrue L.tells → L.files shelf.new ≡ L.files shelf.old }
-    ensures later { L.faults shelf.old ≤ L.faults shelf.new }
+    ensures keeps { KeepsShelf L.tells L.files L.faults shelf.old shelf.new }
 {
     let catalogue = match fetch_catalogue(alloc, words.catalogue.as_str(), shelf) {
         Ok(catalogue) => catalogue,

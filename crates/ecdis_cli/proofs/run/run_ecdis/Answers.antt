@@ -1,10 +1,10 @@
 -- A run whose words are refused, or whose catalogue or table isn't taken, does nothing; any other is the run over the store.
-use Rattle.std.proofs.Common.{ap, arith, refl}
+use Rattle.std.proofs.Common.{ap, arith, refl, rules}
 use Rattle.std.specs.Prelude.{Err, map, string_bytes}
 use Rattle.command_words.specs.Reading.{value_of, words_of}
 use Rattle.ecdis_cli.specs.declared.run.status.Status.TheVariants as status
 use Rattle.ecdis_cli.proofs.Early.{begun-not, early-not, file-complete, file-either, file-ends, file-fault, file-status, not-file, read-is, read-not}
-use Rattle.ecdis_cli.proofs.Opening.{complete, or_early, other-status, ran-later, ran-untouched, reading-none, refused-words, words-status}
+use Rattle.ecdis_cli.proofs.Opening.{complete, or_early, other-status, ran-later, ran-lent, ran-untouched, reading-none, refused-words, steady-lent, words-status}
 use Rattle.ecdis_cli.proofs.run.run_ecdis.Goals as goal
 
 -- ---- the words
@@ -61,7 +61,7 @@ returns-in-Err-clause-ran g c =
     let desk = c.args.desk.now in
     ran-untouched g.D.Desk.clock g.D.Desk.might c.files_that_stand_are_read.ensures.reads desk (g.D.Desk.contents desk)
     (g.D.Desk.may_leave desk) (g.D.Desk.said desk) opening read c.turns_follow_their_commands.ensures.failed
-    (λ images so_far left. g.met.D.Desk.only_now desk images so_far d left) _ _ _ _ _ _ _ (file-status _ c.in-Err.ensures.ends) c.fetch_tables.ensures.later
+    (λ images so_far left. g.met.D.Desk.only_now desk images so_far d left) _ _ _ _ _ _ _ (file-status _ c.in-Err.ensures.ends) c.fetch_tables.ensures.keeps.later
 
 pub returns-in-Err-clause-done : goal.returns-in-Err-clause-done
 returns-in-Err-clause-done g c =
@@ -143,7 +143,9 @@ returns-clause-ran g c =
     λ s d opening read. (
       _,
       read-is g.L.Shelf.tells (g.L.Shelf.files c.args.shelf.now) (words_of (map string_bytes c.args.words.now)) (value_of c.in-Ok.words) _ c.in-Ok.ensures.said c.in-Ok-fetch_tables.ensures.found,
-      ran-later _ _ _ _ _ _ _ _ _ _ _ _ _ c.fetch_tables.ensures.same c.fetch_tables.ensures.later (c.run_opened.ensures.ran s d opening read),
+      ran-lent g.L.Shelf.faults g.D.Desk.said g.D.Desk.may_leave g.D.Desk.clock g.D.Desk.might _ _ _ _ _ _ _ _
+          c.run_opened.new.devices.desk.now _ c.run_opened.new.devices.shelf.now _ (search rules) (search rules)
+          (ran-later _ _ _ _ _ _ _ _ _ _ _ _ _ c.fetch_tables.ensures.keeps.files_stay c.fetch_tables.ensures.keeps.later (c.run_opened.ensures.ran s d opening read)),
     )
 
 pub returns-clause-shelf_failed : goal.returns-clause-shelf_failed
@@ -154,7 +156,8 @@ pub returns-clause-complete : goal.returns-clause-complete
 returns-clause-complete g c =
     λ said lines opening s l d is table read short source desk.
     complete _ opening _ _ _ _ _ _ _ read c.run_opened.ensures.begun (λ bank at foreign. c.run_opened.ensures.foreign bank at d foreign)
-    c.run_opened.ensures.script_failed (c.run_opened.ensures.script_over s) c.run_opened.ensures.desk_failed short source desk
+    c.run_opened.ensures.script_failed (c.run_opened.ensures.script_over s) c.run_opened.ensures.desk_failed short source
+    (steady-lent g.D.Desk.faults _ _ c.run_opened.new.devices.desk.now (search rules) desk)
 
 pub returns-in-Err-clause-refused_files : goal.returns-in-Err-clause-refused_files
 returns-in-Err-clause-refused_files g c =

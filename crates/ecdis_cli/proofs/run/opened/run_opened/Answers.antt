@@ -12,10 +12,10 @@ use Rattle.ecdis_cli.proofs.run.opened.run_opened.Goals as goal
 
 pub returns-in-Err-clause-ran : goal.returns-in-Err-clause-ran
 returns-in-Err-clause-ran g c = λ s d opening read.
-    let old = c.args.desk.now in
+    let old = c.args.devices.now.desk.now in
     ran-unopened g.D.Desk.clock g.D.Desk.might c.files_that_stand_are_read.ensures.reads (g.D.Desk.contents old) (g.D.Desk.may_leave old) (g.D.Desk.said old) _ opening read
     c.turns_follow_their_commands.ensures.failed _ _ old c.open_store.new.desk c.of_opening.result (MayBeLeft (g.D.Desk.may_leave c.open_store.new.desk))
-    (g.S.Source.left c.args.script.now) _ (g.L.Shelf.faults c.args.shelf.now) _
+    (g.S.Source.left c.args.script.now) _ (g.L.Shelf.faults c.args.devices.now.shelf.now) _
     (opening-status c.in-Err.fault c.of_opening.result c.of_opening.ensures) (c.open_store.ensures.said d) (omega arith) (c.open_store.ensures.moments d)
 
 pub returns-in_default-clause-ran : goal.returns-in_default-clause-ran
@@ -41,11 +41,11 @@ run_script-requires-clause-ready g c =
 
 pub returns-clause-ran : goal.returns-clause-ran
 returns-clause-ran g c = λ s d opening read.
-    let old = c.args.desk.now in
+    let old = c.args.devices.now.desk.now in
     let same : store_of c.in-Ok-new.session ≡ c.in-Ok.store = c.in-Ok-new.ensures.store in
     ran-opened g.D.Desk.clock g.D.Desk.might c.files_that_stand_are_read.ensures.reads (g.D.Desk.contents old) (g.D.Desk.may_leave old) (g.D.Desk.said old) _ opening read
-    _ _ old c.open_store.new.desk c.run_script.new.desk c.run_script.result (MayBeLeft (g.D.Desk.may_leave c.run_script.new.desk))
-    (g.S.Source.left c.args.script.now) _ (g.L.Shelf.faults c.args.shelf.now) _ (model_of c.in-Ok-new.session)
+    _ _ old c.open_store.new.desk c.run_script.new.devices.desk.now c.run_script.result (MayBeLeft (g.D.Desk.may_leave c.run_script.new.devices.desk.now))
+    (g.S.Source.left c.args.script.now) _ (g.L.Shelf.faults c.args.devices.now.shelf.now) _ (model_of c.in-Ok-new.session)
     (c.open_store.ensures.said d)
     (session-model c.in-Ok-new.session _ _ same c.in-Ok-new.ensures.portrayal ∙ opened-model _ _ opening _ _ read (c.in-Ok.ensures.state d))
     (c.open_store.ensures.moments d) (c.run_script.ensures.ran s d)

@@ -5,111 +5,108 @@ use Rattle.chart_ports.specs.Moments.{LeavesOnly, MayBeLeft}
 use Rattle.session_core.specs.Session.{model_of}
 use Rattle.session_core.specs.declared.session.Session.{Session}
 use Rattle.ecdis_cli.specs.Run.{outside_of}
-use Rattle.ecdis_cli.specs.Standing.{standing}
-use Rattle.ecdis_cli.specs.World.{IsReady, Standing, at_start, world_of}
+use Rattle.ecdis_cli.specs.Standing.{standing_at}
+use Rattle.ecdis_cli.specs.World.{IsReady, Standing, at_start, world_at}
+use Rattle.ecdis_cli.proofs.Devices.{keeps-none, keeps-then}
 use Rattle.ecdis_cli.proofs.ScriptSteps.{Advanced-start}
 use Rattle.ecdis_cli.proofs.Taking.{quiet, rose-fewer}
 use Rattle.ecdis_cli.proofs.Runs.{Underway-start, Underway-next, Underway-fault, Underway-long, Underway-halted, Underway-done, Underway-cut, pull-part, pull-whole, length-pull, given-more, read-within}
 use Rattle.ecdis_cli.proofs.run.rounds.run_script.Goals as goal
 
-pub loop-round-init : goal.loop-round-init
-loop-round-init g c = record {
+pub pulls-init : goal.pulls-init
+pulls-init g c = record {
   underway = λ s d.
-      let desk = c.args.desk.now in
-      let before = at_start (model_of c.args.session) (g.D.Desk.said desk) (g.L.Shelf.faults c.args.shelf.now) in
+      let desk = c.args.devices.now.desk.now in
+      let before = at_start (model_of c.args.session) (g.D.Desk.said desk) (g.L.Shelf.faults c.args.devices.now.shelf.now) in
       Underway-start g.D.Desk.clock g.D.Desk.might _ _ _ _ desk desk _ (c.new-reader.ensures.start _ _)
       (Advanced-start _ _ (LeavesOnly g.D.Desk.clock g.D.Desk.might desk desk) before
       (quiet g.D.Desk.clock g.D.Desk.might desk (g.D.Desk.may_leave desk) (g.D.Desk.said desk) before.world.model.state
       (λ images so_far left. g.met.D.Desk.only_now desk images so_far d left)
       (λ images left. c.kept_stores_are_read.ensures.stands desk _ images (c.requires.ready.kept d) left)));
   ready =
-      subst (λ (n : ℕ). IsReady g.D.Desk.tells (g.D.Desk.contents c.args.desk.now) (g.D.Desk.may_leave c.args.desk.now) n c.new-reader.result.session)
+      subst (λ (n : ℕ). IsReady g.D.Desk.tells g.D.Desk.contents g.D.Desk.may_leave c.args.devices.now n c.new-reader.result.session)
       (sym (ap (λ (at : Standing). at.number) (c.new-reader.ensures.start [] 0)))
-      (subst (λ (session : Session). IsReady g.D.Desk.tells (g.D.Desk.contents c.args.desk.now) (g.D.Desk.may_leave c.args.desk.now) 1 session)
+      (subst (λ (session : Session). IsReady g.D.Desk.tells g.D.Desk.contents g.D.Desk.may_leave c.args.devices.now 1 session)
       (sym c.new-reader.ensures.session) c.requires.ready);
   counted = λ s. omega arith;
   number = omega (arith, ap (λ (at : Standing). at.number) (c.new-reader.ensures.start [] 0));
-  rounds = omega arith;
+  within = omega arith;
   given = inl (omega arith);
-  same = λ l. refl;
   script_later = omega arith;
-  shelf_later = omega arith;
-  desk_later = omega arith;
+  keeps = keeps-none _ _ _ _ _;
 }
 
 pub returns-in-Err-clause-ran : goal.returns-in-Err-clause-ran
 returns-in-Err-clause-ran g c = λ s d.
     Underway-fault g.D.Desk.clock g.D.Desk.might c.turns_follow_their_commands.ensures.failed _ _ _ _
-    (MayBeLeft (g.D.Desk.may_leave c.loop-round.desk)) _ _
-    (standing c.loop-round.reader (g.D.Desk.said c.loop-round.desk) (g.L.Shelf.faults c.loop-round.shelf)) _ _
-    (c.in-Err.ensures.err s) (c.loop-round.invariant.underway s d)
+    (MayBeLeft (g.D.Desk.may_leave c.pulls.devices.desk.now)) _ _
+    (standing_at g.L.Shelf.faults g.D.Desk.said c.pulls.reader c.pulls.devices) _ _
+    (c.in-Err.ensures.err s) (c.pulls.invariant.underway s d)
 
 pub returns-in-Err-finish-clause-ran : goal.returns-in-Err-finish-clause-ran
 returns-in-Err-finish-clause-ran g c = λ s d.
     Underway-cut g.D.Desk.clock g.D.Desk.might c.turns_follow_their_commands.ensures.failed _ _ _ _
-    (MayBeLeft (g.D.Desk.may_leave c.finish.new.desk)) _ _ _ _
-    (standing c.loop-round.reader (g.D.Desk.said c.loop-round.desk) (g.L.Shelf.faults c.loop-round.shelf)) _ _
-    (world_of c.finish.new.self.session (g.D.Desk.said c.finish.new.desk) (g.L.Shelf.faults c.finish.new.shelf)) _ _ c.after.ensures c.loop-round.invariant.same
+    (MayBeLeft (g.D.Desk.may_leave c.finish.new.devices.desk.now)) _ _ _ _
+    (standing_at g.L.Shelf.faults g.D.Desk.said c.pulls.reader c.pulls.devices) _ _
+    (world_at g.L.Shelf.faults g.D.Desk.said c.finish.new.self.session c.finish.new.devices) _ _ c.after.ensures c.pulls.invariant.keeps.shelf.files_stay
     (c.in-Ok.ensures.end s (omega arith) (let none : c.in-Ok.count ≡ 0 = omega arith in ap Ok none))
-    (c.loop-round.invariant.underway s d) (c.in-Err-finish.ensures.err d)
+    (c.pulls.invariant.underway s d) (c.in-Err-finish.ensures.err d)
 
 pub returns-then-count-eq0-clause-ran : goal.returns-then-count-eq0-clause-ran
 returns-then-count-eq0-clause-ran g c = λ s d.
     Underway-done g.D.Desk.clock g.D.Desk.might c.turns_follow_their_commands.ensures.failed _ _ _ _
-    (MayBeLeft (g.D.Desk.may_leave c.finish.new.desk)) _ _ _ _
-    (standing c.loop-round.reader (g.D.Desk.said c.loop-round.desk) (g.L.Shelf.faults c.loop-round.shelf)) _ _
-    (world_of c.finish.new.self.session (g.D.Desk.said c.finish.new.desk) (g.L.Shelf.faults c.finish.new.shelf)) c.loop-round.invariant.same
+    (MayBeLeft (g.D.Desk.may_leave c.finish.new.devices.desk.now)) _ _ _ _
+    (standing_at g.L.Shelf.faults g.D.Desk.said c.pulls.reader c.pulls.devices) _ _
+    (world_at g.L.Shelf.faults g.D.Desk.said c.finish.new.self.session c.finish.new.devices) c.pulls.invariant.keeps.shelf.files_stay
     (c.in-Ok.ensures.end s (omega arith) (let none : c.in-Ok.count ≡ 0 = omega arith in ap Ok none))
-    (c.loop-round.invariant.underway s d) (c.in_default.ensures.ok d)
-    (λ images left. c.kept_stores_are_read.ensures.read c.finish.new.desk _ images (c.in_default.ensures.ready.kept d) left)
+    (c.pulls.invariant.underway s d) (c.in_default.ensures.ok d)
+    (λ images left. c.kept_stores_are_read.ensures.read c.finish.new.devices.desk.now _ images (c.in_default.ensures.ready.kept d) left)
 
 pub returns-then-count-eq0-clause-short : goal.returns-then-count-eq0-clause-short
 returns-then-count-eq0-clause-short g c = λ s done.
-    read-within _ _ c.loop-round.room (c.loop-round.invariant.counted s) (c.in-Ok.ensures.end s (omega arith) (let none : c.in-Ok.count ≡ 0 = omega arith in ap Ok none))
+    read-within _ _ c.pulls.room (c.pulls.invariant.counted s) (c.in-Ok.ensures.end s (omega arith) (let none : c.in-Ok.count ≡ 0 = omega arith in ap Ok none))
 
 pub returns-in-Err-take_all-clause-ran : goal.returns-in-Err-take_all-clause-ran
 returns-in-Err-take_all-clause-ran g c = λ s d.
     Underway-halted g.D.Desk.clock g.D.Desk.might c.turns_follow_their_commands.ensures.failed _ _ _ _
-    (MayBeLeft (g.D.Desk.may_leave c.take_all.new.desk)) _ _ _ _
-    (standing c.loop-round.reader (g.D.Desk.said c.loop-round.desk) (g.L.Shelf.faults c.loop-round.shelf)) _ _ _ _
-    (world_of c.take_all.new.self.session (g.D.Desk.said c.take_all.new.desk) (g.L.Shelf.faults c.take_all.new.shelf)) _ _ c.after-in-Err-take_all.ensures c.loop-round.invariant.same
+    (MayBeLeft (g.D.Desk.may_leave c.take_all.new.devices.desk.now)) _ _ _ _
+    (standing_at g.L.Shelf.faults g.D.Desk.said c.pulls.reader c.pulls.devices) _ _ _ _
+    (world_at g.L.Shelf.faults g.D.Desk.said c.take_all.new.self.session c.take_all.new.devices) _ _ c.after-in-Err-take_all.ensures c.pulls.invariant.keeps.shelf.files_stay
     (let part : c.min.result ≤ c.in-Ok.count = omega (arith, c.min.ensures) in pull-part c.min.result c.in-Ok.count c.pull.new.buf _ _ part (c.in-Ok.ensures.bytes s))
-    (c.loop-round.invariant.underway s d) (c.in-Err-take_all.ensures.err d)
+    (c.pulls.invariant.underway s d) (c.in-Err-take_all.ensures.err d)
 
 pub returns-then-count-room-clause-ran : goal.returns-then-count-room-clause-ran
 returns-then-count-room-clause-ran g c = λ s d.
     Underway-long g.D.Desk.clock g.D.Desk.might c.turns_follow_their_commands.ensures.failed _ _ _ _
-    (MayBeLeft (g.D.Desk.may_leave c.take_all.new.desk)) _ _ _ _
-    (standing c.loop-round.reader (g.D.Desk.said c.loop-round.desk) (g.L.Shelf.faults c.loop-round.shelf))
-    (standing c.take_all.new.self (g.D.Desk.said c.take_all.new.desk) (g.L.Shelf.faults c.take_all.new.shelf)) _ _ _ _ c.loop-round.room c.loop-round.invariant.same
+    (MayBeLeft (g.D.Desk.may_leave c.take_all.new.devices.desk.now)) _ _ _ _
+    (standing_at g.L.Shelf.faults g.D.Desk.said c.pulls.reader c.pulls.devices)
+    (standing_at g.L.Shelf.faults g.D.Desk.said c.take_all.new.self c.take_all.new.devices) _ _ _ _ c.pulls.room c.pulls.invariant.keeps.shelf.files_stay
     (let part : c.min.result ≤ c.in-Ok.count = omega (arith, c.min.ensures) in pull-part c.min.result c.in-Ok.count c.pull.new.buf _ _ part (c.in-Ok.ensures.bytes s))
-    (length-take-le c.min.result c.pull.new.buf (omega (arith, c.in-Ok.ensures.within, c.min.ensures)) ∙ (let room : c.min.result ≡ c.loop-round.room = omega (arith, c.min.ensures) in room))
-    (c.loop-round.invariant.counted s)
-    (c.loop-round.invariant.underway s d) (c.in_default-take_all.ensures.ok d)
+    (length-take-le c.min.result c.pull.new.buf (omega (arith, c.in-Ok.ensures.within, c.min.ensures)) ∙ (let room : c.min.result ≡ c.pulls.room = omega (arith, c.min.ensures) in room))
+    (c.pulls.invariant.counted s)
+    (c.pulls.invariant.underway s d) (c.in_default-take_all.ensures.ok d)
 
 pub returns-then-count-room-clause-script_over : goal.returns-then-count-room-clause-script_over
 returns-then-count-room-clause-script_over g c = λ s e.
-    omega (arith, length-pull c.in-Ok.count c.pull.new.buf _ _ (omega (arith, c.in-Ok.ensures.within)) (c.in-Ok.ensures.bytes s), c.loop-round.invariant.counted s)
+    omega (arith, length-pull c.in-Ok.count c.pull.new.buf _ _ (omega (arith, c.in-Ok.ensures.within)) (c.in-Ok.ensures.bytes s), c.pulls.invariant.counted s)
 
-pub loop-round-preserved : goal.loop-round-preserved
-loop-round-preserved g c = record {
+pub pulls-preserved : goal.pulls-preserved
+pulls-preserved g c = record {
   underway = λ s d.
       Underway-next g.D.Desk.clock g.D.Desk.might _ _ _ _ _ _ _ _
-      (standing c.loop-round.reader (g.D.Desk.said c.loop-round.desk) (g.L.Shelf.faults c.loop-round.shelf)) _ _ _ _ c.loop-round.invariant.same
+      (standing_at g.L.Shelf.faults g.D.Desk.said c.pulls.reader c.pulls.devices) _ _ _ _ c.pulls.invariant.keeps.shelf.files_stay
       (let whole : c.min.result ≡ c.in-Ok.count = omega (arith, c.min.ensures) in pull-whole c.min.result c.in-Ok.count c.pull.new.buf _ _ whole (c.in-Ok.ensures.bytes s))
-      (c.loop-round.invariant.underway s d) (c.in_default-take_all.ensures.ok d);
+      (c.pulls.invariant.underway s d) (c.in_default-take_all.ensures.ok d);
   ready = c.in_default-take_all.ensures.ready;
-  counted = λ s. omega (arith, length-pull c.in-Ok.count c.pull.new.buf _ _ (omega (arith, c.in-Ok.ensures.within)) (c.in-Ok.ensures.bytes s), c.loop-round.invariant.counted s);
+  counted = λ s. omega (arith, length-pull c.in-Ok.count c.pull.new.buf _ _ (omega (arith, c.in-Ok.ensures.within)) (c.in-Ok.ensures.bytes s), c.pulls.invariant.counted s);
   number = omega (
     arith,
     c.min.ensures,
     c.take_all.ensures.number,
     length-take-le c.min.result c.pull.new.buf (omega (arith, c.in-Ok.ensures.within, c.min.ensures)),
   );
-  rounds = omega arith;
-  given = rose-fewer _ _ _ _ (omega arith) (given-more _ c.in-Ok.count _ _ _ c.loop-round.invariant.given c.in-Ok.ensures.given);
-  same = λ l. c.take_all.ensures.same l ∙ c.loop-round.invariant.same l;
+  within = omega arith;
+  given = rose-fewer _ _ _ _ (omega arith) (given-more _ c.in-Ok.count _ _ _ c.pulls.invariant.given c.in-Ok.ensures.given);
   script_later = omega (arith, c.in-Ok.ensures.cause.later);
-  shelf_later = omega arith;
-  desk_later = omega arith;
+  keeps = keeps-then _ _ _ _ _ _ _ c.pulls.invariant.keeps c.take_all.ensures.keeps;
 }

@@ -20,8 +20,8 @@ returns-in-Err-clause-failed g c =
 pub returns-clause-found : goal.returns-clause-found
 returns-clause-found g c =
     words-behind g.L.Shelf.tells (g.L.Shelf.files c.args.shelf.now) (g.L.Shelf.files c.fetch_catalogue.new.shelf) (value_of c.args.words.now) c.as_str.result.now c.as_str-2.result.now c.in-Ok.catalogue c.take_table.result
-    c.as_str.ensures.value c.as_str-2.ensures.value c.fetch_catalogue.ensures.same c.in-Ok.ensures.found c.take_table.ensures.found
+    c.as_str.ensures.value c.as_str-2.ensures.value c.fetch_catalogue.ensures.keeps.files_stay c.in-Ok.ensures.found c.take_table.ensures.found
 
 pub returns-clause-failed : goal.returns-clause-failed
 returns-clause-failed g c =
-    λ is. rose-later 1 _ _ _ c.fetch_catalogue.ensures.later (c.take_table.ensures.failed is)
+    λ is. rose-later 1 _ _ _ c.fetch_catalogue.ensures.keeps.later (c.take_table.ensures.failed is)

@@ -14,10 +14,10 @@ use Rattle.ecdis_cli.proofs.run.reader.Reader.take.Goals as goal
 
 pub returns-else-byte-eq10-clause-ok : goal.returns-else-byte-eq10-clause-ok
 returns-else-byte-eq10-clause-ok g c = λ d.
-    let desk = c.args.desk.now in
+    let desk = c.args.devices.now.desk.now in
     let said = g.D.Desk.said desk in
-    let faults = g.L.Shelf.faults c.args.shelf.now in
-    let files = g.L.Shelf.files c.args.shelf.now in
+    let faults = g.L.Shelf.faults c.args.devices.now.shelf.now in
+    let files = g.L.Shelf.files c.args.devices.now.shelf.now in
     let leaves = LeavesOnly g.D.Desk.clock g.D.Desk.might desk desk in
     let before = standing c.args.self.now said faults in
     let crash = quiet g.D.Desk.clock g.D.Desk.might desk (g.D.Desk.may_leave desk) said before.world.model.state
@@ -34,9 +34,9 @@ returns-else-byte-eq10-clause-ok g c = λ d.
 
 pub returns-else-byte-eq10-clause-err : goal.returns-else-byte-eq10-clause-err
 returns-else-byte-eq10-clause-err g c = λ d.
-    let desk = c.args.desk.now in
+    let desk = c.args.devices.now.desk.now in
     let said = g.D.Desk.said desk in
-    let faults = g.L.Shelf.faults c.args.shelf.now in
+    let faults = g.L.Shelf.faults c.args.devices.now.shelf.now in
     let before = standing c.args.self.now said faults in
     let crash = quiet g.D.Desk.clock g.D.Desk.might desk (g.D.Desk.may_leave desk) said before.world.model.state
     (λ images so_far left. g.met.D.Desk.only_now desk images so_far d left)

@@ -1,0 +1,13 @@
+//! What a run works with.
+
+use chart_ports::{Desk, Shelf, Steps};
+use std::sync::ledger::Ledger;
+
+/// What a run works with, lent for as long as it takes: the shelf that files are fetched from, the desk that keeps the
+/// store and says the replies, and the count of steps.
+#[derive(Drop)]
+pub struct Devices<'l, 'd, 's, L: Shelf, D: Desk, C: Ledger> {
+    pub shelf: &'l mut L,
+    pub desk: &'d mut D,
+    pub steps: &'s mut Steps<C>,
+}
