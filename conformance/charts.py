@@ -77,10 +77,10 @@ def lines(rounds):
         yield "drop AA5TEST%d" % (cell % CELLS + 1 if turn % 4 else CELLS + 1)
 
 
-def run(path, folder, script, **more):
+def run(path, folder, script, words=WORDS, **more):
     """Runs the program over the lines to its end."""
     text = "".join(line + "\n" for line in script).encode()
-    return subprocess.run([path] + WORDS, cwd=folder, input=text, stdout=subprocess.PIPE, stderr=subprocess.PIPE, **more)
+    return subprocess.run([path] + words, cwd=folder, input=text, stdout=subprocess.PIPE, stderr=subprocess.PIPE, **more)
 
 
 def replies(output):
@@ -103,8 +103,11 @@ class Whole:
 
     def __init__(self, path, folder, script):
         make_room(folder)
-        self.output = run(path, folder, script).stdout
+        ended = run(path, folder, script)
+        self.status, self.errors, self.output = ended.returncode, ended.stderr, ended.stdout
+        self.asked = sum(not line.startswith("#") for line in script)
         said = replies(self.output)
+        self.replied = len(said)
         accepted = [place for place, reply in enumerate(said) if is_accepted(reply)]
         self.starts = [sum(map(len, said[:place])) for place in accepted]
         # The lists, from a run that asks for one behind each line that has a reply.
@@ -112,6 +115,15 @@ class Whole:
         watched = [line for each in script for line in ((each,) if each.startswith("#") else (each, "cells"))]
         held = replies(run(path, folder + "-watched", watched).stdout)[1::2]
         self.lists = [b"ok cells 0\n"] + [held[place] for place in accepted]
+
+    def faults(self, accepted):
+        """What is wrong with the whole run, of whose commands so many have to be accepted: none where nothing is."""
+        if (self.status, self.errors) != (0, b""):
+            yield "the whole run ended with status %d: %r" % (self.status, self.errors)
+        if self.replied != self.asked:
+            yield "the whole run has %d replies to %d lines" % (self.replied, self.asked)
+        if len(self.starts) != accepted:
+            yield "%d commands were accepted, and not %d" % (len(self.starts), accepted)
 
     def fault(self, said, listed):
         """What is wrong with a list after a run that said these bytes: None where nothing is."""
