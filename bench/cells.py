@@ -40,9 +40,9 @@ def record(identifier, fields):
     return leader + directory + FIELD + area
 
 
-def descriptive_record():
+def descriptive_record(rows=ROWS):
     fields = []
-    for tag, name, labels, formats in ROWS:
+    for tag, name, labels, formats in rows:
         controls = b"2600;&   " if b"*" in labels else b"0500;&   " if tag == b"0001" else b"1600;&   "
         fields.append((tag, controls + name + UNIT + labels + UNIT + formats + FIELD))
     return record(b"L", fields)

@@ -1,7 +1,10 @@
-"""Makes the files of bench/hostile: each is as hard to read, in one respect, as 8 MB of a cell file can be.
+"""Makes the files of bench/hostile: each is as hard to read, in one respect, as 8 MB of a cell file can be, or has so
+many of something that the kernel's code changes its way at a bound.
 
-A case is a name and a function that gives its files by their names. They are loaded in that order.
+A case is a name and a function that gives its files by their names. They are loaded in that order, unless the case has
+a script of its own; and where it has a last reply, that has to come.
 """
+import collections
 import struct
 
 from cells import FIELD, UNIT, name, record
@@ -297,7 +300,81 @@ def many_groups_twice():
     return many_groups() | {"update": update(changes, SG2D=SHORT)}
 
 
-CASES = [
+# Numbers of things at which the code changes its way.
+
+HELD = b"HOSTILE"
+
+
+def placed_node(number=1):
+    return packed(vector(ISOLATED_NODE, number), (b"SG2D", struct.pack("<ii", 450, 450)))
+
+
+def texts(pairs):
+    """Attributes with their values."""
+    return b"".join(struct.pack("<H", code) + text + UNIT for code, text in pairs)
+
+
+def point(number, object_class, values, ruin=INSERT, version=1):
+    """A point at node 1 with these attributes, or a change of it that sets them."""
+    identifier = (b"FRID", struct.pack("<BIBBHHB", 100, number, 1, 2, object_class, version, ruin))
+    inserts = ((b"FOID", struct.pack("<HIH", 550, number, 1)),
+               (b"FSPT", name(ISOLATED_NODE, 1) + b"\xff\xff\xff")) if ruin == INSERT else ()
+    return packed(identifier, *inserts[:1], (b"ATTF", texts(values)), *inserts[1:])
+
+
+def areas_under_a_wreck():
+    """1,000 depth areas over one square, of which the last alone is safe, and a wreck of unknown depth in it."""
+    corners = struct.pack("<6i", 0, 900, 900, 900, 900, 0)
+    square = packed(vector(EDGE, 1), ends(1, 1), (b"SG2D", corners))
+    corner = packed(vector(CONNECTED_NODE, 1), (b"SG2D", struct.pack("<ii", 0, 0)))
+    least = [b"%d" % (5 + number % 7) for number in range(1, 1_000)] + [b"40"]
+    areas = [packed(*feature(number, 3), (b"ATTF", texts([(87, depth), (88, b"50")])), shown([1]))
+             for number, depth in enumerate(least, 1)]
+    wreck = point(1_001, 159, [(93, b"1"), (187, b"3")])
+    return {"base": base([placed_node(), corner, square, *areas, wreck])}
+
+
+def settings_in_one_change():
+    """A point with 40 attributes, an update of 32 of them in one change, and one of 33, which a table shows."""
+    codes = range(1, 41)
+    changes = [(32, 1, b"second"), (33, 2, b"third")]
+    updates = {"update%d" % number: update([point(1, 42, [(code, text) for code in codes[:count]], MODIFY, number + 1)],
+                                           number) for count, number, text in changes}
+    conditions = b"+".join(b"ATTR%02d=%s" % (code, b"third" if code <= 33 else b"first") for code in codes)
+    return {"base": base([placed_node(), point(1, 42, [(code, b"first") for code in codes])]), **updates,
+            "catalogue": b"O 42 DEPARE\n" + b"".join(b"A %d ATTR%02d\n" % (code, code) for code in codes),
+            "table": b"DEPARE P 1 %s SY(RIGHT001)\n" % conditions}
+
+
+def texts_about_their_place():
+    """A point with texts of 23, 24 and 65,536 bytes, which a table shows, and which are written and read again."""
+    values = [(1, b"a" * 23), (2, b"b" * 24), (3, b"c" * 65_536)]
+    conditions = b"+".join(b"ATTR%02d=%s" % value for value in values)
+    return {"base": base([placed_node(), point(1, 42, values)]),
+            "catalogue": b"O 42 DEPARE\n" + b"".join(b"A %d ATTR%02d\n" % (code, code) for code, _ in values),
+            "table": b"DEPARE P 1 %s SY(RIGHT001)\n" % conditions}
+
+
+SPARSE, SMALL_UPDATES = 100_000, 300
+
+
+def sparse_records():
+    """100,000 records with numbers 64 apart, each with a page of the map to itself, and 300 updates of ten each."""
+    records = (packed(vector(ISOLATED_NODE, 64 * number)) for number in range(1, SPARSE + 1))
+    files = {"base": base(records)}
+    for number in range(1, SMALL_UPDATES + 1):
+        touched = range(number, SPARSE, SPARSE // 10)
+        changes = (packed(vector(ISOLATED_NODE, 64 * record, 2, MODIFY)) for record in touched)
+        files["u%03d" % number] = update(changes, number)
+    return files
+
+
+Case = collections.namedtuple("Case", "name make script said", defaults=(None, None))
+SHOWN = b"item 1 P 1 whole SY(RIGHT001)"
+UPDATES_OF_SPARSE = b"".join(b"load u%03d\n" % number for number in range(1, SMALL_UPDATES + 1))
+
+
+CASES = [Case(*case) for case in [
     ("80 features, 33,200 falling attributes each", falling_attributes),
     ("3,500 entries over one field", overlapping_fields),
     ("64 labels a group", many_labels),
@@ -319,4 +396,13 @@ CASES = [
     ("a deletion of each of them", every_record_deleted),
     ("a refusal at the last of them", last_change_refused),
     ("4,000,000 coordinates, and as many again", many_groups_twice),
-]
+    ("1,000 depth areas under a hazard", areas_under_a_wreck, b"load base\ndraw %s\n" % HELD,
+     b"item 4 P 1001 whole SY(ISODGR01)"),
+    ("32 and 33 settings in one change", settings_in_one_change,
+     b"load base\nload update1\nload update2\ndraw %s\n" % HELD, SHOWN),
+    ("texts of 23, 24 and 65,536 bytes", texts_about_their_place,
+     b"load base\nreissue %s\ndraw %s\n" % (HELD, HELD), SHOWN),
+    ("100,000 records 64 apart, and 300 updates", sparse_records,
+     b"load base\n" + UPDATES_OF_SPARSE + b"cells\n",
+     b"cell %s 1 %d %d %d" % (HELD, SMALL_UPDATES, SMALL_UPDATES + 1, SPARSE)),
+]]
