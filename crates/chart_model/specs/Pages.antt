@@ -1,26 +1,27 @@
 -- Pages of names: on each stand the records of 64 numbers of one kind.
-use Rattle.std.specs.Prelude.{◌≡◌, ◌≢◌, ℕ, ◌+◌, ◌*◌, ◌/◌, ◌==◌, min, Bool, false, Option, Some, None, List, [], ◌∷◌, ◌++◌, IfSome}
+use Rattle.std.specs.Prelude.{◌≡◌, ◌≢◌, ℕ, ◌/◌, ◌==◌, Bool, false, Option, Some, None, List, [], ◌∷◌, ◌++◌, IfSome}
 use Rattle.std.specs.Prelude.{refl}
-use Rattle.std.specs.Coded.{Coded, code_by, coded_ℕ}
+use Rattle.std.specs.Coded.{Coded, code_by, coded×, coded_ℕ}
 use Rattle.std.specs.declared.cmp.Ordering.{Ordering}
-use Rattle.std.specs.Ordering.{nat_cmp}
+use Rattle.std.specs.Ordering.{ordering_then, nat_cmp}
 use Rattle.std.specs.FinMap as map
 use Rattle.chart_model.specs.declared.name.Name.{Name}
 use Rattle.chart_model.specs.declared.page_map.PageName.{PageName}
 use Rattle.chart_model.specs.Names.{name_cmp}
 
--- by number
+-- by kind, then by number
 abbrev pub page_cmp : PageName → PageName → Ordering
-page_cmp x y = nat_cmp x.packed y.packed
+page_cmp x y = ordering_then (nat_cmp x.rcnm y.rcnm) (nat_cmp x.number y.number)
 
--- a page's name is stored as its number
+-- a page's name is stored as the pair of its fields
 abbrev pub page_code : Coded PageName
-page_code = code_by ℕ coded_ℕ (λ page. page.packed) (λ n. record { packed = n }) (λ _. refl)
+page_code =
+    code_by (ℕ × ℕ) (coded× coded_ℕ coded_ℕ)
+    (λ page. (page.rcnm, page.number)) (λ pair. record { rcnm = pair.0; number = pair.1 }) (λ _. refl)
 
--- The page on which a record stands: those of one kind have 4,294,967,296 numbers, in the order of the kinds, and 64
--- share a page.
+-- the page on which a record stands
 abbrev pub page_of : Name → PageName
-page_of name = record { packed = (name.rcnm * 4294967296 + min name.rcid 4294967295) / 64 }
+page_of name = record { rcnm = name.rcnm; number = name.rcid / 64 }
 
 module _ {X : Type 0} where
   -- page by page

@@ -18,15 +18,11 @@ use std::rc::Rc;
 /// How many numbers share a page.
 pub const NUMBERS_PER_PAGE: u32 = 64;
 
-/// How many numbers the records of a kind may have.
-const NUMBERS_PER_KIND: u64 = 4_294_967_296;
-
-/// The name of a page: the kind of its records and their number in one, divided by [`NUMBERS_PER_PAGE`].
-///
-/// It is one number, since a look-up compares some fifteen of them.
+/// The name of a page: the kind of its records, and their numbers divided by [`NUMBERS_PER_PAGE`].
 #[derive(Clone, Copy, Debug, PartialEq, Eq, PartialOrd, Ord)]
 pub struct PageName {
-    packed: u64,
+    rcnm: u8,
+    number: u32,
 }
 
 impl PageName {
@@ -34,9 +30,9 @@ impl PageName {
     pub fn of(name: Name) -> PageName
         ensures { result ≡ page_of name }
     {
-        let packed = name.rcnm as u64 * NUMBERS_PER_KIND + name.rcid as u64;
         PageName {
-            packed: packed / NUMBERS_PER_PAGE as u64,
+            rcnm: name.rcnm,
+            number: name.rcid / NUMBERS_PER_PAGE,
         }
     }
 }
