@@ -3,11 +3,11 @@ use Rattle.std.proofs.Common.{◌≡◌, inl, inr, ⊎_elim, ℕ, ◌+◌, ◌<�
 use Rattle.std.proofs.Common.{sym, ◌∙◌, ap, subst, arith, length-append}
 use Rattle.std.proofs.lemmas.List.{append_assoc, length-take-le}
 use Rattle.chart_ports.specs.declared.images.Images.{Images}
-use Rattle.chart_ports.specs.Disk.{LeavesNoMoreOfOthers, Only, Torn, written}
+use Rattle.chart_ports.specs.Disk.{LeavesNoMoreOfOthers, Only, Torn, with_bytes}
 use Rattle.chart_ports.specs.Moments.{LeavesOnly, image_of}
 use Rattle.chart_ports.proofs.Moments.{and_then, weaker}
 use Rattle.bank_journal.specs.declared.content.BankContent.{BankContent}
-use Rattle.bank_journal.specs.Bank.{frame_of, IsBodyLength, appended, HasContent, gate_of}
+use Rattle.bank_journal.specs.Bank.{frame_of, IsBodyLength, with_body, HasContent, gate_of}
 use Rattle.bank_journal.specs.Moments.{IsBeforeOrAfter, IsInStep, LeavesFile}
 use Rattle.bank_journal.specs.Reading.{bank_of}
 use Rattle.bank_journal.proofs.Fronts.{kept, torn_gate, opened_gate, staged_inside, next_gate, reads_content}
@@ -18,7 +18,7 @@ pub reads : (bytes : List ℕ) (content : BankContent) → HasContent bytes cont
 reads bytes content has = given bytes content (reads_content bytes content has)
 
 -- a file reaches to where it was written from
-pub reaches : (at : ℕ) (bytes old new : List ℕ) → at ≤ length old → new ≡ written at bytes old → at ≤ length new
+pub reaches : (at : ℕ) (bytes old new : List ℕ) → at ≤ length old → new ≡ with_bytes at bytes old → at ≤ length new
 reaches at bytes old new within is =
     let rest = drop (at + length bytes) old in
     let past : at ≤ length ((take at old ++ bytes) ++ rest) =
@@ -33,7 +33,7 @@ module _ (bytes : List ℕ) (content : BankContent) (has : HasContent bytes cont
   behind_gate image torn = inl (reads image content (kept bytes content has place place_is image torn.before))
 
   abbrev pub staged : List ℕ
-  staged = written (place + 1) framed bytes
+  staged = with_bytes (place + 1) framed bytes
 
   tail : List ℕ
   tail = drop (place + 1 + length framed) bytes
@@ -49,23 +49,24 @@ module _ (bytes : List ℕ) (content : BankContent) (has : HasContent bytes cont
   at_gate image torn =
       let long : place < length image = omega
       (arith, staged_inside bytes content has place place_is body tail staged fits staged_is, torn.no_shorter) in
-      ⊎_elim (λ shut. inl (reads image content shut)) (λ opened. inr (reads image (appended content body) opened))
+      ⊎_elim (λ shut. inl (reads image content shut)) (λ opened. inr (reads image (with_body content body) opened))
       (torn_gate bytes content has place place_is body tail staged fits staged_is image long torn.before torn.after)
 
-  pub gate_is_open : HasContent (written place (1 ∷ []) staged) (appended content body)
+  pub gate_is_open : HasContent (with_bytes place (1 ∷ []) staged) (with_body content body)
   gate_is_open =
-      opened_gate bytes content has place place_is body tail staged fits staged_is (written place (1 ∷ []) staged)
+      opened_gate bytes content has place place_is body tail staged fits staged_is (with_bytes place (1 ∷ []) staged)
       (append_assoc (take place staged) (1 ∷ []) (drop (place + 1) staged))
 
   -- in step again behind both
-  pub in_step_after : (may_leave : List ℕ → Type 0) (now next : List ℕ) → next ≡ written place (1 ∷ []) now
-      → now ≡ staged → Only next may_leave → IsInStep next may_leave (place + length framed) (appended content body)
+  pub in_step_after : (may_leave : List ℕ → Type 0) (now next : List ℕ) → next ≡ with_bytes place (1 ∷ []) now
+      → now ≡ staged → Only next may_leave → IsInStep next may_leave (place + length framed) (with_body content body)
   in_step_after may_leave now next next_is now_is settled =
-      let is : next ≡ written place (1 ∷ []) staged = next_is ∙ ap (λ (l : List ℕ). written place (1 ∷ []) l) now_is in
-      let has_next = subst (λ (l : List ℕ). HasContent l (appended content body)) (sym is) gate_is_open in
+      let is : next ≡ with_bytes place (1 ∷ []) staged =
+      next_is ∙ ap (λ (l : List ℕ). with_bytes place (1 ∷ []) l) now_is in
+      let has_next = subst (λ (l : List ℕ). HasContent l (with_body content body)) (sym is) gate_is_open in
       record {
         has = has_next;
-        reads = reads next (appended content body) has_next;
+        reads = reads next (with_body content body) has_next;
         gate = ap (λ (l : List ℕ). place + length l) framed_is
             ∙ next_gate bytes content has place place_is body tail staged fits staged_is;
         settled = settled;
@@ -129,7 +130,7 @@ module _ {D : Type 0} {clock : D → ℕ} {might : D → ℕ → Images → List
         (behind_gate bytes content step.has place step.gate body framed fits framed_is) first
 
     pub both_writes : {new : D} {then_may : Leaving} {then_said between : List ℕ} → then_said ≡ said
-        → LeavesNoMoreOfOthers file may_leave then_may → between ≡ written (place + 1) framed bytes
+        → LeavesNoMoreOfOthers file may_leave then_may → between ≡ with_bytes (place + 1) framed bytes
         → LeavesOnly clock might mid new (LeavesFile file then_may then_said (Torn place 1 between))
         → LeavesOnly clock might old new (LeavesFile file may_leave said (IsBeforeOrAfter content body))
     both_writes {new} {then_may} {then_said} {between} silent others between_is second =

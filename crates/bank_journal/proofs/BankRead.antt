@@ -10,7 +10,7 @@ use Rattle.std.proofs.lemmas.List.{take_at, drop_at, drop-drop, drop_more}
 use Rattle.byteorder.specs.Endian.{big_number}
 use Rattle.byteorder.specs.Numbers.{big_from-append, big_from-take}
 use Rattle.bank_journal.specs.declared.content.BankContent.{BankContent}
-use Rattle.bank_journal.specs.Bank.{AreRecords, IsShut, checkpoint_length, HasHeader, nothing, HasContent}
+use Rattle.bank_journal.specs.Bank.{AreRecords, IsShut, checkpoint_length, HasHeader, empty_content, HasContent}
 use Rattle.bank_journal.specs.Bank.{ReadsAs, HasFault}
 use Rattle.bank_journal.specs.Reading.{bodies_in, content_of, bank_of}
 use Rattle.bank_journal.proofs.Records.{ReadsBodies, LeavesCut, Tells, passed, tells, read_bodies, read_cut}
@@ -18,7 +18,7 @@ use Rattle.bank_journal.proofs.Records.{some_records}
 
 -- ---- the function by its cases
 
-pub short_bank : (bytes : List ℕ) → length bytes ≤ 9 → bank_of bytes ≡ Ok nothing
+pub short_bank : (bytes : List ℕ) → length bytes ≤ 9 → bank_of bytes ≡ Ok empty_content
 unfolding bank_of
 short_bank bytes short = rw (le-leb (length bytes) 9 short) refl
 

@@ -8,7 +8,7 @@ use Rattle.std.proofs.lemmas.List.Sums.{sum_by-cons, sum_by_push}
 use Rattle.byteorder.specs.Endian.{big_number, big_bytes}
 use Rattle.byteorder.specs.Numbers.{big_number-reads_back, length-bytes_high_first}
 use Rattle.bank_journal.specs.declared.content.BankContent.{BankContent}
-use Rattle.bank_journal.specs.Bank.{frame_of, IsBodyLength, IsOpen, BeginsRecord, AreRecords, nothing, appended}
+use Rattle.bank_journal.specs.Bank.{frame_of, IsBodyLength, IsOpen, BeginsRecord, AreRecords, empty_content, with_body}
 use Rattle.bank_journal.specs.Bank.{HasContent, gate_of, ReadsAs}
 
 -- ---- records alone
@@ -172,7 +172,7 @@ record_of gate body opened fits =
 
 pub front_more : (front : List ℕ) (content : BankContent) (gate : ℕ) (body : List ℕ) → IsFront front content
     → IsOpen gate → IsBodyLength (length body)
-    → IsFront (front ++ gate ∷ (big_bytes 4 (length body) ++ body)) (appended content body)
+    → IsFront (front ++ gate ∷ (big_bytes 4 (length body) ++ body)) (with_body content body)
 front_more front content gate body is opened fits =
     let more = gate ∷ (big_bytes 4 (length body) ++ body) in
     record {
@@ -190,7 +190,7 @@ front_more front content gate body is opened fits =
 -- nine bytes have room for no checkpoint and no record
 no_room : (checkpoint : List ℕ) (bodies : List (List ℕ))
     → 8 + length checkpoint + sum_by (λ body. 5 + length body) bodies ≤ 8
-    → record { checkpoint = checkpoint; bodies = bodies } ≡ nothing
+    → record { checkpoint = checkpoint; bodies = bodies } ≡ empty_content
 no_room checkpoint [] room =
     let none = nil_from_length checkpoint (omega arith) in
     ap (λ (l : List ℕ). record { checkpoint = l; bodies = [] }) none
@@ -280,15 +280,15 @@ module _ (old : List ℕ) (content : BankContent) (has : HasContent old content)
         ap (λ (l : List ℕ). front ++ gate ∷ l) inner ∙ sym (append_assoc front (gate ∷ (size_of ++ body)) (0 ∷ tail))
 
     opened_content : (gate : ℕ) → IsOpen gate
-        → HasContent (front ++ gate ∷ (frame_of body ++ tail)) (appended content body)
+        → HasContent (front ++ gate ∷ (frame_of body ++ tail)) (with_body content body)
     opened_content gate opened =
-        subst (λ (l : List ℕ). HasContent l (appended content body)) (sym (frame_parts gate))
-        (has_content (front ++ gate ∷ (big_bytes 4 (length body) ++ body)) 0 tail (appended content body)
+        subst (λ (l : List ℕ). HasContent l (with_body content body)) (sym (frame_parts gate))
+        (has_content (front ++ gate ∷ (big_bytes 4 (length body) ++ body)) 0 tail (with_body content body)
         (front_more front content gate body at_gate.is_front opened fits) (omega arith))
 
     -- any byte at the gate closes it, or opens it and the record counts
     pub torn_gate : (c : List ℕ) → place < length c → take place c ≡ take place staged
-        → drop (place + 1) c ≡ drop (place + 1) staged → HasContent c content ⊎ HasContent c (appended content body)
+        → drop (place + 1) c ≡ drop (place + 1) staged → HasContent c content ⊎ HasContent c (with_body content body)
     torn_gate c long before after =
         let gate = get_or c place 0 in
         let rest : drop place c ≡ gate ∷ (frame_of body ++ tail) = drop_more c place 0 long
@@ -297,7 +297,7 @@ module _ (old : List ℕ) (content : BankContent) (has : HasContent old content)
         sym (take-append-drop place c) ∙ ap (λ (l : List ℕ). l ++ drop place c) (before ∙ staged_front)
         ∙ ap (λ (l : List ℕ). front ++ l) rest in
         elim (cases_eq (gate % 2) 1) [
-          | inl opened ↦ inr (subst (λ (l : List ℕ). HasContent l (appended content body)) (sym whole)
+          | inl opened ↦ inr (subst (λ (l : List ℕ). HasContent l (with_body content body)) (sym whole)
               (opened_content gate opened))
           | inr shut ↦ inl (subst (λ (l : List ℕ). HasContent l content) (sym whole)
               (has_content front gate (frame_of body ++ tail) content at_gate.is_front shut))
@@ -305,14 +305,14 @@ module _ (old : List ℕ) (content : BankContent) (has : HasContent old content)
 
     -- the gate that is written open
     pub opened_gate : (c : List ℕ) → c ≡ take place staged ++ (1 ∷ [] ++ drop (place + 1) staged)
-        → HasContent c (appended content body)
+        → HasContent c (with_body content body)
     opened_gate c is =
         let whole : c ≡ front ++ 1 ∷ (frame_of body ++ tail) =
         is ∙ ap (λ (l : List ℕ). l ++ 1 ∷ drop (place + 1) staged) staged_front
         ∙ ap (λ (l : List ℕ). front ++ 1 ∷ l) staged_back in
-        subst (λ (l : List ℕ). HasContent l (appended content body)) (sym whole) (opened_content 1 refl)
+        subst (λ (l : List ℕ). HasContent l (with_body content body)) (sym whole) (opened_content 1 refl)
 
-    pub next_gate : place + length (frame_of body) ≡ gate_of (appended content body)
+    pub next_gate : place + length (frame_of body) ≡ gate_of (with_body content body)
     next_gate =
         let sizes : List ℕ → ℕ = λ b. 5 + length b in
         omega (

@@ -2,13 +2,13 @@
 use Rattle.std.proofs.Common.{◌≡◌, inl, inr, ℕ, ◌<◌, ◌≤◌, List, [], ◌∷◌, ◌++◌, length, Result, Ok}
 use Rattle.std.proofs.Common.{Err, IfOk, refl, sym, ◌∙◌, ap, subst, arith}
 use Rattle.std.proofs.lemmas.List.{drop_all}
-use Rattle.chart_ports.specs.Disk.{Only, Torn, written}
+use Rattle.chart_ports.specs.Disk.{Only, Torn, with_bytes}
 use Rattle.chart_ports.specs.Moments.{LeavesOnly}
 use Rattle.chart_ports.specs.declared.images.Images.{Images}
 use Rattle.bank_journal.specs.declared.bank.Bank.{Bank}
 use Rattle.bank_journal.specs.declared.content.BankContent.{BankContent}
 use Rattle.bank_journal.specs.declared.fault.BankFault.{BankFault}
-use Rattle.bank_journal.specs.Bank.{nothing, HasContent, gate_of, ReadsAs}
+use Rattle.bank_journal.specs.Bank.{empty_content, HasContent, gate_of, ReadsAs}
 use Rattle.bank_journal.specs.Handle.{place_of}
 use Rattle.bank_journal.specs.Moments.{IsInStep, LeavesFile, nine_zeros}
 use Rattle.bank_journal.specs.Reading.{bank_of}
@@ -17,7 +17,7 @@ use Rattle.bank_journal.proofs.BankRead.{reading_tells, short_bank}
 
 -- ---- a bank of at most nine bytes
 
-zeros_have_nothing : HasContent nine_zeros nothing
+zeros_have_nothing : HasContent nine_zeros empty_content
 zeros_have_nothing = record {
   size = 0 ∷ 0 ∷ 0 ∷ 0 ∷ 0 ∷ 0 ∷ 0 ∷ [];
   records = 0 ∷ [];
@@ -29,15 +29,15 @@ zeros_have_nothing = record {
   shut = record { gate = 0; behind = []; parts = refl; closed = omega arith };
 }
 
-pub zeros_written : (old : List ℕ) → length old ≤ 9 → written 0 nine_zeros old ≡ nine_zeros
+pub zeros_written : (old : List ℕ) → length old ≤ 9 → with_bytes 0 nine_zeros old ≡ nine_zeros
 zeros_written old short = ap (λ (l : List ℕ). nine_zeros ++ l) (drop_all 9 old short)
 
-pub zeros_in_step : (old next : List ℕ) (may_leave : List ℕ → Type 0) → length old ≤ 9 → next ≡ written 0 nine_zeros old
-    → Only next may_leave → IsInStep next may_leave 8 nothing
+pub zeros_in_step : (old next : List ℕ) (may_leave : List ℕ → Type 0) → length old ≤ 9
+    → next ≡ with_bytes 0 nine_zeros old → Only next may_leave → IsInStep next may_leave 8 empty_content
 zeros_in_step old next may_leave short next_is settled =
     let is : next ≡ nine_zeros = next_is ∙ zeros_written old short in
     record {
-      has = subst (λ (l : List ℕ). HasContent l nothing) (sym is) zeros_have_nothing;
+      has = subst (λ (l : List ℕ). HasContent l empty_content) (sym is) zeros_have_nothing;
       reads = short_bank next (omega (arith, ap length is));
       gate = refl;
       settled = settled;
@@ -78,11 +78,12 @@ read_in_step old next may_leave place content long reads gate same settled =
 -- ---- by the answers of the parts
 
 pub zeros_opened : (old next checkpoint : List ℕ) (bodies : List (List ℕ)) (may_leave : List ℕ → Type 0) (place : ℕ)
-    → length old ≤ 9 → next ≡ written 0 nine_zeros old → Only next may_leave → place ≡ 8 → checkpoint ≡ [] → bodies ≡ []
+    → length old ≤ 9 → next ≡ with_bytes 0 nine_zeros old → Only next may_leave → place ≡ 8
+    → checkpoint ≡ [] → bodies ≡ []
     → IsInStep next may_leave place (record { checkpoint = checkpoint; bodies = bodies })
 zeros_opened old next checkpoint bodies may_leave place short next_is settled place_is no_checkpoint no_bodies =
     let step = zeros_in_step old next may_leave short next_is settled in
-    let same : nothing ≡ record { checkpoint = checkpoint; bodies = bodies } = λ i. record
+    let same : empty_content ≡ record { checkpoint = checkpoint; bodies = bodies } = λ i. record
     { checkpoint = sym no_checkpoint i; bodies = sym no_bodies i } in
     subst (λ (p : ℕ). IsInStep next may_leave p (record { checkpoint = checkpoint; bodies = bodies })) (sym place_is)
     (subst (IsInStep next may_leave 8) same step)
@@ -99,10 +100,10 @@ read_opened_in_step old next bytes may_leave (Ok opened) same long reads gate ke
     ∙ reads) gate kept settled
 read_opened_in_step old next bytes may_leave (Err fault) same long reads gate kept settled = tt
 
-pub empty_content : (old : List ℕ) (result : Opened) → length old ≤ 9 → IfOk result (λ opened. opened.1 ≡ nothing)
+pub short_content : (old : List ℕ) (result : Opened) → length old ≤ 9 → IfOk result (λ opened. opened.1 ≡ empty_content)
     → IfOk result (λ opened. bank_of old ≡ Ok opened.1)
-empty_content old (Ok opened) short none = short_bank old short ∙ ap (λ (c : BankContent). Ok c) (sym none)
-empty_content old (Err fault) short none = tt
+short_content old (Ok opened) short none = short_bank old short ∙ ap (λ (c : BankContent). Ok c) (sym none)
+short_content old (Err fault) short none = tt
 
 pub still_settled : (may_leave then_may : List ℕ → Type 0) (old next : List ℕ) → Only old may_leave
     → ((image : List ℕ) → then_may image → may_leave image) → next ≡ old → Only next then_may

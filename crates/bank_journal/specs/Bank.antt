@@ -62,8 +62,8 @@ pub record HasHeader (bytes : List ℕ) : Type 0 where
 -- ---- the whole
 
 -- no checkpoint, and no record
-abbrev pub nothing : BankContent
-nothing = record { checkpoint = []; bodies = [] }
+abbrev pub empty_content : BankContent
+empty_content = record { checkpoint = []; bodies = [] }
 
 -- the layout 0, the checkpoint's length in seven bytes, the checkpoint, records with these bodies, a closed gate, and
 -- then anything
@@ -82,13 +82,13 @@ abbrev pub gate_of : BankContent → ℕ
 gate_of content = 8 + length content.checkpoint + sum_by (λ body. 5 + length body) content.bodies
 
 -- the content with one body more
-abbrev pub appended : BankContent → List ℕ → BankContent
-appended content body = record { checkpoint = content.checkpoint; bodies = content.bodies ++ body ∷ [] }
+abbrev pub with_body : BankContent → List ℕ → BankContent
+with_body content body = record { checkpoint = content.checkpoint; bodies = content.bodies ++ body ∷ [] }
 
--- the bytes read so: as nothing where there are at most nine, whatever they are; else as they say
+-- the bytes read so: as the empty content where there are at most nine, whatever they are; else as they say
 abbrev pub ReadsAs : List ℕ → BankContent → Type 0
 ReadsAs bytes content =
-    ((length bytes ≤ 9) × (content ≡ nothing)) ⊎ ((9 < length bytes) × HasContent bytes content)
+    ((length bytes ≤ 9) × (content ≡ empty_content)) ⊎ ((9 < length bytes) × HasContent bytes content)
 
 -- whole records stand up to this place, and there one is cut short
 pub record IsCutAt (bytes : List ℕ) (offset : ℕ) : Type 0 where

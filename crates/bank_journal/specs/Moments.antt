@@ -4,7 +4,7 @@ use Rattle.chart_ports.specs.declared.images.Images.{Images}
 use Rattle.chart_ports.specs.Disk.{Only}
 use Rattle.chart_ports.specs.Moments.{image_of}
 use Rattle.bank_journal.specs.declared.content.BankContent.{BankContent}
-use Rattle.bank_journal.specs.Bank.{appended, HasContent, gate_of}
+use Rattle.bank_journal.specs.Bank.{with_body, HasContent, gate_of}
 use Rattle.bank_journal.specs.Reading.{bank_of}
 
 -- the bytes of a bank's file have this content, with the closed gate at this place, and a crash leaves what a read
@@ -29,4 +29,4 @@ nine_zeros = 0 ∷ 0 ∷ 0 ∷ 0 ∷ 0 ∷ 0 ∷ 0 ∷ 0 ∷ 0 ∷ []
 
 -- the bytes read as the content before the record, or as the content with it
 abbrev pub IsBeforeOrAfter : BankContent → List ℕ → List ℕ → Type 0
-IsBeforeOrAfter content body bytes = (bank_of bytes ≡ Ok content) ⊎ (bank_of bytes ≡ Ok (appended content body))
+IsBeforeOrAfter content body bytes = (bank_of bytes ≡ Ok content) ⊎ (bank_of bytes ≡ Ok (with_body content body))

@@ -3,7 +3,7 @@ use Rattle.std.specs.Prelude.{ℕ, zero, suc, ◌+◌, ◌-◌, ◌%◌, ◌==�
 use Rattle.std.specs.Prelude.{◌++◌, length, take, drop, slice_index, Result, Ok, Err}
 use Rattle.byteorder.specs.Endian.{big_number}
 use Rattle.bank_journal.specs.declared.content.BankContent.{BankContent}
-use Rattle.bank_journal.specs.Bank.{checkpoint_length, nothing}
+use Rattle.bank_journal.specs.Bank.{checkpoint_length, empty_content}
 
 -- these bodies before those that are read
 abbrev pub behind_bodies : List (List ℕ) → Result (List (List ℕ)) ℕ → Result (List (List ℕ)) ℕ
@@ -35,7 +35,7 @@ content_of bytes (Err left) = Err (length bytes - left)
 -- the content of a bank with these bytes, or the place of the first fault
 unfoldable pub bank_of : List ℕ → Result BankContent ℕ
 bank_of bytes =
-    if nat_le (length bytes) 9 then Ok nothing
+    if nat_le (length bytes) 9 then Ok empty_content
     else if (slice_index bytes 0 == 0) && nat_lt (8 + checkpoint_length bytes) (length bytes)
     then content_of bytes (bodies_in (8 + checkpoint_length bytes) bytes)
     else Err 0

@@ -1,4 +1,7 @@
 //! An open bank.
+//!
+//! It keeps no bytes of its file: what is held is made of the records once, when the bank is
+//! opened, and from then on a bank is only added to.
 
 ghost use Rattle.std.specs.Prelude.{◌<◌};
 ghost use Rattle.std.specs.Int.{IsInRange};
@@ -30,7 +33,7 @@ impl Bank {
     ghost use Rattle.chart_ports.specs.Moments.{LeavesOnly};
     ghost use Rattle.bank_journal.specs.declared.content.BankContent.{BankContent as Content};
     ghost use Rattle.bank_journal.specs.declared.fault.AppendFault.TheVariants.{DeskFault, Full};
-    ghost use Rattle.bank_journal.specs.Bank.{appended, frame_of, IsBodyLength};
+    ghost use Rattle.bank_journal.specs.Bank.{with_body, frame_of, IsBodyLength};
     ghost use Rattle.bank_journal.specs.Fault.{FullHas, HasDeskCause};
     ghost use Rattle.bank_journal.specs.Handle.{file_of, place_of};
     ghost use Rattle.bank_journal.specs.Moments.{IsBeforeOrAfter, IsInStep, LeavesFile};
@@ -80,7 +83,7 @@ impl Bank {
             (place_of self.old) content →
             IsBodyLength (length body) → framed.now ≡ frame_of body →
             IsInStep (D.contents desk.new (file_of self.old)) (D.may_leave desk.new (file_of self.old))
-            (place_of self.new) (appended content body)) }
+            (place_of self.new) (with_body content body)) }
 
         // A crash at any moment of it leaves the records before it, or those and the new one.
         ensures moments { IsTrue D.tells → (content : Content) (body : List ℕ) →

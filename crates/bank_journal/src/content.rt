@@ -1,4 +1,6 @@
 //! What a bank holds.
+//!
+//! Bodies are bytes here. What they say is known to the crate above, which makes and reads them.
 
 use chart_model::{Octets, Sequence};
 

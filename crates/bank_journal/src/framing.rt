@@ -1,4 +1,6 @@
 //! Bodies in the form in which they are written.
+//!
+//! A body is framed before anything is written, so that want of memory leaves the disk as it is.
 
 ghost use Rattle.std.specs.Prelude.{◌≡◌, ◌+◌, IfOk, length};
 ghost use Rattle.bank_journal.specs.Bank.{frame_of, IsBodyLength};

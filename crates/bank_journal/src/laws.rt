@@ -1,4 +1,6 @@
 //! What holds of the bytes of banks.
+//!
+//! Contracts cite a function that reads a bank; the law ties it to what the bytes of a bank are.
 
 ghost use Rattle.std.specs.Prelude.{◌≡◌, ◌⊎◌, ◌↔◌, List, ℕ, Ok, Err};
 ghost use Rattle.bank_journal.specs.declared.content.BankContent.{BankContent as Content};

@@ -1,11 +1,13 @@
 //! A bank opened.
+//!
+//! It is read once and whole, so that what it holds is known before anything is written to it.
 
 ghost use Rattle.std.specs.Prelude.{◌≡◌, ◌<◌, ◌≤◌, Ok, Err, IfOk, IfErr, IsErrOf, IsTrue, OnOk, length};
 ghost use Rattle.std.specs.Int.{IsInRange};
 ghost use Rattle.chart_ports.specs.Disk.{LeavesNoMoreOfOthers, Only, SameFiles, SameOthers};
 ghost use Rattle.chart_ports.specs.Moments.{LeavesOnly};
 ghost use Rattle.bank_journal.specs.declared.fault.BankFault.TheVariants.{DeskFault};
-ghost use Rattle.bank_journal.specs.Bank.{gate_of, nothing};
+ghost use Rattle.bank_journal.specs.Bank.{gate_of, empty_content};
 ghost use Rattle.bank_journal.specs.Fault.{ForeignHas, HasDeskCause};
 ghost use Rattle.bank_journal.specs.Handle.{file_of, place_of};
 ghost use Rattle.bank_journal.specs.Moments.{IsInStep, LeavesFile, nine_zeros};
@@ -52,7 +54,7 @@ fn write_empty<D: Desk>(
     requires bank { IsInRange 1 2 file }
     requires short { IsTrue D.tells → length (D.contents desk.old file) ≤ 9 }
     requires settled { IsTrue D.tells → Only (D.contents desk.old file) (D.may_leave desk.old file) }
-    ensures content { IfOk result (λ opened. opened.1 ≡ nothing) }
+    ensures content { IfOk result (λ opened. opened.1 ≡ empty_content) }
     ensures file { IfOk result (λ opened. file_of opened.0 ≡ file) }
     ensures gate { IfOk result (λ opened. place_of opened.0 ≡ gate_of opened.1) }
     ensures in_step { IsTrue D.tells → IfOk result (λ opened.

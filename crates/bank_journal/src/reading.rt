@@ -1,4 +1,7 @@
 //! The content of a bank, from its bytes.
+//!
+//! The bytes are walked record by record: a length may be wrong, and what stands behind a closed
+//! gate does not count.
 
 ghost use Rattle.std.specs.Prelude.{◌≡◌, ◌+◌, ◌<◌, ◌≤◌, Ok, Err, IfOk, IfErr, IfSome, IfNone, length, drop};
 ghost use Rattle.std.specs.List.{sum_by};

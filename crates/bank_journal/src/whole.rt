@@ -1,9 +1,11 @@
 //! A whole file read, and bytes brought to the disk.
+//!
+//! All that a bank writes goes through here, so that no write is left without its sync.
 
 ghost use Rattle.std.specs.Prelude.{◌≡◌, ◌≤◌, IfOk, IfErr, IsTrue, OnOk, length};
 ghost use Rattle.chart_ports.specs.Count.{HasCause};
 ghost use Rattle.chart_ports.specs.Disk.{LeavesNoMore, LeavesNoMoreOfOthers, Only, SameFiles, SameOthers, Torn};
-ghost use Rattle.chart_ports.specs.Disk.{written};
+ghost use Rattle.chart_ports.specs.Disk.{with_bytes};
 ghost use Rattle.chart_ports.specs.Moments.{LeavesOnly};
 ghost use Rattle.bank_journal.specs.declared.fault.BankFault.TheVariants.{DeskFault};
 ghost use Rattle.bank_journal.specs.Fault.{ForeignHas, HasDeskCause};
@@ -55,7 +57,7 @@ pub(crate) fn write_through<D: Desk>(
     requires within { IsTrue D.tells → at ≤ length (D.contents desk.old file) }
     requires settled { IsTrue D.tells → Only (D.contents desk.old file) (D.may_leave desk.old file) }
     ensures done { IsTrue D.tells → OnOk result
-        (D.contents desk.new file ≡ written at bytes.now (D.contents desk.old file)) }
+        (D.contents desk.new file ≡ with_bytes at bytes.now (D.contents desk.old file)) }
     ensures settled { IsTrue D.tells → OnOk result (Only (D.contents desk.new file) (D.may_leave desk.new file)) }
     ensures others { IsTrue D.tells → SameOthers file (D.contents desk.old) (D.contents desk.new) }
     ensures crash_others { IsTrue D.tells → LeavesNoMoreOfOthers file (D.may_leave desk.old) (D.may_leave desk.new) }

@@ -12,7 +12,8 @@ use Rattle.std.specs.FinMap as map
 use Rattle.std.specs.FinMap.{find, nat_cmp-IsAntisymmetric}
 use Rattle.std.specs.FinMap.Entries.{below_all}
 use Rattle.chart_model.specs.declared.record.Attr.{Attr}
-use Rattle.chart_model.specs.Attrs.{Attrs, AreRising, attrs_of, put_attrs, merged, set_attr, set_attrs, texts_by_code, keeps_first, are_attributes}
+use Rattle.chart_model.specs.Attrs.{Attrs, AreRising, attrs_of, put_attrs, attrs_after, set_attr, set_attrs}
+use Rattle.chart_model.specs.Attrs.{texts_by_code, keeps_first, are_attributes}
 use Rattle.chart_model.proofs.Pages.{or_else, or_else-None, find-below}
 use Rattle.chart_model.proofs.AttrMaps.{attrs-empty}
 use Rattle.chart_model.proofs.Maps.{tied}
@@ -140,7 +141,9 @@ below-kept s settings (a ∷ kept) rising later =
     both _ _ (subst (λ o. T (is_lt o)) (sym low) tt) (below-further s.code a.code kept low (first _ _ rising))
 
 -- a setting that comes before the attributes
-pub set-first : (m : Attrs) (s : Attr) (settings kept : List Attr) → AreRising kept → keeps_first kept (s ∷ settings) ≡ false → merged (set_attr m s) kept settings ≡ merged m kept (s ∷ settings)
+pub set-first : (m : Attrs) (s : Attr) (settings kept : List Attr) → AreRising kept
+    → keeps_first kept (s ∷ settings) ≡ false
+    → attrs_after (set_attr m s) kept settings ≡ attrs_after m kept (s ∷ settings)
 set-first m s settings kept rising later =
     ap (λ n. set_attrs n settings) (put-all-later m s kept (below-kept s settings kept rising later))
 

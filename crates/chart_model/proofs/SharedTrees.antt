@@ -10,7 +10,7 @@ use Rattle.std.specs.Map.{keys_of, lookup}
 use Rattle.std.specs.BTreeMap.{is_at}
 use Rattle.std.specs.FinMap as map
 use Rattle.std.specs.FinMap.{FinMap, IsAntisymmetric}
-use Rattle.chart_model.specs.Shared.{held}
+use Rattle.chart_model.specs.Shared.{values_behind}
 use Rattle.chart_model.proofs.Trees.{get-seen, insert-tree, remove-tree, entries-tree}
 
 -- a fact that holds in any case
@@ -39,44 +39,52 @@ module _ {X Z : Type 0} where
   valued-cond false x y = refl
 
 module _ {K X Z : Type 0} where
-  lookup-held : (test : K → Bool) (es : List (K × Rc X Z)) → lookup test (held es) ≡ valued (lookup test es)
-  lookup-held test [] = refl
-  lookup-held test (e ∷ es) = ap (cond (test e.0) (Some e.1.value)) (lookup-held test es) ∙ sym (valued-cond (test e.0) (Some e.1) (lookup test es))
+  lookup-values : (test : K → Bool) (es : List (K × Rc X Z)) → lookup test (values_behind es) ≡ valued (lookup test es)
+  lookup-values test [] = refl
+  lookup-values test (e ∷ es) =
+      ap (cond (test e.0) (Some e.1.value)) (lookup-values test es)
+      ∙ sym (valued-cond (test e.0) (Some e.1) (lookup test es))
 
-  keys-held : (es : List (K × Rc X Z)) → keys_of (held es) ≡ keys_of es
-  keys-held [] = refl
-  keys-held (e ∷ es) = ap (λ ks. e.0 ∷ ks) (keys-held es)
+  keys-values : (es : List (K × Rc X Z)) → keys_of (values_behind es) ≡ keys_of es
+  keys-values [] = refl
+  keys-values (e ∷ es) = ap (λ ks. e.0 ∷ ks) (keys-values es)
 
   -- copies of the pointers hold what these hold
-  pub held-clones : (es copies : List (K × Rc X Z)) → AllZip (λ p q. (q.0 ≡ p.0) × (q.1.value ≡ p.1.value)) es copies → held copies ≡ held es
-  held-clones [] [] h = refl
-  held-clones [] (c ∷ copies) h = absurd h
-  held-clones (e ∷ es) [] h = absurd h
-  held-clones (e ∷ es) (c ∷ copies) h = λ i. (h.0.0 i, h.0.1 i) ∷ held-clones es copies h.1 i
+  pub values-clones : (es copies : List (K × Rc X Z))
+      → AllZip (λ p q. (q.0 ≡ p.0) × (q.1.value ≡ p.1.value)) es copies
+      → values_behind copies ≡ values_behind es
+  values-clones [] [] h = refl
+  values-clones [] (c ∷ copies) h = absurd h
+  values-clones (e ∷ es) [] h = absurd h
+  values-clones (e ∷ es) (c ∷ copies) h = λ i. (h.0.0 i, h.0.1 i) ∷ values-clones es copies h.1 i
 
   module _ {R : K → K → Ordering} (total : IsTotalOrder R) where
-    pub get-held : (es : List (K × Rc X Z)) (m : FinMap R X) (k : K) → map.from_entries (held es) ≡ m → valued (lookup (is_at (R k)) es) ≡ map.get m k
-    get-held es m k seen = sym (lookup-held (is_at (R k)) es) ∙ get-seen total (held es) m k seen
+    pub get-values : (es : List (K × Rc X Z)) (m : FinMap R X) (k : K) → map.from_entries (values_behind es) ≡ m
+        → valued (lookup (is_at (R k)) es) ≡ map.get m k
+    get-values es m k seen = sym (lookup-values (is_at (R k)) es) ∙ get-seen total (values_behind es) m k seen
 
-    pub entries-held : (es : List (K × Rc X Z)) (m : FinMap R X) → IsStrictlySortedBy R (keys_of es) → map.from_entries (held es) ≡ m → held es ≡ map.entries m
-    entries-held es m sorted seen =
-        sym (entries-tree total (held es) (subst (IsStrictlySortedBy R) (sym (keys-held es)) sorted)) ∙ ap map.entries seen
+    pub entries-values : (es : List (K × Rc X Z)) (m : FinMap R X) → IsStrictlySortedBy R (keys_of es)
+        → map.from_entries (values_behind es) ≡ m → values_behind es ≡ map.entries m
+    entries-values es m sorted seen =
+        sym (entries-tree total (values_behind es) (subst (IsStrictlySortedBy R) (sym (keys-values es)) sorted))
+        ∙ ap map.entries seen
 
     module _ (same : IsAntisymmetric R) (old new : List (K × Rc X Z)) (k : K) where
-      pub insert-held : (r : Rc X Z) → ((q : K) → lookup (is_at (R q)) new ≡ cond (is_at (R k) q) (Some r) (lookup (is_at (R q)) old))
-          → map.from_entries {R = R} (held new) ≡ map.insert (map.from_entries (held old)) k r.value
-      insert-held r is =
-          insert-tree total same (held old) (held new) k r.value (λ q.
-          lookup-held (is_at (R q)) new
+      pub insert-values : (r : Rc X Z)
+          → ((q : K) → lookup (is_at (R q)) new ≡ cond (is_at (R k) q) (Some r) (lookup (is_at (R q)) old))
+          → map.from_entries {R = R} (values_behind new) ≡ map.insert (map.from_entries (values_behind old)) k r.value
+      insert-values r is =
+          insert-tree total same (values_behind old) (values_behind new) k r.value (λ q.
+          lookup-values (is_at (R q)) new
           ∙ ap valued (is q)
           ∙ valued-cond (is_at (R k) q) (Some r) (lookup (is_at (R q)) old)
-          ∙ ap (cond (is_at (R k) q) (Some r.value)) (sym (lookup-held (is_at (R q)) old)))
+          ∙ ap (cond (is_at (R k) q) (Some r.value)) (sym (lookup-values (is_at (R q)) old)))
 
-      pub remove-held : ((q : K) → lookup (is_at (R q)) new ≡ cond (is_at (R k) q) None (lookup (is_at (R q)) old))
-          → map.from_entries {R = R} (held new) ≡ map.remove (map.from_entries (held old)) k
-      remove-held is =
-          remove-tree total same (held old) (held new) k (λ q.
-          lookup-held (is_at (R q)) new
+      pub remove-values : ((q : K) → lookup (is_at (R q)) new ≡ cond (is_at (R k) q) None (lookup (is_at (R q)) old))
+          → map.from_entries {R = R} (values_behind new) ≡ map.remove (map.from_entries (values_behind old)) k
+      remove-values is =
+          remove-tree total same (values_behind old) (values_behind new) k (λ q.
+          lookup-values (is_at (R q)) new
           ∙ ap valued (is q)
           ∙ valued-cond (is_at (R k) q) None (lookup (is_at (R q)) old)
-          ∙ ap (cond (is_at (R k) q) None) (sym (lookup-held (is_at (R q)) old)))
+          ∙ ap (cond (is_at (R k) q) None) (sym (lookup-values (is_at (R q)) old)))

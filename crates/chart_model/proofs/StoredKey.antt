@@ -2,15 +2,15 @@
 use Rattle.std.proofs.Common.{◌≡◌, ℕ, ◌-◌, List, length, take, replicate, arith}
 use Rattle.std.proofs.lemmas.List.{length-append, length-replicate}
 use Rattle.std.proofs.Math.Seq.{take-append_seam, drop-append_seam}
-use Rattle.chart_model.specs.Key.{IsKey, IsStored, stored}
+use Rattle.chart_model.specs.Key.{IsKey, IsStored, key_cells}
 
-pub take-stored : (bytes : List ℕ) → take (length bytes) (stored bytes) ≡ bytes
-take-stored bytes = take-append_seam bytes (replicate (32 - length bytes) 0)
+pub take-key_cells : (bytes : List ℕ) → take (length bytes) (key_cells bytes) ≡ bytes
+take-key_cells bytes = take-append_seam bytes (replicate (32 - length bytes) 0)
 
-pub IsStored-stored : (bytes : List ℕ) → IsKey bytes → IsStored (stored bytes) (length bytes)
-IsStored-stored bytes key = record {
+pub IsStored-key_cells : (bytes : List ℕ) → IsKey bytes → IsStored (key_cells bytes) (length bytes)
+IsStored-key_cells bytes key = record {
   long = simp (length-append, length-replicate) (omega (arith, key.short));
-  key = rw take-stored key;
+  key = rw take-key_cells key;
   fits = key.short;
   rest = drop-append_seam bytes (replicate (32 - length bytes) 0);
 }

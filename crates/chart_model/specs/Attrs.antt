@@ -39,9 +39,9 @@ set_attrs attrs settings = fold set_attr attrs settings
 abbrev pub put_attrs : Attrs → List Attr → Attrs
 put_attrs attrs kept = fold (λ m attr. map.insert m attr.code attr.value) attrs kept
 
--- settings of what attributes leave that are put
-abbrev pub merged : Attrs → List Attr → List Attr → Attrs
-merged attrs kept settings = set_attrs (put_attrs attrs kept) settings
+-- the attributes once those that are kept are put, and then the settings are made
+abbrev pub attrs_after : Attrs → List Attr → List Attr → Attrs
+attrs_after attrs kept settings = set_attrs (put_attrs attrs kept) settings
 
 -- whether an attribute comes before the settings: its code isn't above theirs
 abbrev pub keeps_first : List Attr → List Attr → Bool

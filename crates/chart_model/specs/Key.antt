@@ -27,14 +27,15 @@ pub record IsStored (cells : List ℕ) (length_of_key : ℕ) : Type 0 where
   pub fits : length_of_key ≤ 32
   pub rest : drop length_of_key cells ≡ replicate (32 - length_of_key) 0
 
-abbrev pub stored : List ℕ → List ℕ
-stored bytes = bytes ++ replicate (32 - length bytes) 0
+-- the 32 bytes in which a key is stored
+abbrev pub key_cells : List ℕ → List ℕ
+key_cells bytes = bytes ++ replicate (32 - length bytes) 0
 
-pub length-taken : (cells : List ℕ) (n : ℕ) → IsStored cells n → length (take n cells) ≡ n
-length-taken cells n h = length-take-le n cells (omega (arith, h.long, h.fits))
+pub length-take-key : (cells : List ℕ) (n : ℕ) → IsStored cells n → length (take n cells) ≡ n
+length-take-key cells n h = length-take-le n cells (omega (arith, h.long, h.fits))
 
-pub stored-taken : (cells : List ℕ) (n : ℕ) → IsStored cells n → stored (take n cells) ≡ cells
-stored-taken cells n h =
-    ap (λ (k : ℕ). take n cells ++ replicate (32 - k) 0) (length-taken cells n h)
+pub key_cells-take : (cells : List ℕ) (n : ℕ) → IsStored cells n → key_cells (take n cells) ≡ cells
+key_cells-take cells n h =
+    ap (λ (k : ℕ). take n cells ++ replicate (32 - k) 0) (length-take-key cells n h)
     ∙ ap (λ (l : List ℕ). take n cells ++ l) (sym h.rest)
     ∙ take-append-drop n cells

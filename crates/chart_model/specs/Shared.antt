@@ -4,5 +4,5 @@ use Rattle.std.specs.Prelude as list
 use Rattle.std.specs.declared.rc.Rc.{Rc}
 
 -- each pointer's value in its place
-abbrev pub held : {K X Z : Type 0} → List (K × Rc X Z) → List (K × X)
-held es = list.map (λ e. (e.0, e.1.value)) es
+abbrev pub values_behind : {K X Z : Type 0} → List (K × Rc X Z) → List (K × X)
+values_behind es = list.map (λ e. (e.0, e.1.value)) es

@@ -1,4 +1,7 @@
 //! The attributes of a record by their codes.
+//!
+//! A record may be given one setting or thousands: a few are made in their places, and many in one
+//! pass over the attributes.
 
 ghost use Rattle.std.specs.Prelude.{◌≡◌, ◌+◌, ◌<◌, ◌≤◌, IfOk, IfErr, OnOk, OnErr, length, nat_eq, ◌∷◌, []};
 ghost use Rattle.std.specs.Option.{option_copied};
@@ -10,7 +13,7 @@ ghost use Rattle.std.specs.Cmp.Lexicographic.{pointwise};
 ghost use Rattle.std.specs.Vec.{vec_len, vec_capacity};
 ghost use Rattle.std.specs.VecDeque.{deque_len};
 ghost use Rattle.std.specs.FinMap as map;
-ghost use Rattle.chart_model.specs.Attrs.{AreRising, attrs_of, are_attributes, keeps_first, merged};
+ghost use Rattle.chart_model.specs.Attrs.{AreRising, attrs_of, are_attributes, keeps_first, attrs_after};
 ghost use Rattle.chart_model.specs.Attrs.{set_attr, set_attrs, texts_by_code};
 
 use crate::octets::Octets;
@@ -162,8 +165,8 @@ fn step(attrs: &mut Vec<Attr>, kept: &mut VecDeque<Attr>, given: &mut VecDeque<A
     requires kept { AreRising kept.old.items }
     requires room { vec_len attrs.old + deque_len kept.old + deque_len given.old ≤ vec_capacity attrs.old }
     requires some { 0 < deque_len kept.old + deque_len given.old }
-    ensures map { merged (attrs_of attrs.new.items) kept.new.items given.new.items
-        ≡ merged (attrs_of attrs.old.items) kept.old.items given.old.items }
+    ensures map { attrs_after (attrs_of attrs.new.items) kept.new.items given.new.items
+        ≡ attrs_after (attrs_of attrs.old.items) kept.old.items given.old.items }
     ensures rising { AreRising attrs.new.items }
     ensures kept { AreRising kept.new.items }
     ensures room { vec_len attrs.new + deque_len kept.new + deque_len given.new ≤ vec_capacity attrs.new }
@@ -184,7 +187,7 @@ fn merge(attrs: &mut Vec<Attr>, mut kept: VecDeque<Attr>, mut given: VecDeque<At
     requires rising { AreRising attrs.old.items }
     requires kept { AreRising kept.items }
     requires room { vec_len attrs.old + deque_len kept + deque_len given ≤ vec_capacity attrs.old }
-    ensures map { attrs_of attrs.new.items ≡ merged (attrs_of attrs.old.items) kept.items given.items }
+    ensures map { attrs_of attrs.new.items ≡ attrs_after (attrs_of attrs.old.items) kept.items given.items }
     ensures rising { AreRising attrs.new.items }
 {
     while !kept.is_empty() || !given.is_empty() {

@@ -1,4 +1,7 @@
 //! Changes of what is held.
+//!
+//! They stand beside the plain values since the store, and what writes its journal, both speak of
+//! them.
 
 use crate::key::Key;
 use crate::octets::Octets;

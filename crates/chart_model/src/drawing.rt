@@ -1,4 +1,6 @@
 //! What is drawn of a feature.
+//!
+//! It stands here so that what draws and what prints a drawing need not know of each other.
 
 ghost use Rattle.std.specs.Prelude.{◌≡◌, IfOk};
 

@@ -1,4 +1,7 @@
 //! The name under which a cell is kept.
+//!
+//! Commands, replies and files name cells by it, so what it may be is tested once, where it is
+//! made.
 
 ghost use Rattle.std.specs.Prelude.{◌≡◌, ◌≤◌, ◌↔◌, ℕ, true, List, length, IsTrue, All};
 ghost use Rattle.std.specs.Option.{SomeIff};
@@ -7,7 +10,7 @@ ghost use Rattle.std.specs.Ordering.{as_partial_cmp};
 ghost use Rattle.std.specs.Cmp.{partial_equiv_from_equiv};
 ghost use Rattle.std.specs.Cmp.Lexicographic.{nat_list_cmp_total, nat_list_eq_equiv, pointwise, texts_po, texts_ties};
 ghost use Rattle.chart_model.specs.Keys.{key_cmp};
-ghost use Rattle.chart_model.specs.Key.{IsKey, IsVisible, is_key as tests_key, stored};
+ghost use Rattle.chart_model.specs.Key.{IsKey, IsVisible, is_key as tests_key, key_cells};
 
 use std::cmp::Ordering;
 use std::marker::Model;
@@ -27,7 +30,7 @@ pub struct Key {
 
 impl Model for Key {
     ghost use Rattle.std.specs.Prelude.{List, ℕ, length, take};
-    ghost use Rattle.chart_model.specs.Key.{IsStored, stored, length-taken, stored-taken};
+    ghost use Rattle.chart_model.specs.Key.{IsStored, key_cells, length-take-key, key_cells-take};
 
     ghost Value = { List ℕ };
 
@@ -35,11 +38,11 @@ impl Model for Key {
 
     ghost invariant = { λ key. IsStored key.cells key.len };
 
-    ghost inverse = { λ bytes. record { cells = stored bytes; len = length bytes } };
+    ghost inverse = { λ bytes. record { cells = key_cells bytes; len = length bytes } };
 
     ghost inverse_ok = { λ key h i. record {
-      cells = stored-taken key.cells key.len h i;
-      len = length-taken key.cells key.len h i;
+      cells = key_cells-take key.cells key.len h i;
+      len = length-take-key key.cells key.len h i;
     } };
 }
 
@@ -65,7 +68,7 @@ pub fn keys_are_tested()
 /// The bytes with zeros behind them.
 fn cells_of(bytes: &[u8]) -> [u8; 32]
     requires { length bytes.now ≤ LIMIT }
-    ensures { result ≡ stored bytes.now }
+    ensures { result ≡ key_cells bytes.now }
 {
     let mut cells = [0; 32];
     cells[..bytes.len()].copy_from_slice(bytes);

@@ -1,4 +1,7 @@
 //! Values by the keys of cells.
+//!
+//! Their order is the one in which cells are told. What is there can be exchanged or taken out
+//! without memory, so that nothing fails once a command is in the journal.
 
 ghost use Rattle.std.specs.Prelude.{◌≡◌, List, ℕ, if◌then◌else◌, OnOk, OnErr};
 ghost use Rattle.std.specs.Option.{option_copied, unwrap_or};

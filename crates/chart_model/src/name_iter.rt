@@ -6,7 +6,7 @@ ghost use Rattle.std.specs.FinMap as map;
 ghost use Rattle.std.specs.Map.Iter.{TakesFirst, ShowsInOrder, ShowsValuesInOrder, deref_pair};
 ghost use Rattle.chart_model.specs.declared.name.Name.{Name};
 ghost use Rattle.chart_model.specs.Pages.{flatten, AreFull};
-ghost use Rattle.chart_model.specs.Shared.{held};
+ghost use Rattle.chart_model.specs.Shared.{values_behind};
 
 use crate::name::Name;
 use crate::page::Page;
@@ -29,20 +29,20 @@ impl<'a, V> Model for NameIter<'a, V> {
     ghost use Rattle.std.specs.Prelude.{List, ◌++◌};
     ghost use Rattle.chart_model.specs.declared.name.Name.{Name};
     ghost use Rattle.chart_model.specs.Pages.{flatten, AreFull};
-    ghost use Rattle.chart_model.specs.Shared.{held};
+    ghost use Rattle.chart_model.specs.Shared.{values_behind};
 
     ghost Value = { List (Name × V) };
 
-    ghost view = { λ walk. walk.records.now ++ flatten (held walk.pages) };
+    ghost view = { λ walk. walk.records.now ++ flatten (values_behind walk.pages) };
 
-    ghost invariant = { λ walk. AreFull (held walk.pages) };
+    ghost invariant = { λ walk. AreFull (values_behind walk.pages) };
 }
 
 impl<'a, V: Drop> NameIter<'a, V> {
     /// A walk over pages, each with a record at least.
     pub(crate) fn over(pages: Iter<'a, PageName, Rc<Page<Shared<V>>>>) -> NameIter<'a, V>
-        requires { AreFull (held pages) }
-        ensures { result ≡ flatten (held pages.entry) }
+        requires { AreFull (values_behind pages) }
+        ensures { result ≡ flatten (values_behind pages.entry) }
     {
         NameIter {
             pages,

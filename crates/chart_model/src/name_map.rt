@@ -1,4 +1,7 @@
 //! Values by the names of records.
+//!
+//! An update touches few records of a chart. So the chart after it shares all others with the chart
+//! before, which stays whole.
 
 ghost use Rattle.std.specs.Prelude.{◌≡◌, ◌+◌, if◌then◌else◌, None, IfOk, OnOk, OnErr, IfSome, IsSome};
 ghost use Rattle.std.specs.Option.{option_copied};

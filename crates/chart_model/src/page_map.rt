@@ -5,7 +5,7 @@ ghost use Rattle.std.specs.Option.{option_copied};
 ghost use Rattle.std.specs.FinMap as map;
 ghost use Rattle.chart_model.specs.Pages.{page_of};
 ghost use Rattle.chart_model.specs.Names.{edited_in};
-ghost use Rattle.chart_model.specs.Shared.{held};
+ghost use Rattle.chart_model.specs.Shared.{values_behind};
 
 use crate::name::Name;
 use crate::name_map::Edit;
@@ -47,13 +47,13 @@ pub struct PageMap<T> {
 impl<T> Model for PageMap<T> {
     ghost use Rattle.std.specs.FinMap as map;
     ghost use Rattle.chart_model.specs.Pages.{page_cmp, page_code};
-    ghost use Rattle.chart_model.specs.Shared.{held};
+    ghost use Rattle.chart_model.specs.Shared.{values_behind};
 
     ghost Value = { map.FinMap page_cmp T };
 
     ghost coded = { map.code page_code T.code };
 
-    ghost view = { λ pages. map.from_entries (held pages.tree.entries) };
+    ghost view = { λ pages. map.from_entries (values_behind pages.tree.entries) };
 }
 
 impl<T: Drop> PageMap<T> {
@@ -126,7 +126,7 @@ impl<T: Drop> PageMap<T> {
 
     /// The pages in the names' order. It takes no memory.
     pub fn iter(&self) -> Iter<'_, PageName, Rc<T>>
-        ensures { held result ≡ map.entries self.now }
+        ensures { values_behind result ≡ map.entries self.now }
     {
         self.tree.iter()
     }

@@ -1,4 +1,6 @@
 //! What the mariner sets for the display.
+//!
+//! What is drawn of a chart depends on these and on the lookup table alone.
 
 /// How many shades depth areas are drawn in.
 #[derive(Clone, Copy, Debug, PartialEq, Eq)]

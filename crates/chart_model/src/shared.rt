@@ -1,4 +1,6 @@
 //! Values that copies share.
+//!
+//! A record is large beside a pointer to it, and only one that is edited needs a copy.
 
 ghost use Rattle.std.specs.Prelude.{◌≡◌, IfOk, OnOk, OnErr};
 

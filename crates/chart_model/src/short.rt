@@ -1,4 +1,7 @@
 //! A few bytes, in place.
+//!
+//! A chart has many texts of attributes, and most are short: a block of memory for each would cost
+//! more than its bytes.
 
 ghost use Rattle.std.specs.Prelude.{◌≡◌, ◌≤◌, length};
 ghost use Rattle.std.specs.Option.{SomeIff};

@@ -1,4 +1,7 @@
 //! A change of one record.
+//!
+//! The records of a base file are insertions, and those of an update any changes, so one type says
+//! both.
 
 use crate::name::{Foid, Name};
 use crate::record::{AttrList, Coords, Pointers, RelatedList};

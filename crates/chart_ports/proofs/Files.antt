@@ -3,7 +3,7 @@ use Rattle.std.proofs.Common.{inl, inr, ◌+◌, ◌++◌, min, length, take, dr
 use Rattle.std.proofs.Common.{List, [], refl, arith}
 use Rattle.std.proofs.lemmas.Bool.{cases_eq}
 use Rattle.std.proofs.lemmas.List.{take_all, drop_all}
-use Rattle.chart_ports.specs.Disk.{written}
+use Rattle.chart_ports.specs.Disk.{with_bytes}
 use Rattle.chart_ports.specs.Log.{with_image}
 use Rattle.chart_ports.specs.Moments.{image_of}
 use Rattle.chart_ports.specs.declared.images.Images.{Images}
@@ -31,14 +31,15 @@ with_image_beyond images (suc (suc zero)) bytes a b c = absurd (c refl)
 with_image_beyond images (suc (suc (suc n))) bytes a b c = refl
 
 -- bytes behind the end are written at the end
-pub written_min : (at : ℕ) (bytes file : List ℕ) → written (min (length file) at) bytes file ≡ written at bytes file
-written_min at bytes file = elim (cases_eq (min (length file) at) at) [
-  | inl same ↦ ap (λ k. written k bytes file) same
+pub with_bytes_min : (at : ℕ) (bytes file : List ℕ)
+    → with_bytes (min (length file) at) bytes file ≡ with_bytes at bytes file
+with_bytes_min at bytes file = elim (cases_eq (min (length file) at) at) [
+  | inl same ↦ ap (λ k. with_bytes k bytes file) same
   | inr differs ↦
       let short : length file ≤ at = omega (arith, differs) in
       let is : min (length file) at ≡ length file = omega (arith, short) in
       let behind : length file ≤ at + length bytes = omega (arith, short) in
-      ap (λ k. written k bytes file) is
+      ap (λ k. with_bytes k bytes file) is
       ∙ ap (λ (l : List ℕ). l ++ bytes ++ drop (length file + length bytes) file)
       (take_all (length file) file (omega arith) ∙ sym (take_all at file short))
       ∙ ap (λ (l : List ℕ). take at file ++ bytes ++ l)

@@ -5,9 +5,9 @@ use Rattle.std.proofs.Common.{arith, length-append, length-take, length-drop}
 use Rattle.std.proofs.lemmas.List.{take_at, take-take}
 use Rattle.std.proofs.lemmas.Slice.{drop-append-drop}
 use Rattle.std.specs.Prelude.{vec_capacity, vec_len}
-use Rattle.chart_ports.specs.Disk.{CutShort, IsPlace, LeavesNoLess, Only, SameFiles, Torn, written}
-use Rattle.chart_ports.specs.Log.{Event, Might, SaysInside, Settled, State, Touched, after, leaves_after, leaves_inside}
-use Rattle.chart_ports.specs.Log.{files_after, opened, said_after, stepped, with_image}
+use Rattle.chart_ports.specs.Disk.{CutShort, IsPlace, LeavesNoLess, Only, SameFiles, Torn, with_bytes}
+use Rattle.chart_ports.specs.Log.{Event, IsLeftBySync, IsLeftByTouch, IsLeftSince, SaysInside, State, after, after_call}
+use Rattle.chart_ports.specs.Log.{disk_with, files_after, leaves_after, leaves_inside, said_after, with_image}
 use Rattle.chart_ports.specs.MemoryDisk.{HasRoom, Keeps, Logs, SaysOnly, Stays, Touches, clock_of, contents_of, events}
 use Rattle.chart_ports.specs.MemoryDisk.{leaves_of}
 use Rattle.chart_ports.specs.MemoryDisk.{might_of, said_of, state_of}
@@ -42,7 +42,7 @@ not_done false logged cause both = not_true (cause both.1)
 
 -- a write of a front of the bytes is a torn write of them all
 torn_written : (at done : ℕ) (bytes file : List ℕ) → at ≤ length file
-    → Torn at (length bytes) file (written at (take done bytes) file)
+    → Torn at (length bytes) file (with_bytes at (take done bytes) file)
 torn_written at done bytes file within =
     let front = take done bytes in
     let at_place : length (take at file) ≡ at = omega (arith, length-take at file) in
@@ -77,43 +77,43 @@ torn_written at done bytes file within =
 
 -- what the files and what was said are after one more call
 pub files_step : (start files now : Images) (before events : List Event) (deed : Deed) (bytes : List ℕ)
-    → files ≡ (after (opened start) before).files → events ≡ before ++ (deed, bytes) ∷ []
+    → files ≡ (after (disk_with start) before).files → events ≡ before ++ (deed, bytes) ∷ []
     → now ≡ files_after files deed bytes
-    → now ≡ (after (opened start) events).files
+    → now ≡ (after (disk_with start) events).files
 files_step start files now before events deed bytes was logged is =
     is ∙ ap (λ (f : Images). files_after f deed bytes) was
-    ∙ sym (ap (λ (s : State). s.files) (after_push (opened start) before (deed, bytes)))
-    ∙ ap (λ (es : List Event). (after (opened start) es).files) (sym logged)
+    ∙ sym (ap (λ (s : State). s.files) (after_push (disk_with start) before (deed, bytes)))
+    ∙ ap (λ (es : List Event). (after (disk_with start) es).files) (sym logged)
 
 pub said_step : (start : Images) (said now : List ℕ) (before events : List Event) (deed : Deed) (bytes : List ℕ)
-    → said ≡ (after (opened start) before).said → events ≡ before ++ (deed, bytes) ∷ []
+    → said ≡ (after (disk_with start) before).said → events ≡ before ++ (deed, bytes) ∷ []
     → now ≡ said_after said deed bytes
-    → now ≡ (after (opened start) events).said
+    → now ≡ (after (disk_with start) events).said
 said_step start said now before events deed bytes was logged is =
     is ∙ ap (λ (l : List ℕ). said_after l deed bytes) was
-    ∙ sym (ap (λ (s : State). s.said) (after_push (opened start) before (deed, bytes)))
-    ∙ ap (λ (es : List Event). (after (opened start) es).said) (sym logged)
+    ∙ sym (ap (λ (s : State). s.said) (after_push (disk_with start) before (deed, bytes)))
+    ∙ ap (λ (es : List Event). (after (disk_with start) es).said) (sym logged)
 
 -- the same where a call leaves the files, or what is said, and may not be logged
 pub files_same : {T E : Type 0} (start files : Images) (before events : List Event) (deed : Deed) (bytes : List ℕ)
     (result : Result T E)
     → OnOk result (events ≡ before ++ (deed, bytes) ∷ []) → OnErr result (events ≡ before)
-    → files ≡ (after (opened start) before).files → files ≡ files_after files deed bytes
-    → files ≡ (after (opened start) events).files
+    → files ≡ (after (disk_with start) before).files → files ≡ files_after files deed bytes
+    → files ≡ (after (disk_with start) events).files
 files_same start files before events deed bytes (Ok x) ok err was still =
     files_step start files files before events deed bytes was ok still
 files_same start files before events deed bytes (Err e) ok err was still = was
-    ∙ ap (λ (es : List Event). (after (opened start) es).files) (sym err)
+    ∙ ap (λ (es : List Event). (after (disk_with start) es).files) (sym err)
 
 pub said_same : {T E : Type 0} (start : Images) (said : List ℕ) (before events : List Event) (deed : Deed)
     (bytes : List ℕ) (result : Result T E)
     → OnOk result (events ≡ before ++ (deed, bytes) ∷ []) → OnErr result (events ≡ before)
-    → said ≡ (after (opened start) before).said → said ≡ said_after said deed bytes
-    → said ≡ (after (opened start) events).said
+    → said ≡ (after (disk_with start) before).said → said ≡ said_after said deed bytes
+    → said ≡ (after (disk_with start) events).said
 said_same start said before events deed bytes (Ok x) ok err was still =
     said_step start said said before events deed bytes was ok still
 said_same start said before events deed bytes (Err e) ok err was still = was
-    ∙ ap (λ (es : List Event). (after (opened start) es).said) (sym err)
+    ∙ ap (λ (es : List Event). (after (disk_with start) es).said) (sym err)
 
 -- room for so many bytes is room for fewer
 pub file_room_less : (files : MemoryFiles) (m n : ℕ) → m ≤ n → HasFileRoom files n → HasFileRoom files m
@@ -137,17 +137,17 @@ room_logged log pool said files calls n room = record {
 }
 
 module _ (old new : MemoryDisk) where
-  pub state_logged : (event : Event) → Logs old new event → state_of new ≡ stepped (state_of old) event
+  pub state_logged : (event : Event) → Logs old new event → state_of new ≡ after_call (state_of old) event
   state_logged event logs =
-      let moved : state_of new ≡ after (opened old.start) (events old ++ event ∷ []) =
-      λ i. after (opened (logs.start i)) (logs.events i) in
-      moved ∙ after_push (opened old.start) (events old) event
+      let moved : state_of new ≡ after (disk_with old.start) (events old ++ event ∷ []) =
+      λ i. after (disk_with (logs.start i)) (logs.events i) in
+      moved ∙ after_push (disk_with old.start) (events old) event
 
   pub state_stays : Stays old new → state_of new ≡ state_of old
-  state_stays stays = λ i. after (opened (stays.start i)) (stays.events i)
+  state_stays stays = λ i. after (disk_with (stays.start i)) (stays.events i)
 
   pub here : (file : ℕ) → leaves_of old file (contents_of old file)
-  here = present_after (opened old.start) (events old) (λ file. refl)
+  here = present_after (disk_with old.start) (events old) (λ file. refl)
 
   time_logged : (event : Event) → Logs old new event
       → Elapses (clock_of old) (clock_of new) (might_of old) (might_of new)
@@ -155,22 +155,22 @@ module _ (old new : MemoryDisk) where
   time_logged event logs =
       let inside = leaves_inside (state_of old) event.0 event.1 in
       let says = SaysInside (said_of old) event.0 event.1 in
-      let one = elapses_one (opened old.start) (events old) event here in
+      let one = elapses_one (disk_with old.start) (events old) event here in
       let logged = subst (λ (es : List Event).
-      Elapses (clock_of old) (length es) (might_of old) (Might (opened old.start) es) inside says)
+      Elapses (clock_of old) (length es) (might_of old) (IsLeftSince (disk_with old.start) es) inside says)
       (sym logs.events) one in
       subst (λ (start : Images). Elapses (clock_of old) (clock_of new) (might_of old)
-      (Might (opened start) (events new)) inside says) (sym logs.start) logged
+      (IsLeftSince (disk_with start) (events new)) inside says) (sym logs.start) logged
 
   time_stays : (may_leave : ℕ → List ℕ → Type 0) (says : List ℕ → Type 0) → Stays old new
       → Elapses (clock_of old) (clock_of new) (might_of old) (might_of new) may_leave says
   time_stays may_leave says stays =
-      let none = elapses_none (opened old.start) (events old) may_leave says in
+      let none = elapses_none (disk_with old.start) (events old) may_leave says in
       let same = subst (λ (es : List Event).
-      Elapses (clock_of old) (length es) (might_of old) (Might (opened old.start) es) may_leave says)
+      Elapses (clock_of old) (length es) (might_of old) (IsLeftSince (disk_with old.start) es) may_leave says)
       (sym stays.events) none in
       subst (λ (start : Images). Elapses (clock_of old) (clock_of new) (might_of old)
-      (Might (opened start) (events new)) may_leave says) (sym stays.start) same
+      (IsLeftSince (disk_with start) (events new)) may_leave says) (sym stays.start) same
 
   keeps_stays : Stays old new → Keeps old new
   keeps_stays stays = record {
@@ -211,20 +211,21 @@ module _ (old new : MemoryDisk) where
   only_synced file bytes logs image left =
       settled (subst (λ (s : State). s.leaves file image) (state_logged _ logs) left)
     where
-      settled : Settled file (contents_of old file) (leaves_of old) file image → image ≡ contents_of old file
+      settled : IsLeftBySync file (contents_of old file) (leaves_of old) file image → image ≡ contents_of old file
       settled (inl elsewhere) = absurd (elsewhere.0 refl)
       settled (inr is) = is.1
 
   -- what touches one file leaves the outcomes of the others
   untouched : (step : List ℕ → List ℕ → Type 0) (file : ℕ) (now : List ℕ) (other : ℕ) (image : List ℕ) → other ≢ file
-      → Touched step file now (leaves_of old) other image → leaves_of old other image
+      → IsLeftByTouch step file now (leaves_of old) other image → leaves_of old other image
   untouched step file now other image differs (inl elsewhere) = elsewhere.1
   untouched step file now other image differs (inr (inl is)) = absurd (differs is.0)
   untouched step file now other image differs (inr (inr is)) = absurd (differs is.0)
 
   touched : (step : List ℕ → List ℕ → Type 0) (file : ℕ) (now : List ℕ) → step (contents_of old file) now
       → (image : List ℕ)
-      → Touched step file now (leaves_of old) file image → (from : List ℕ) × leaves_of old file from × step from image
+      → IsLeftByTouch step file now (leaves_of old) file image
+      → (from : List ℕ) × leaves_of old file from × step from image
   touched step file now steps image (inl elsewhere) = absurd (elsewhere.0 refl)
   touched step file now steps image (inr (inl is)) =
       (contents_of old file, here file, subst (λ (i : List ℕ). step (contents_of old file) i) (sym is.1) steps)
@@ -244,7 +245,7 @@ module _ (old new : MemoryDisk) where
       → Logs old new (Write file at done, bytes)
       → Touches (Torn at (length bytes)) file old new
   touches_write file at done bytes place logs =
-      let now = written at (take done bytes) (contents_of old file) in
+      let now = with_bytes at (take done bytes) (contents_of old file) in
       let moved = state_logged _ logs in
       let files = with_image (state_of old).files file now in
       let is_now : image_of files file ≡ now = image_of_with (state_of old).files file now place.is_file in
@@ -301,7 +302,7 @@ module _ (old new : MemoryDisk) where
 
   -- the file that was written, or cut, as a read then gives it
   contents_written : (file at done : ℕ) (bytes : List ℕ) → file ≤ 2 → Logs old new (Write file at done, bytes)
-      → contents_of new file ≡ written at (take done bytes) (contents_of old file)
+      → contents_of new file ≡ with_bytes at (take done bytes) (contents_of old file)
   contents_written file at done bytes is_file logs =
       ap (λ (s : State). image_of s.files file) (state_logged _ logs)
       ∙ image_of_with (state_of old).files file _ is_file
@@ -371,7 +372,7 @@ module _ (old new : MemoryDisk) where
   pub now_written : (file at done : ℕ) (bytes : List ℕ) (logged : Bool)
       → (IsTrue logged → IsPlace (contents_of old) file at)
       → (IsTrue logged → Logs old new (Write file at done, bytes)) → IsTrue logged
-      → contents_of new file ≡ written at (take done bytes) (contents_of old file)
+      → contents_of new file ≡ with_bytes at (take done bytes) (contents_of old file)
   now_written file at done bytes logged place logs is =
       contents_written file at done bytes ((place is).is_file) (logs is)
 

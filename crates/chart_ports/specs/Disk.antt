@@ -12,8 +12,8 @@ pub record IsPlace (contents : ℕ → List ℕ) (file at : ℕ) : Type 0 where
   pub within : at ≤ length (contents file)
 
 -- the bytes of a file after these were written at a place: over what was there, and past its end
-abbrev pub written : ℕ → List ℕ → List ℕ → List ℕ
-written at bytes file = take at file ++ bytes ++ drop (at + length bytes) file
+abbrev pub with_bytes : ℕ → List ℕ → List ℕ → List ℕ
+with_bytes at bytes file = take at file ++ bytes ++ drop (at + length bytes) file
 
 -- What a crash leaves in or after a write of n bytes at a place, where it might have left old before: any bytes in the
 -- range, all others as they were, and a length from the old one to the end of the range.

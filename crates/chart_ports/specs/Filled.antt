@@ -1,6 +1,6 @@
 -- The images that a desk in memory picks of those that a crash may leave.
 use Rattle.std.specs.Prelude.{ℕ, ◌-◌, true, false, List, [], ◌∷◌, ◌++◌, length, take, replicate}
-use Rattle.chart_ports.specs.Disk.{written}
+use Rattle.chart_ports.specs.Disk.{with_bytes}
 use Rattle.chart_ports.specs.Log.{Event, files_after, with_image}
 use Rattle.chart_ports.specs.Moments.{image_of}
 use Rattle.chart_ports.specs.declared.images.Fill.{Fill}
@@ -20,12 +20,13 @@ kept_after fill kept files Nothing bytes = kept
 kept_after Old kept files (Write file at done) bytes = kept
 kept_after New kept files (Write file at done) bytes = kept
 kept_after Ones kept files (Write file at done) bytes =
-    with_image kept file (take (length (image_of files file)) (written at (ones (length bytes)) (image_of kept file)))
+    with_image kept file
+    (take (length (image_of files file)) (with_bytes at (ones (length bytes)) (image_of kept file)))
 kept_after Old kept files (Cut file n done) bytes = kept
 kept_after New kept files (Cut file n done) bytes = kept
 kept_after Ones kept files (Cut file n true) bytes = with_image kept file (take n (image_of kept file))
 kept_after Ones kept files (Cut file n false) bytes =
-    with_image kept file (written n (ones (length (image_of kept file) - n)) (image_of kept file))
+    with_image kept file (with_bytes n (ones (length (image_of kept file) - n)) (image_of kept file))
 kept_after fill kept files (Sync file true) bytes = with_image kept file (image_of files file)
 kept_after fill kept files (Sync file false) bytes = kept
 kept_after fill kept files (Say done) bytes = kept
@@ -47,15 +48,15 @@ abbrev pub at_length : ℕ → List ℕ → List ℕ
 at_length n bytes = take n bytes ++ replicate (n - length bytes) 0
 
 -- the images by a fill, at the lengths of the files
-abbrev pub picked : Fill → Images → Images → Images
-picked Old files kept = record {
+abbrev pub images_by : Fill → Images → Images → Images
+images_by Old files kept = record {
   head = at_length (length files.head) kept.head;
   bank1 = at_length (length files.bank1) kept.bank1;
   bank2 = at_length (length files.bank2) kept.bank2;
 }
-picked New files kept = files
-picked Ones files kept = kept
+images_by New files kept = files
+images_by Ones files kept = kept
 
 -- the images after the calls of a log, from these files on
-abbrev pub filled : Fill → Images → List Event → Images
-filled fill start events = picked fill (files_through start events) (kept_through fill start start events)
+abbrev pub images_after : Fill → Images → List Event → Images
+images_after fill start events = images_by fill (files_through start events) (kept_through fill start start events)

@@ -1,6 +1,6 @@
 -- What a log of calls on a disk of three files makes of it: the files, what a crash may leave, and what was said.
 use Rattle.std.specs.Prelude.{ℕ, zero, suc, ◌+◌, ◌≡◌, ◌≢◌, ◌⊎◌, true, false, List, [], ◌∷◌, ◌++◌, length, take, drop}
-use Rattle.chart_ports.specs.Disk.{CutShort, Torn, written}
+use Rattle.chart_ports.specs.Disk.{CutShort, Torn, with_bytes}
 use Rattle.chart_ports.specs.Moments.{MayBeLeft, image_of}
 use Rattle.chart_ports.specs.Said.{SaysFront}
 use Rattle.chart_ports.specs.declared.images.Images.{Images}
@@ -36,24 +36,24 @@ pub record State : Type 1 where
   pub said : List ℕ
 
 -- a disk with these files, all of them on the disk, that has said nothing
-abbrev pub opened : Images → State
-opened files = record { files = files; leaves = λ file image. image ≡ image_of files file; said = [] }
+abbrev pub disk_with : Images → State
+disk_with files = record { files = files; leaves = λ file image. image ≡ image_of files file; said = [] }
 
 -- What a crash may leave after a file was touched: of another file what it might have left before; of this one what a
 -- read now gives, or what comes by this step from what it might have left before.
-abbrev pub Touched : (List ℕ → List ℕ → Type 0) → ℕ → List ℕ → (ℕ → List ℕ → Type 0) → ℕ → List ℕ → Type 0
-Touched step file now old other image = ((other ≢ file) × old other image)
+abbrev pub IsLeftByTouch : (List ℕ → List ℕ → Type 0) → ℕ → List ℕ → (ℕ → List ℕ → Type 0) → ℕ → List ℕ → Type 0
+IsLeftByTouch step file now old other image = ((other ≢ file) × old other image)
     ⊎ (((other ≡ file) × (image ≡ now)) ⊎ ((other ≡ file) × ((from : List ℕ) × old file from × step from image)))
 
 -- what a crash may leave after a file was brought to the disk
-abbrev pub Settled : ℕ → List ℕ → (ℕ → List ℕ → Type 0) → ℕ → List ℕ → Type 0
-Settled file now old other image = ((other ≢ file) × old other image) ⊎ ((other ≡ file) × (image ≡ now))
+abbrev pub IsLeftBySync : ℕ → List ℕ → (ℕ → List ℕ → Type 0) → ℕ → List ℕ → Type 0
+IsLeftBySync file now old other image = ((other ≢ file) × old other image) ⊎ ((other ≡ file) × (image ≡ now))
 
 -- the files after a call
 abbrev pub files_after : Images → Deed → List ℕ → Images
 files_after files Nothing bytes = files
 files_after files (Write file at done) bytes =
-    with_image files file (written at (take done bytes) (image_of files file))
+    with_image files file (with_bytes at (take done bytes) (image_of files file))
 files_after files (Cut file n true) bytes = with_image files file (take n (image_of files file))
 files_after files (Cut file n false) bytes = files
 files_after files (Sync file done) bytes = files
@@ -63,11 +63,11 @@ files_after files (Say done) bytes = files
 abbrev pub leaves_after : State → Deed → List ℕ → ℕ → List ℕ → Type 0
 leaves_after disk Nothing bytes = disk.leaves
 leaves_after disk (Write file at done) bytes =
-    Touched (Torn at (length bytes)) file
+    IsLeftByTouch (Torn at (length bytes)) file
     (image_of (files_after disk.files (Write file at done) bytes) file) disk.leaves
 leaves_after disk (Cut file n done) bytes =
-    Touched (CutShort n) file (image_of (files_after disk.files (Cut file n done) bytes) file) disk.leaves
-leaves_after disk (Sync file true) bytes = Settled file (image_of disk.files file) disk.leaves
+    IsLeftByTouch (CutShort n) file (image_of (files_after disk.files (Cut file n done) bytes) file) disk.leaves
+leaves_after disk (Sync file true) bytes = IsLeftBySync file (image_of disk.files file) disk.leaves
 leaves_after disk (Sync file false) bytes = disk.leaves
 leaves_after disk (Say done) bytes = disk.leaves
 
@@ -96,8 +96,8 @@ SaysInside said (Sync file done) bytes now = now ≡ said
 SaysInside said (Say done) bytes now = SaysFront said bytes now
 
 -- the disk after a call
-abbrev pub stepped : State → Event → State
-stepped disk event = record {
+abbrev pub after_call : State → Event → State
+after_call disk event = record {
   files = files_after disk.files event.0 event.1;
   leaves = leaves_after disk event.0 event.1;
   said = said_after disk.said event.0 event.1;
@@ -106,21 +106,22 @@ stepped disk event = record {
 -- the disk after the calls of a log
 abbrev pub after : State → List Event → State
 after disk [] = disk
-after disk (event ∷ events) = after (stepped disk event) events
+after disk (event ∷ events) = after (after_call disk event) events
 
 -- a crash between two calls leaves this, with this said
-abbrev pub Between : State → Images → List ℕ → Type 0
-Between disk images said = MayBeLeft disk.leaves images × (said ≡ disk.said)
+abbrev pub IsLeftBetween : State → Images → List ℕ → Type 0
+IsLeftBetween disk images said = MayBeLeft disk.leaves images × (said ≡ disk.said)
 
 -- a crash inside a call leaves this, with this said by then
-abbrev pub Inside : State → Event → Images → List ℕ → Type 0
-Inside disk event images said =
+abbrev pub IsLeftInside : State → Event → Images → List ℕ → Type 0
+IsLeftInside disk event images said =
     MayBeLeft (leaves_inside disk event.0 event.1) images × SaysInside disk.said event.0 event.1 said
 
 -- A crash at a moment since the t-th call of a log was done leaves this, with this said by then: before the next call,
 -- inside it, or after it.
-abbrev pub Might : State → List Event → ℕ → Images → List ℕ → Type 0
-Might disk [] t images said = Between disk images said
-Might disk (event ∷ events) zero images said =
-    Between disk images said ⊎ (Inside disk event images said ⊎ Might (stepped disk event) events zero images said)
-Might disk (event ∷ events) (suc t) images said = Might (stepped disk event) events t images said
+abbrev pub IsLeftSince : State → List Event → ℕ → Images → List ℕ → Type 0
+IsLeftSince disk [] t images said = IsLeftBetween disk images said
+IsLeftSince disk (event ∷ events) zero images said =
+    IsLeftBetween disk images said
+    ⊎ (IsLeftInside disk event images said ⊎ IsLeftSince (after_call disk event) events zero images said)
+IsLeftSince disk (event ∷ events) (suc t) images said = IsLeftSince (after_call disk event) events t images said

@@ -1,7 +1,7 @@
 -- What contracts see of a disk in memory.
 use Rattle.std.specs.Prelude.{ℕ, ◌+◌, ◌≤◌, ◌≡◌, List, ◌∷◌, [], ◌++◌, length, vec_len, vec_capacity}
 use Rattle.chart_ports.specs.Disk.{Follows, LeavesNoMore, LeavesNoMoreOfOthers, SameFiles, SameOthers}
-use Rattle.chart_ports.specs.Log.{Event, Might, State, after, events_of, opened}
+use Rattle.chart_ports.specs.Log.{Event, IsLeftSince, State, after, disk_with, events_of}
 use Rattle.chart_ports.specs.MemoryFiles.{HasFileRoom}
 use Rattle.chart_ports.specs.Moments.{Elapses, image_of}
 use Rattle.chart_ports.specs.Said.{SaysFront}
@@ -18,7 +18,7 @@ events disk = events_of disk.log.items disk.bytes.items
 
 -- what its log makes of it
 abbrev pub state_of : MemoryDisk → State
-state_of disk = after (opened disk.start) (events disk)
+state_of disk = after (disk_with disk.start) (events disk)
 
 -- what a read of the file of a number gives
 abbrev pub contents_of : MemoryDisk → ℕ → List ℕ
@@ -38,7 +38,7 @@ clock_of disk = length (events disk)
 
 -- what a crash at a moment from that one on could have left
 abbrev pub might_of : MemoryDisk → ℕ → Images → List ℕ → Type 0
-might_of disk = Might (opened disk.start) (events disk)
+might_of disk = IsLeftSince (disk_with disk.start) (events disk)
 
 -- there is room for so many calls, and for so many bytes written or said
 pub record HasRoom (disk : MemoryDisk) (calls bytes : ℕ) : Type 0 where

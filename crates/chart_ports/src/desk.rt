@@ -5,7 +5,7 @@ ghost use Rattle.std.specs.Prelude.{length, min, take, drop};
 ghost use Rattle.std.specs.Prelude as list;
 ghost use Rattle.chart_ports.specs.Count.{HasCause};
 ghost use Rattle.chart_ports.specs.Disk.{CutShort, Follows, LeavesNoMore, LeavesNoMoreOfOthers, Only};
-ghost use Rattle.chart_ports.specs.Disk.{SameFiles, SameOthers, Torn, written};
+ghost use Rattle.chart_ports.specs.Disk.{SameFiles, SameOthers, Torn, with_bytes};
 ghost use Rattle.chart_ports.specs.Moments.{Elapses, MayBeLeft};
 ghost use Rattle.chart_ports.specs.Said.{SaysFront};
 ghost use Rattle.chart_ports.specs.declared.images.Images.{Images};
@@ -80,7 +80,7 @@ pub trait Desk {
         requires is_file { file ≤ 2 }
         requires within { IsTrue tells → at ≤ length (contents self.old file) }
         ensures written { IsTrue tells →
-            OnOk result (contents self.new file ≡ written at bytes.now (contents self.old file)) }
+            OnOk result (contents self.new file ≡ with_bytes at bytes.now (contents self.old file)) }
         ensures others { IsTrue tells → SameOthers file (contents self.old) (contents self.new) }
         ensures said { IsTrue tells → said self.new ≡ said self.old }
 

@@ -1,4 +1,6 @@
 //! The bytes of a file that was fetched.
+//!
+//! Contracts compare files as lists, whatever room their vectors have left.
 
 ghost use Rattle.std.specs.Prelude.{◌≡◌, IfOk};
 

@@ -1,4 +1,7 @@
 //! The bytes of the three files of a desk.
+//!
+//! A crash can leave many images of what the calls wrote. The fills pick three of them, which tests
+//! go over.
 
 use crate::file_bytes::FileBytes;
 

@@ -1,4 +1,7 @@
 //! The calls that a desk in memory has logged.
+//!
+//! From the log alone it is known what a read gives, and what a crash at each moment could have
+//! left.
 
 /// What a call did. The bytes that it wrote or said stand apart.
 #[derive(Clone, Copy, Debug, PartialEq, Eq)]

@@ -5,7 +5,7 @@ ghost use Rattle.std.specs.Prelude.{IsTrue, length, min, take, drop};
 ghost use Rattle.chart_ports.specs.Count.{HasCause};
 ghost use Rattle.chart_ports.specs.Disk.{CutShort, Follows, IsPlace, LeavesNoLess, LeavesNoMore};
 ghost use Rattle.chart_ports.specs.Disk.{LeavesNoMoreOfOthers, Only};
-ghost use Rattle.chart_ports.specs.Disk.{SameFiles, SameOthers, Torn, written};
+ghost use Rattle.chart_ports.specs.Disk.{SameFiles, SameOthers, Torn, with_bytes};
 ghost use Rattle.chart_ports.specs.Moments.{Elapses, image_of};
 ghost use Rattle.chart_ports.specs.Said.{SaysFront};
 ghost use Rattle.chart_ports.specs.declared.images.Images.{Images};
@@ -56,8 +56,8 @@ fn tail(bytes: &[u8], at: u64) -> &[u8]
 
 impl MemoryDesk {
     ghost use Rattle.chart_ports.specs.Calls.{IsNew};
-    ghost use Rattle.chart_ports.specs.Filled.{filled};
-    ghost use Rattle.chart_ports.specs.Log.{after, opened};
+    ghost use Rattle.chart_ports.specs.Filled.{images_after};
+    ghost use Rattle.chart_ports.specs.Log.{after, disk_with};
     ghost use Rattle.chart_ports.specs.MemoryDesk.{HasRoom, IsOpened, Stays, calls_of, events, said_of, start_of};
 
     /// A desk whose files are empty, and that has said nothing. It takes no memory.
@@ -122,11 +122,11 @@ impl MemoryDesk {
     /// moment, with each uncertain byte as the fill says.
     pub fn image_after(&self, alloc: Global, calls: u64, fill: Fill) -> Result<Images, AllocError>
         ensures filled { IfOk result (λ images.
-            images ≡ filled fill (start_of self.now) (take calls (events self.now))) }
+            images ≡ images_after fill (start_of self.now) (take calls (events self.now))) }
 
         // With new bytes it is what a read of the files then gave.
         ensures read { fill ≡ Fill.New → IfOk result (λ images.
-            images ≡ (after (opened (start_of self.now)) (take calls (events self.now))).files) }
+            images ≡ (after (disk_with (start_of self.now)) (take calls (events self.now))).files) }
     {
         self.disk.image_after(alloc, calls as usize, fill)
     }
@@ -215,7 +215,8 @@ impl Desk for MemoryDesk {
 
     fn write_at(&mut self, file: u8, at: u64, bytes: &[u8]) -> Result<(), Failed>
         ensures place { OnOk result (IsPlace (contents_of self.old) file at) }
-        ensures written { OnOk result (contents_of self.new file ≡ written at bytes.now (contents_of self.old file)) }
+        ensures written { OnOk result
+            (contents_of self.new file ≡ with_bytes at bytes.now (contents_of self.old file)) }
         ensures others { SameOthers file (contents_of self.old) (contents_of self.new) }
         ensures said { said_of self.new ≡ said_of self.old }
         ensures crash { Follows (Torn at (length bytes.now)) (leaves_of self.old file) (leaves_of self.new file) }
@@ -232,7 +233,8 @@ impl Desk for MemoryDesk {
             IsToFail (calls_of self.old) }
         ensures half { IsPlace (contents_of self.old) file at → HasRoom self.old 1 (length bytes.now) →
             IsToFail (calls_of self.old) →
-            contents_of self.new file ≡ written at (take (length bytes.now / 2) bytes.now) (contents_of self.old file) }
+            contents_of self.new file
+            ≡ with_bytes at (take (length bytes.now / 2) bytes.now) (contents_of self.old file) }
         ensures kept { (calls n : ℕ) → HasRoom self.old (calls + 1) (n + length bytes.now) → HasRoom self.new calls n }
         ensures calls { CountsDeskCall (calls_of self.old) (calls_of self.new) (IsErr result) }
     {

@@ -1,9 +1,11 @@
 //! A disk in memory that logs its calls.
+//!
+//! All its calls can be done. Those that have to fail are the matter of the desk around it.
 
 ghost use Rattle.std.specs.Prelude.{◌≡◌, ◌+◌, ◌≤◌, ◌++◌, [], ◌∷◌, List, ℕ, IfOk, IsOk, IsTrue, OnErr, OnOk};
 ghost use Rattle.std.specs.Prelude.{length, take, vec_capacity, vec_len};
-ghost use Rattle.chart_ports.specs.Disk.{CutShort, IsPlace, LeavesNoLess, Only, SameFiles, Torn, written};
-ghost use Rattle.chart_ports.specs.Log.{after, events_of, opened, size_of};
+ghost use Rattle.chart_ports.specs.Disk.{CutShort, IsPlace, LeavesNoLess, Only, SameFiles, Torn, with_bytes};
+ghost use Rattle.chart_ports.specs.Log.{after, disk_with, events_of, size_of};
 ghost use Rattle.chart_ports.specs.MemoryFiles.{files_in};
 
 use crate::images::{Fill, Images};
@@ -24,8 +26,8 @@ pub struct MemoryDisk {
     /// The bytes that the calls were given, one after the other.
     pub bytes: Vec<u8>,
     ghost sized: { size_of log.items ≡ length bytes.items },
-    ghost files_in_step: { files_in files ≡ (after (opened start) (events_of log.items bytes.items)).files },
-    ghost said_in_step: { said.items ≡ (after (opened start) (events_of log.items bytes.items)).said },
+    ghost files_in_step: { files_in files ≡ (after (disk_with start) (events_of log.items bytes.items)).files },
+    ghost said_in_step: { said.items ≡ (after (disk_with start) (events_of log.items bytes.items)).said },
 }
 
 /// Logs a call, with the bytes that it was given.
@@ -60,7 +62,7 @@ fn push_call(
 impl MemoryDisk {
     ghost use Rattle.chart_ports.specs.MemoryDisk.{HasRoom, Keeps, Logs, SaysOnly, Stays, Touches};
     ghost use Rattle.chart_ports.specs.MemoryDisk.{contents_of, events, leaves_of, said_of, start_of};
-    ghost use Rattle.chart_ports.specs.Filled.{filled};
+    ghost use Rattle.chart_ports.specs.Filled.{images_after};
     ghost use Rattle.chart_ports.specs.Log.{files_after, said_after};
     ghost use Rattle.chart_ports.specs.declared.images.Images.{Images};
 
@@ -92,7 +94,8 @@ impl MemoryDisk {
     /// The images after so many of the calls of the log, or after all, at the lengths of that moment.
     #[tactic(auto, using(crate::proofs::Events::events_of_front, crate::proofs::Events::size_of_take))]
     pub fn image_after(&self, alloc: Global, calls: usize, fill: Fill) -> Result<Images, AllocError>
-        ensures { IfOk result (λ images. images ≡ filled fill (start_of self.now) (take calls (events self.now))) }
+        ensures { IfOk result (λ images.
+            images ≡ images_after fill (start_of self.now) (take calls (events self.now))) }
     {
         let mut files = MemoryFiles::copy_of(alloc, &self.start)?;
         let mut kept = MemoryFiles::copy_of(alloc, &self.start)?;
@@ -140,7 +143,7 @@ impl MemoryDisk {
         requires { done ≤ length bytes.now }
         ensures touches { Touches (Torn at (length bytes.now)) file self.old self.new }
         ensures written { IsTrue result →
-            contents_of self.new file ≡ written at (take done bytes.now) (contents_of self.old file) }
+            contents_of self.new file ≡ with_bytes at (take done bytes.now) (contents_of self.old file) }
         ensures place { IsTrue result → IsPlace (contents_of self.old) file at }
         ensures succeeds { IsPlace (contents_of self.old) file at → HasRoom self.old 1 (length bytes.now) →
             IsTrue result }

@@ -1,7 +1,9 @@
 //! Three files in memory.
+//!
+//! What a call needs is reserved before it is logged, so that the log and the files stay in step.
 
 ghost use Rattle.std.specs.Prelude.{◌≡◌, ◌+◌, ◌≤◌, ◌++◌, ℕ, IfOk, IsOk, OnOk, length, take, vec_capacity, vec_len};
-ghost use Rattle.chart_ports.specs.Disk.{written};
+ghost use Rattle.chart_ports.specs.Disk.{with_bytes};
 ghost use Rattle.chart_ports.specs.Log.{with_image};
 ghost use Rattle.chart_ports.specs.Moments.{image_of};
 
@@ -32,7 +34,7 @@ pub fn append(to: &mut Vec<u8>, bytes: &[u8])
 fn overwrite(file: &mut Vec<u8>, at: usize, bytes: &[u8])
     requires place { at ≤ vec_len file.old }
     requires room { at + length bytes.now ≤ vec_capacity file.old }
-    ensures written { file.new.items ≡ written at bytes.now file.old.items }
+    ensures written { file.new.items ≡ with_bytes at bytes.now file.old.items }
     ensures capacity { vec_capacity file.old ≤ vec_capacity file.new }
 {
     let over = bytes.len().min(file.len() - at);
@@ -41,9 +43,9 @@ fn overwrite(file: &mut Vec<u8>, at: usize, bytes: &[u8])
 }
 
 /// The same, with room taken for them, and at the end where the place is behind it.
-#[tactic(auto, using(crate::proofs::Files::written_min))]
+#[tactic(auto, using(crate::proofs::Files::with_bytes_min))]
 fn put_over(file: &mut Vec<u8>, at: u64, bytes: &[u8]) -> Result<(), AllocError>
-    ensures { OnOk result (file.new.items ≡ written at bytes.now file.old.items) }
+    ensures { OnOk result (file.new.items ≡ with_bytes at bytes.now file.old.items) }
 {
     file.reserve(bytes.len())?;
     let place = file.len().min(at as usize);
@@ -93,7 +95,7 @@ impl MemoryFiles {
         requires place { at ≤ length (image_of (files_in self.old) file) }
         requires room { HasFileRoom self.old (length bytes.now) }
         ensures files { files_in self.new ≡ with_image (files_in self.old) file
-            (written at bytes.now (image_of (files_in self.old) file)) }
+            (with_bytes at bytes.now (image_of (files_in self.old) file)) }
         ensures kept { (n : ℕ) → HasFileRoom self.old (n + length bytes.now) → HasFileRoom self.new n }
     {
         match file {
@@ -107,7 +109,7 @@ impl MemoryFiles {
     #[tactic(auto, using(crate::proofs::Files::with_image_beyond))]
     pub fn put(&mut self, file: u8, at: u64, bytes: &[u8]) -> Result<(), AllocError>
         ensures { OnOk result (files_in self.new ≡ with_image (files_in self.old) file
-            (written at bytes.now (image_of (files_in self.old) file))) }
+            (with_bytes at bytes.now (image_of (files_in self.old) file))) }
     {
         match file {
             0 => put_over(&mut self.head, at, bytes),

@@ -1,8 +1,8 @@
 //! What a log of calls leaves, call by call, with the bytes that are uncertain filled.
 
 ghost use Rattle.std.specs.Prelude.{◌≡◌, ◌≤◌, ◌-◌, List, ℕ, OnOk, IfOk, length, take};
-ghost use Rattle.chart_ports.specs.Disk.{written};
-ghost use Rattle.chart_ports.specs.Filled.{files_through, kept_after, kept_through, ones, picked};
+ghost use Rattle.chart_ports.specs.Disk.{with_bytes};
+ghost use Rattle.chart_ports.specs.Filled.{files_through, images_by, kept_after, kept_through, ones};
 ghost use Rattle.chart_ports.specs.Log.{events_of, files_after, size_of, with_image};
 ghost use Rattle.chart_ports.specs.MemoryFiles.{files_in};
 ghost use Rattle.chart_ports.specs.Moments.{image_of};
@@ -41,7 +41,7 @@ fn fill_write(
     end: usize,
 ) -> Result<(), AllocError>
     ensures { OnOk result (files_in kept.new ≡ with_image (files_in kept.old) file
-        (take end (written at (ones count) (image_of (files_in kept.old) file)))) }
+        (take end (with_bytes at (ones count) (image_of (files_in kept.old) file)))) }
 {
     let filling = vec![in alloc; 0xff; count]?;
     kept.put(file, at, &filling)?;
@@ -52,7 +52,7 @@ fn fill_write(
 /// Fills what is behind a cut that was not done with ones.
 fn fill_cut(alloc: Global, kept: &mut MemoryFiles, file: u8, at: u64) -> Result<(), AllocError>
     ensures { OnOk result (files_in kept.new ≡ with_image (files_in kept.old) file
-        (written at (ones (length (image_of (files_in kept.old) file) - at)) (image_of (files_in kept.old) file))) }
+        (with_bytes at (ones (length (image_of (files_in kept.old) file) - at)) (image_of (files_in kept.old) file))) }
 {
     let count = (kept.bytes(file).len() as u64).saturating_sub(at);
     let filling = vec![in alloc; 0xff; count as usize]?;
@@ -152,7 +152,7 @@ pub fn replay(
 
 /// The images by a fill, at the lengths of the files.
 pub fn pick(files: MemoryFiles, kept: MemoryFiles, fill: Fill) -> Result<Images, AllocError>
-    ensures { IfOk result (λ images. images ≡ picked fill (files_in files) (files_in kept)) }
+    ensures { IfOk result (λ images. images ≡ images_by fill (files_in files) (files_in kept)) }
 {
     let mut kept = kept;
     match fill {

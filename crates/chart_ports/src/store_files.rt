@@ -1,4 +1,6 @@
 //! The three files of a store, in a folder of their own.
+//!
+//! The folders are brought to the disk too, or a crash could leave a store without its files.
 
 ghost use Rattle.std.specs.Prelude.{◌≤◌, IfOk, OnOk, length};
 

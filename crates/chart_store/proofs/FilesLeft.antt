@@ -6,7 +6,7 @@ use Rattle.chart_ports.specs.Moments.{images_of}
 use Rattle.chart_ports.specs.declared.images.Images.{Images}
 use Rattle.bank_journal.specs.declared.fault.BankFault.{BankFault}
 use Rattle.bank_journal.specs.declared.fault.BankFault.TheVariants as banks
-use Rattle.bank_journal.specs.Bank.{gate_of, nothing}
+use Rattle.bank_journal.specs.Bank.{gate_of, empty_content}
 use Rattle.bank_journal.specs.Fault as of_bank
 use Rattle.bank_journal.specs.Reading.{bank_of}
 use Rattle.bank_journal.proofs.BankRead.{short_bank}
@@ -23,7 +23,7 @@ faulty_is_long : (bytes : List ℕ) (at : ℕ) → bank_of bytes ≡ Err at → 
 faulty_is_long bytes at e =
     elim (cases_lt 9 (length bytes)) [
       | inl h ↦ h
-      | inr h ↦ absurd (no_both (bank_of bytes) nothing at (short_bank bytes (omega (arith, h))) e)
+      | inr h ↦ absurd (no_both (bank_of bytes) empty_content at (short_bank bytes (omega (arith, h))) e)
     ]
 
 -- the files are left where the bank isn't opened
@@ -35,9 +35,10 @@ bank_left old mid new (banks.Foreign bank at) same has long = λ file. long (fau
 bank_left old mid new banks.NoMemory same has long = tt
 
 short_reads : (images : Images) → images.head ≡ [] → length images.bank1 ≤ 9
-    → read_of images ≡ Ok (record { state = nothing_held; used = gate_of nothing + 1 })
+    → read_of images ≡ Ok (record { state = nothing_held; used = gate_of empty_content + 1 })
 short_reads images empty short =
-    state_in images nothing nothing_held (content_behind images.head images.bank1 nothing empty (short_bank images.bank1 short)) refl refl
+    state_in images empty_content nothing_held
+    (content_behind images.head images.bank1 empty_content empty (short_bank images.bank1 short)) refl refl
 
 -- the files are left where what the bank holds isn't taken
 pub content_left : (contents new : ℕ → List ℕ) (place : Place) → contents 0 ≡ [] → read_of (images_of contents) ≡ Err place
@@ -45,6 +46,7 @@ pub content_left : (contents new : ℕ → List ℕ) (place : Place) → content
 content_left contents new place empty none long =
     elim (cases_lt 9 (length (contents 1))) [
       | inl h ↦ long h
-      | inr h ↦ absurd (no_both (read_of (images_of contents)) (record { state = nothing_held; used = gate_of nothing + 1 }) place
+      | inr h ↦ absurd (no_both (read_of (images_of contents))
+          (record { state = nothing_held; used = gate_of empty_content + 1 }) place
           (short_reads (images_of contents) empty (omega (arith, h))) none)
     ]

@@ -16,7 +16,7 @@ use Rattle.command_codec.specs.Spelling.{spelling, Spells}
 use Rattle.bank_journal.specs.declared.content.BankContent.{BankContent}
 use Rattle.bank_journal.specs.declared.fault.AppendFault.{AppendFault}
 use Rattle.bank_journal.specs.declared.fault.AppendFault.TheVariants as appends
-use Rattle.bank_journal.specs.Bank.{appended}
+use Rattle.bank_journal.specs.Bank.{with_body}
 use Rattle.bank_journal.specs.Fault.{FullHas}
 use Rattle.bank_journal.specs.Handle.{file_of, place_of}
 use Rattle.bank_journal.specs.Moments.{IsBeforeOrAfter, IsInStep, LeavesFile}
@@ -172,7 +172,7 @@ accepted-more state (first ∷ commands) last command done (own, leaves, are) e 
 
 pub has-more : (content : BankContent) (state : StateValue) (body : List ℕ) (command : Command) (done : Outcome) →
     HasCommands content state → Spells body command → outcome state command ≡ Ok done →
-    HasCommands (appended content body) done.state
+    HasCommands (with_body content body) done.state
 has-more content state body command done has spells e = record {
   first = has.first;
   commands = has.commands ++ command ∷ [];
@@ -219,9 +219,9 @@ module _ (contents : ℕ → List ℕ) (may_leave : ℕ → List ℕ → Type 0)
               (λ before. inl (record { head = head; content = kept.content; reads = before; has = kept.has }))
               (λ now. inr (record {
                 head = head;
-                content = appended kept.content (spelling command);
+                content = with_body kept.content (spelling command);
                 reads = now;
-                has = subst (HasCommands (appended kept.content (spelling command))) (sym after_is)
+                has = subst (HasCommands (with_body kept.content (spelling command))) (sym after_is)
                     (has-more kept.content (state_of store) (spelling command) command done kept.has spells leaves);
               }))
               this;
@@ -232,17 +232,17 @@ module _ (contents : ℕ → List ℕ) (may_leave : ℕ → List ℕ → Type 0)
         file_of later.bank ≡ file_of store.bank → state_of later ≡ done.state →
         SameOthers (file_of store.bank) contents next → LeavesNoMoreOfOthers (file_of store.bank) may_leave then_may →
         IsInStep (next (file_of store.bank)) (then_may (file_of store.bank)) (place_of later.bank)
-        (appended kept.content (spelling command)) → IsKept next then_may later
+        (with_body kept.content (spelling command)) → IsKept next then_may later
     kept-after next then_may later same_file state_is others crash_others step =
         let zero = apart (file_of store.bank) kept.file in
         record {
           file = same_file ∙ kept.file;
           head = others 0 zero ∙ kept.head;
           settled = λ image left. kept.settled image (crash_others 0 zero image left) ∙ sym (others 0 zero);
-          content = appended kept.content (spelling command);
+          content = with_body kept.content (spelling command);
           bank = subst (λ (file : ℕ). IsInStep (next file) (then_may file) (place_of later.bank)
-              (appended kept.content (spelling command))) kept.file step;
-          has = subst (HasCommands (appended kept.content (spelling command))) (sym state_is)
+              (with_body kept.content (spelling command))) kept.file step;
+          has = subst (HasCommands (with_body kept.content (spelling command))) (sym state_is)
               (has-more kept.content (state_of store) (spelling command) command done kept.has spells leaves);
         }
 

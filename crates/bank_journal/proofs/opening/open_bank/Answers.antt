@@ -1,5 +1,5 @@
 use Rattle.std.proofs.Common.{◌<◌, ◌≤◌, length, ap, ◌∙◌, arith}
-use Rattle.bank_journal.proofs.InStep.{read_opened_in_step, empty_content, still_settled}
+use Rattle.bank_journal.proofs.InStep.{read_opened_in_step, short_content, still_settled}
 use Rattle.bank_journal.proofs.opening.open_bank.Goals as goal
 
 pub returns-then-len-gt-LONGEST_EMPTY-clause-in_step : goal.returns-then-len-gt-LONGEST_EMPTY-clause-in_step
@@ -27,4 +27,4 @@ returns-clause-content g c = λ tells.
       ap length (c.in_ok-bytes.ensures.bytes tells),
       c.in_ok-bytes.bytes.ok,
     ) in
-    empty_content old c.write_empty.result short c.write_empty.ensures.content
+    short_content old c.write_empty.result short c.write_empty.ensures.content

@@ -2,7 +2,7 @@ use Rattle.std.proofs.Common.{ap, ◌∙◌, rules}
 use Rattle.std.specs.List.Sorted.{IsStableByKey}
 use Rattle.std.specs.Ordering.{nat_cmp}
 use Rattle.std.proofs.lemmas.List.Sorted.{answers_always}
-use Rattle.chart_model.specs.Attrs.{attrs_of, merged, set_attrs}
+use Rattle.chart_model.specs.Attrs.{attrs_of, attrs_after, set_attrs}
 use Rattle.chart_model.proofs.SetOrders.{put-alone, set-sorted}
 use Rattle.chart_model.proofs.attr_map.AttrMap.set_many.Goals as goal
 
@@ -13,7 +13,9 @@ returns-clause-ok c =
     let given-is = c.in_ok-given.ensures.items_if_clones_equal (λ x y e. e) in
     let stable : IsStableByKey (λ attr. attr.code) nat_cmp c.in_ok-given.given.items sorted = c.sort_by_key.ensures.stable (λ attr. attr.code) (answers_always _ _ _ (λ f a r h called. search rules)) in
     c.merge.ensures.map
-    ∙ (λ i. merged (attrs_of (c.in_ok-attrs.ensures.items i)) ((c.from.ensures.0 ∙ ap (λ v. v.items) c.replace-kept.ensures.value) i) (c.from-2.ensures.0 i))
+    ∙ (λ i.
+    attrs_after (attrs_of (c.in_ok-attrs.ensures.items i))
+    ((c.from.ensures.0 ∙ ap (λ v. v.items) c.replace-kept.ensures.value) i) (c.from-2.ensures.0 i))
     ∙ ap (λ m. set_attrs m sorted) (put-alone kept c.self.invariant)
     ∙ set-sorted (attrs_of kept) c.in_ok-given.given.items sorted stable
     ∙ (λ i. set_attrs (c.self.view_is i) (given-is i))

@@ -1,7 +1,7 @@
 use Rattle.std.proofs.Common.{◌==◌, T, length, ap, sym, subst, ◌∙◌}
 use Rattle.std.specs.FinMap as map
 use Rattle.chart_model.specs.Pages.{AreFull}
-use Rattle.chart_model.specs.Shared.{held}
+use Rattle.chart_model.specs.Shared.{values_behind}
 use Rattle.chart_model.proofs.name_iter.NameIterIterator.next.Goals as goal
 use Rattle.chart_model.proofs.name_iter.NameIterIterator.next.Goals.{then-is_empty+in_ok-page, else-is_empty}
 
@@ -12,7 +12,8 @@ returns-in_err-first-clause-steps g c =
       | then-is_empty+in_ok-page w ↦
           let empty = sym (ap (λ inside. length inside.records.now) w.self-inside-is) ∙ c.in_err-first.ensures.cases in
           let page = map.len-entries w.in_ok-page.page.now.value ∙ ap length (sym (w.as_slice-self-inside.ensures ∙ ap map.entries w.as_ref.ensures)) in
-          absurd ((subst (λ pages. AreFull (held pages)) w.in_ok-page.ensures.steps c.self.invariant).0 (page ∙ empty))
+          absurd
+          ((subst (λ es. AreFull (values_behind es)) w.in_ok-page.ensures.steps c.self.invariant).0 (page ∙ empty))
       | else-is_empty w ↦
           let empty = sym (ap (λ inside. length inside.records.now) w.self-inside-is) ∙ c.in_err-first.ensures.cases in
           absurd (subst T (sym (w.if-is_empty.ensures ∙ ap (λ n. n == 0) empty)) tt)
