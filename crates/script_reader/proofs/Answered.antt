@@ -9,8 +9,8 @@ use Rattle.script_reader.specs.declared.event.Event.TheVariants.{Info, Load, Rol
 use Rattle.script_reader.specs.declared.fault.LineFault.{LineFault}
 use Rattle.script_reader.specs.declared.fault.LineFault.TheVariants.{BadLine, NoMemory}
 use Rattle.script_reader.specs.Line.{AskFor, NamesFile, Spells, IsBad}
-use Rattle.script_reader.specs.Reading.{words_of, event_of, event_or_bad, event_in, Answers}
-use Rattle.text_lines.specs.Lines.{IsSilent, is_silent}
+use Rattle.script_reader.specs.Reading.{event_of, event_or_bad, event_in, Answers}
+use Rattle.text_lines.specs.Lines.{IsSilent, is_silent, words_of}
 use Rattle.script_reader.proofs.WordTests.{KeysAreTested}
 use Rattle.script_reader.proofs.Events.{found, given, spelled_short}
 

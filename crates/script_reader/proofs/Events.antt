@@ -1,11 +1,11 @@
 -- A line is read as it is spelled.
-use Rattle.std.proofs.Common.{◌≡◌, ℕ, ◌<◌, ◌≤◌, ◌⊎◌, Bool, true, false, cond, eqb, ◌&&◌, List, [], ◌∷◌, ◌++◌, length, Option, Some, None, refl, sym, ap, ◌∙◌, subst, inl, inr, arith, length-append}
+use Rattle.std.proofs.Common.{◌≡◌, ℕ, ◌<◌, ◌≤◌, ◌⊎◌, Bool, true, false, cond, ◌&&◌, List, [], ◌∷◌, ◌++◌, length, Option, Some, None, refl, sym, ap, ◌∙◌, subst, inl, inr, arith, length-append}
 use Rattle.std.specs.Prelude.{codes, Result, Ok, Err, OnErr}
 use Rattle.std.specs.Option.{SomeIff}
 use Rattle.std.specs.List.{join_with_byte}
 use Rattle.std.specs.Str.{bytes_eq}
 use Rattle.std.proofs.lemmas.Bool.{and_parts}
-use Rattle.std.proofs.lemmas.List.Splits.{join_with_byte-slice_split, length-slice_split}
+use Rattle.std.proofs.lemmas.List.Splits.{join_with_byte-slice_split}
 use Rattle.std.proofs.lemmas.Result.{on_err_weaker}
 use Rattle.std.proofs.lemmas.Slice.Eq.{bytes_eq-Decides}
 use Rattle.common_lemmas.proofs.Choices.{chosen, some_is}
@@ -16,8 +16,9 @@ use Rattle.script_reader.specs.Number.{IsShortNumber, is_short_number}
 use Rattle.script_reader.specs.declared.event.Event.{Event}
 use Rattle.script_reader.specs.declared.event.Event.TheVariants.{Info, Load, Rollback, Drop, Cells, Draw, Route, Make, Reissue}
 use Rattle.script_reader.specs.Line.{AreInRange, AskFor, CanBeMade, NamesFile, Spells}
-use Rattle.script_reader.specs.Reading.{words_of, info_in, load_in, rollback_in, drop_in, draw_in, route_in, can_be_made, make_with, make_in, reissue_in, event_alone, event_with_one, event_with_two, event_of}
+use Rattle.script_reader.specs.Reading.{info_in, load_in, rollback_in, drop_in, draw_in, route_in, can_be_made, make_with, make_in, reissue_in, event_alone, event_with_one, event_with_two, event_of}
 use Rattle.script_reader.proofs.WordTests.{KeysAreTested, Decides-word, Decides-short, Decides-made, no_short}
+use Rattle.text_lines.specs.Lines.{words_of}
 use Rattle.text_lines.proofs.Parting.{digits_lack, one_part}
 use Rattle.script_reader.proofs.Parting.{visible_lack, tested_lack, split_two, split_three}
 
@@ -204,16 +205,6 @@ given tested line event s =
     ap (λ (l : List ℕ). event_of (words_of l)) s.parted
     ∙ ap event_of (split_again event s.words s.asking)
     ∙ asked_again tested event s.words s.asking
-
--- a word behind the third is one too many
-too_many : (a b c : List ℕ) (words : List (List ℕ)) → 0 < length words → None ≡ event_of (a ∷ b ∷ c ∷ words)
-unfolding event_of
-too_many a b c [] h = absurd (omega arith)
-too_many a b c (word ∷ words) h = refl
-
-pub fourth_word : (words : List (List ℕ)) (a b c rest : List ℕ) → words ≡ a ∷ b ∷ c ∷ words_of rest → None ≡ event_of words
-fourth_word words a b c rest e =
-    too_many a b c (words_of rest) (omega (arith, length-slice_split (λ x. eqb x 32) rest)) ∙ sym (ap event_of e)
 
 -- ---- the words of one verb
 

@@ -5,9 +5,8 @@ use Rattle.std.proofs.lemmas.Bool.{and_parts}
 use Rattle.std.proofs.lemmas.Bool.Decides.{nat_tests}
 use Rattle.std.proofs.lemmas.List.Elements.{All-nil, All-cons, All-weaker}
 use Rattle.chart_model.specs.Key.{IsVisible}
-use Rattle.text_lines.specs.Lines.{Lacks}
+use Rattle.text_lines.specs.Lines.{Lacks, words_of}
 use Rattle.text_lines.proofs.Parting.{first_part, one_part}
-use Rattle.script_reader.specs.Reading.{words_of}
 
 no_space : (byte : ℕ) → IsVisible byte → byte ≢ 32
 no_space byte v = grind (arith, nat_tests)

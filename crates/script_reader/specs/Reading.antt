@@ -3,7 +3,7 @@ use Rattle.std.specs.Prelude.{◌≡◌, ℕ, nat_le, Bool, ◌&&◌, if◌then�
 use Rattle.std.specs.Prelude.{Option, Some, None, Result, Ok, Err}
 use Rattle.std.specs.Str.{bytes_eq}
 use Rattle.chart_model.specs.Key.{is_key}
-use Rattle.text_lines.specs.Lines.{is_silent, parts_at}
+use Rattle.text_lines.specs.Lines.{is_silent, words_of}
 use Rattle.text_scan.specs.Number.{value_of}
 use Rattle.script_reader.specs.Word.{is_word}
 use Rattle.script_reader.specs.Number.{is_short_number}
@@ -13,10 +13,6 @@ use Rattle.script_reader.specs.declared.event.Event.TheVariants.{Make, Reissue}
 use Rattle.script_reader.specs.declared.fault.LineFault.{LineFault}
 use Rattle.script_reader.specs.Line.{NamesFile}
 use Rattle.script_reader.specs.declared.fault.LineFault.TheVariants.{BadLine, NoMemory}
-
--- what is between the spaces of a line
-abbrev pub words_of : List ℕ → List (List ℕ)
-words_of line = parts_at 32 line
 
 -- each verb's event, by the words that it takes
 abbrev pub info_in : List ℕ → Option Event

@@ -6,22 +6,20 @@ ghost use Rattle.script_reader.specs.declared.event.Event.TheVariants.{Info, Loa
 ghost use Rattle.script_reader.specs.Line.{NamesFile};
 ghost use Rattle.script_reader.specs.Reading.{info_in, load_in, rollback_in, drop_in, draw_in, route_in};
 ghost use Rattle.script_reader.specs.Reading.{make_in, make_with, reissue_in};
-ghost use Rattle.script_reader.specs.Reading.{words_of, event_alone, event_with_one, event_with_two, event_of};
+ghost use Rattle.script_reader.specs.Reading.{event_alone, event_with_one, event_with_two, event_of};
+ghost use Rattle.text_lines.specs.Lines.{words_of};
 
 use crate::word::Word;
 use crate::words::read_short;
 use chart_model::{Key, keys_are_tested};
 use std::alloc::{AllocError, Global};
-use text_lines::cut_part;
+use text_lines::{Words, read_words};
 
 /// The most areas of a cell that is made.
 const MOST_AREAS: u32 = 20_000;
 
 /// The last update of such a cell.
 const LAST_UPDATE: u32 = 999;
-
-/// What parts the words of a line.
-const SPACE: u8 = b' ';
 
 /// What a line of the script asks for.
 #[derive(Debug, Drop)]
@@ -191,17 +189,10 @@ pub fn event_on(alloc: Global, text: &[u8]) -> Result<Option<Event>, AllocError>
     ensures memory { OnErr result ((event : EventValue) ×
         (event_of (words_of text.now) ≡ Some event) × NamesFile event) }
 {
-    let (verb, rest) = cut_part(text, SPACE);
-    let Some(rest) = rest else {
-        return Ok(event_alone(verb));
-    };
-    let (first, rest) = cut_part(rest, SPACE);
-    let Some(rest) = rest else {
-        return event_with_one(alloc, verb, first);
-    };
-    let (second, rest) = cut_part(rest, SPACE);
-    match rest {
-        Some(_) => Ok(None),
-        None => Ok(event_with_two(verb, first, second)),
+    match read_words(text) {
+        Words::One(verb) => Ok(event_alone(verb)),
+        Words::Two(verb, word) => event_with_one(alloc, verb, word),
+        Words::Three(verb, first, second) => Ok(event_with_two(verb, first, second)),
+        Words::More => Ok(None),
     }
 }
