@@ -16,7 +16,7 @@ use Rattle.chart_model.specs.declared.name.Name.{Name}
 use Rattle.chart_model.specs.declared.settings.Settings.{Settings}
 use Rattle.text_scan.specs.Number.{IsNumber, value_of, number_of}
 use Rattle.lookup_table.specs.declared.line.TableLine.{TableLine}
-use Rattle.lookup_table.specs.Selection.{selected}
+use Rattle.lookup_table.specs.Selection.{place_for}
 use Rattle.draw_items.specs.Items.{whole}
 use Rattle.draw_list.specs.Items.{items_by}
 
@@ -61,7 +61,7 @@ block_with cell settings feature geom (Some line) = record {
 
 -- the line of the table for the feature
 abbrev pub line_for : List TableLine → Feature → Geom → Option TableLine
-line_for table feature geom = option_and_then (slice_get table) (selected table feature.class geom feature.attrs)
+line_for table feature geom = option_and_then (slice_get table) (place_for table feature.class geom feature.attrs)
 
 abbrev pub block_as : CellValue → List TableLine → Settings → Feature → Option Geom → Option Block
 block_as cell table settings feature None = None

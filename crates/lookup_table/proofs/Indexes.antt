@@ -5,8 +5,8 @@ use Rattle.chart_model.specs.declared.drawing.Geom.{Geom}
 use Rattle.chart_model.specs.declared.drawing.Geom.TheVariants.{Area, Line, Point}
 use Rattle.lookup_table.specs.declared.line.TableLine.{TableLine}
 use Rattle.lookup_table.specs.Selection.{is_for}
-use Rattle.lookup_table.specs.Index.{places_from, places_in, HasPlaceMore, IsIndexOf}
-use Rattle.lookup_table.specs.Places.{AddsPlace}
+use Rattle.lookup_table.specs.Places.{places_from, places_in, HasPlaceMore}
+use Rattle.lookup_table.specs.Index.{AddsPlace, IsIndexOf}
 
 stepped : (a b : Bool) (start n m : ℕ) (q : List ℕ) → n ≡ m
     → cond a (start ∷ cond b (q ++ n ∷ []) q) (cond b (q ++ n ∷ []) q) ≡ cond b (cond a (start ∷ q) q ++ m ∷ []) (cond a (start ∷ q) q)

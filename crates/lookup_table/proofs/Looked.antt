@@ -16,8 +16,8 @@ use Rattle.lookup_table.specs.declared.line.TableLine.{TableLine}
 use Rattle.lookup_table.specs.declared.written.WrittenCondition.{WrittenCondition}
 use Rattle.lookup_table.specs.declared.written.WrittenLine.{WrittenLine}
 use Rattle.lookup_table.specs.Reading.{each, written_of}
-use Rattle.lookup_table.specs.Named.{condition_with_code, named_condition, instruction_in, line_with, named, has_unknown_name, has_unknown_procedure}
-use Rattle.lookup_table.specs.Lines.{line_in, line_or_fault, named_or_fault}
+use Rattle.lookup_table.specs.Named.{condition_with_code, named_condition, instruction_in, line_with, coded_line, has_unknown_name, has_unknown_procedure}
+use Rattle.lookup_table.specs.Lines.{line_in, line_or_fault, coded_line_or_fault}
 use Rattle.lookup_table.proofs.Each.{each-missing}
 
 -- the same, of one line
@@ -62,34 +62,34 @@ whole catalogue number late silent written =
     ∷ when (list_any (has_unknown_name catalogue) line) (UnknownName number)
     ∷ when (list_any has_unknown_procedure line) (UnknownProcedure number)
     ∷ []
-    )) (flat_map (λ w. option_to_list (named catalogue w)) line)
+    )) (flat_map (λ w. option_to_list (coded_line catalogue w)) line)
 
 in_time : (number : ℕ) → number ≤ 10000 → ltb 10000 number ≡ false
 in_time number h = grind (arith, nat_tests)
 
 -- a line that is written
 pub named_line : (catalogue : CatalogueValue) (number : ℕ) (line : List ℕ) (written : WrittenLine) → number ≤ 10000 → is_silent line ≡ false → written_of line ≡ Some written
-    → line_in catalogue number line ≡ listed (named_or_fault catalogue number written)
+    → line_in catalogue number line ≡ listed (coded_line_or_fault catalogue number written)
 unfolding line_in
 named_line catalogue number line written few speaks is =
     (λ i. whole catalogue number (in_time number few i) (speaks i) (is i))
     ∙ (λ i. unless (first_of (when (unknown_name catalogue written i || false) (UnknownName number) ∷ when (unknown_procedure written i || false) (UnknownProcedure number) ∷ []))
-    (option_to_list (named catalogue written) ++ []))
+    (option_to_list (coded_line catalogue written) ++ []))
     ∙ by_parts number written (code_in catalogue.classes written.class) (each (named_condition catalogue) written.conditions) (each instruction_in written.instructions)
 
 listed-ok : (answer : Result TableLine TableFault) (line : TableLine) → answer ≡ Ok line → listed answer ≡ Ok (line ∷ [])
 listed-ok answer line e = ap listed e
 
 pub named_taken : (catalogue : CatalogueValue) (number : ℕ) (line : List ℕ) (written : WrittenLine) (said : TableLine) → number ≤ 10000 → is_silent line ≡ false → written_of line ≡ Some written
-    → named_or_fault catalogue number written ≡ Ok said → line_in catalogue number line ≡ Ok (said ∷ [])
+    → coded_line_or_fault catalogue number written ≡ Ok said → line_in catalogue number line ≡ Ok (said ∷ [])
 named_taken catalogue number line written said few speaks is e = named_line catalogue number line written few speaks is ∙ listed-ok _ said e
 
 refused : (catalogue : CatalogueValue) (number : ℕ) (line : List ℕ) (written : WrittenLine) (f : TableFault) → number ≤ 10000 → is_silent line ≡ false → written_of line ≡ Some written
-    → named_or_fault catalogue number written ≡ Err f → line_in catalogue number line ≡ Err f
+    → coded_line_or_fault catalogue number written ≡ Err f → line_in catalogue number line ≡ Err f
 refused catalogue number line written f few speaks is e = named_line catalogue number line written few speaks is ∙ ap listed e
 
 pub named_refused : (catalogue : CatalogueValue) (number : ℕ) (line : List ℕ) (written : WrittenLine) (f : TableFault) → number ≤ 10000 → is_silent line ≡ false → written_of line ≡ Some written
-    → FailsBy told f (named_or_fault catalogue number written) → FailsBy told f (line_in catalogue number line)
+    → FailsBy told f (coded_line_or_fault catalogue number written) → FailsBy told f (line_in catalogue number line)
 named_refused catalogue number line written (BadLine n) few speaks is h = refused catalogue number line written (BadLine n) few speaks is h
 named_refused catalogue number line written (UnknownName n) few speaks is h = refused catalogue number line written (UnknownName n) few speaks is h
 named_refused catalogue number line written (UnknownProcedure n) few speaks is h = refused catalogue number line written (UnknownProcedure n) few speaks is h

@@ -1,25 +1,25 @@
 -- How far a table is read.
-use Rattle.std.proofs.Common.{◌≡◌, ℕ, ◌+◌, ◌≤◌, List, [], ◌∷◌, ◌++◌, length, Option, Some, None, refl, sym, ap, ◌∙◌, subst, append-nil, arith}
+use Rattle.std.proofs.Common.{◌≡◌, ℕ, ◌+◌, List, [], ◌∷◌, ◌++◌, length, Option, Some, None, refl, sym, ap, ◌∙◌, subst, append-nil}
 use Rattle.std.specs.Prelude.{Result, Ok, Err}
 use Rattle.std.specs.Option.{option_to_list}
 use Rattle.std.specs.List.{flat_map}
 use Rattle.std.specs.Str.Lines.{lines}
 use Rattle.std.proofs.lemmas.List.Concat.{flat_map-append}
 use Rattle.chart_model.specs.Answers.{unless, FailsBy}
-use Rattle.text_lines.proofs.RestSoFar.{ArePassed, none_passed, one_passed, fault_found, all_passed}
+use Rattle.text_lines.specs.Lines.{numbered_lines}
+use Rattle.text_lines.proofs.LinesSoFar.{ArePassed, none_passed, next_number, one_passed, fault_found, all_passed}
 use Rattle.object_catalogue.specs.Codes.{CatalogueValue}
 use Rattle.lookup_table.specs.Answers.{told, Answers, AnswersLine}
-use Rattle.lookup_table.specs.Lines.{said, table_in, fault_at, line_fault, line_in}
+use Rattle.lookup_table.specs.Lines.{lines_on, table_in, fault_at, line_fault, line_in}
 use Rattle.lookup_table.specs.declared.fault.TableFault.{TableFault}
 use Rattle.lookup_table.specs.declared.fault.TableFault.TheVariants.{BadLine, UnknownName, UnknownProcedure, NoMemory}
 use Rattle.lookup_table.specs.declared.line.TableLine.{TableLine}
 
--- the lines before the rest have no fault, and say what the table has
-pub record IsReadSoFar (catalogue : CatalogueValue) (bytes : List ℕ) (table : List TableLine) (number : ℕ) (rest : List ℕ) : Type 0 where
+-- the lines before those that are left have no fault, and say what the table has
+pub record IsReadSoFar (catalogue : CatalogueValue) (bytes : List ℕ) (table : List TableLine) (left : List (ℕ × List ℕ)) : Type 0 where
   pub before : List (List ℕ)
-  pub passed : ArePassed (fault_at catalogue) bytes number rest before
-  pub few : number ≤ 10000
-  pub has : table ≡ flat_map (said catalogue) before
+  pub passed : ArePassed (fault_at catalogue) bytes left before
+  pub has : table ≡ flat_map (lines_on catalogue) before
 
 module _ (catalogue : CatalogueValue) where
   by_fault : (o : Option TableFault) (x y : List TableLine) → unless o x ≡ Ok y → (o ≡ None) × (x ≡ y)
@@ -31,61 +31,65 @@ module _ (catalogue : CatalogueValue) where
   by_error (Some g) x f e = cc
 
   line_taken : (before : List (List ℕ)) (line : List ℕ) (more : List TableLine) → line_in catalogue (length before + 1) line ≡ Ok more
-      → (fault_at catalogue before line ≡ None) × (said catalogue line ≡ more)
+      → (fault_at catalogue before line ≡ None) × (lines_on catalogue line ≡ more)
   unfolding line_in
-  line_taken before line more e = by_fault (line_fault catalogue (length before + 1) line) (said catalogue line) more e
+  line_taken before line more e = by_fault (line_fault catalogue (length before + 1) line) (lines_on catalogue line) more e
 
   line_refused : (before : List (List ℕ)) (line : List ℕ) (f : TableFault) → line_in catalogue (length before + 1) line ≡ Err f → fault_at catalogue before line ≡ Some f
   unfolding line_in
-  line_refused before line f e = by_error (line_fault catalogue (length before + 1) line) (said catalogue line) f e
+  line_refused before line f e = by_error (line_fault catalogue (length before + 1) line) (lines_on catalogue line) f e
 
-  pub read_none : (bytes : List ℕ) (table : List TableLine) → table ≡ [] → IsReadSoFar catalogue bytes table 0 bytes
-  read_none bytes table e = record {
+  pub read_none : (bytes : List ℕ) (left : List (ℕ × List ℕ)) (table : List TableLine) → left ≡ numbered_lines bytes → table ≡ []
+      → IsReadSoFar catalogue bytes table left
+  read_none bytes left table all e = record {
     before = [];
-    passed = none_passed (fault_at catalogue) bytes;
-    few = omega arith;
+    passed = none_passed (fault_at catalogue) bytes left all;
     has = e;
   }
 
-  one_more : (before : List (List ℕ)) (line : List ℕ) → flat_map (said catalogue) (before ++ line ∷ []) ≡ flat_map (said catalogue) before ++ said catalogue line
+  one_more : (before : List (List ℕ)) (line : List ℕ) → flat_map (lines_on catalogue) (before ++ line ∷ []) ≡ flat_map (lines_on catalogue) before ++ lines_on catalogue line
   one_more before line =
-      flat_map-append (said catalogue) before (line ∷ []) ∙ ap (λ (l : List TableLine). flat_map (said catalogue) before ++ l) (append-nil (said catalogue line))
-
-  pub read_more : (bytes rest others line : List ℕ) (table next : List TableLine) (more : Option TableLine) (number : ℕ) → IsReadSoFar catalogue bytes table number rest
-      → lines rest ≡ line ∷ lines others → number + 1 ≤ 10000 → line_in catalogue (number + 1) line ≡ Ok (option_to_list more)
-      → next ≡ table ++ option_to_list more → IsReadSoFar catalogue bytes next (number + 1) others
-  read_more bytes rest others line table next more number so_far cut few e grown =
-      let taken = line_taken so_far.before line (option_to_list more) (ap (λ (n : ℕ). line_in catalogue (n + 1) line) (sym so_far.passed.counted) ∙ e) in
-      record {
-        before = so_far.before ++ line ∷ [];
-        passed = one_passed (fault_at catalogue) bytes rest others line number so_far.before so_far.passed cut taken.0;
-        few = few;
-        has = grown ∙ (λ i. so_far.has i ++ sym taken.1 i) ∙ sym (one_more so_far.before line);
-      }
-
-  fails : (bytes rest others line : List ℕ) (table : List TableLine) (number : ℕ) (f : TableFault) → IsReadSoFar catalogue bytes table number rest
-      → lines rest ≡ line ∷ lines others → line_in catalogue (number + 1) line ≡ Err f → table_in catalogue bytes ≡ Err f
-  fails bytes rest others line table number f so_far cut e =
-      let refused = line_refused so_far.before line f (ap (λ (n : ℕ). line_in catalogue (n + 1) line) (sym so_far.passed.counted) ∙ e) in
-      ap (λ (o : Option TableFault). unless o (flat_map (said catalogue) (lines bytes)))
-      (fault_found (fault_at catalogue) bytes rest others line number so_far.before f so_far.passed cut refused)
-
-  -- a line's fault is that of the file
-  pub read_fault : (bytes rest others line : List ℕ) (table : List TableLine) (number : ℕ) (f : TableFault) → IsReadSoFar catalogue bytes table number rest
-      → lines rest ≡ line ∷ lines others → FailsBy told f (line_in catalogue (number + 1) line) → FailsBy told f (table_in catalogue bytes)
-  read_fault bytes rest others line table number (BadLine n) so_far cut h = fails bytes rest others line table number (BadLine n) so_far cut h
-  read_fault bytes rest others line table number (UnknownName n) so_far cut h = fails bytes rest others line table number (UnknownName n) so_far cut h
-  read_fault bytes rest others line table number (UnknownProcedure n) so_far cut h = fails bytes rest others line table number (UnknownProcedure n) so_far cut h
-  read_fault bytes rest others line table number NoMemory so_far cut h = h
+      flat_map-append (lines_on catalogue) before (line ∷ []) ∙ ap (λ (l : List TableLine). flat_map (lines_on catalogue) before ++ l) (append-nil (lines_on catalogue line))
 
   abbrev ok : List TableLine → Result (List TableLine) TableFault
   ok table = Ok table
 
-  pub read_all : (bytes rest : List ℕ) (table : List TableLine) (number : ℕ) → IsReadSoFar catalogue bytes table number rest → lines rest ≡ [] → table_in catalogue bytes ≡ Ok table
-  read_all bytes rest table number so_far end =
-      let all = all_passed (fault_at catalogue) bytes rest number so_far.before so_far.passed end in
-      ap (λ (o : Option TableFault). unless o (flat_map (said catalogue) (lines bytes))) all.1
-      ∙ ap (λ (l : List TableLine). ok l) (ap (flat_map (said catalogue)) all.0 ∙ sym so_far.has)
+  pub read_all : (bytes : List ℕ) (left : List (ℕ × List ℕ)) (table : List TableLine) → IsReadSoFar catalogue bytes table left → left ≡ [] → table_in catalogue bytes ≡ Ok table
+  read_all bytes left table so_far end =
+      let all = all_passed (fault_at catalogue) bytes left so_far.before so_far.passed end in
+      ap (λ (o : Option TableFault). unless o (flat_map (lines_on catalogue) (lines bytes))) all.1
+      ∙ ap (λ (l : List TableLine). ok l) (ap (flat_map (lines_on catalogue)) all.0 ∙ sym so_far.has)
+
+module _ (catalogue : CatalogueValue) (bytes : List ℕ) (left others : List (ℕ × List ℕ)) (number : ℕ) (line : List ℕ) (table : List TableLine)
+    (so_far : IsReadSoFar catalogue bytes table left) (next : left ≡ (number, line) ∷ others) where
+  -- the line, behind those that are passed
+  in_place : line_in catalogue (length so_far.before + 1) line ≡ line_in catalogue number line
+  in_place =
+      ap (λ (n : ℕ). line_in catalogue n line)
+      (sym (next_number (fault_at catalogue) bytes left others number line so_far.before so_far.passed next))
+
+  pub read_more : (more : Option TableLine) (grown : List TableLine) → line_in catalogue number line ≡ Ok (option_to_list more)
+      → grown ≡ table ++ option_to_list more → IsReadSoFar catalogue bytes grown others
+  read_more more grown e is =
+      let taken = line_taken catalogue so_far.before line (option_to_list more) (in_place ∙ e) in
+      record {
+        before = so_far.before ++ line ∷ [];
+        passed = one_passed (fault_at catalogue) bytes left others number line so_far.before so_far.passed next taken.0;
+        has = is ∙ (λ i. so_far.has i ++ sym taken.1 i) ∙ sym (one_more catalogue so_far.before line);
+      }
+
+  fails : (f : TableFault) → line_in catalogue number line ≡ Err f → table_in catalogue bytes ≡ Err f
+  fails f e =
+      let refused = line_refused catalogue so_far.before line f (in_place ∙ e) in
+      ap (λ (o : Option TableFault). unless o (flat_map (lines_on catalogue) (lines bytes)))
+      (fault_found (fault_at catalogue) bytes left others number line so_far.before so_far.passed next f refused)
+
+  -- a line's fault is that of the file
+  pub read_fault : (f : TableFault) → FailsBy told f (line_in catalogue number line) → FailsBy told f (table_in catalogue bytes)
+  read_fault (BadLine n) h = fails (BadLine n) h
+  read_fault (UnknownName n) h = fails (UnknownName n) h
+  read_fault (UnknownProcedure n) h = fails (UnknownProcedure n) h
+  read_fault NoMemory h = h
 
 -- a fault that is passed on
 pub failed : (answer : Result (List TableLine) TableFault) (f g : TableFault) (wanted : Result (List TableLine) TableFault)

@@ -1,15 +1,14 @@
 -- The first line that passes, by the places of its class and geometry.
-use Rattle.std.proofs.Common.{◌≡◌, ℕ, ◌+◌, Bool, true, false, cond, ◌&&◌, List, [], ◌∷◌, ◌++◌, length, Bor, Option, Some, None, refl, sym, ap, ◌∙◌, arith, append_assoc, length-append, position, drop, get_or, suc, ◌<◌, ◌≤◌, drop-cons}
+use Rattle.std.proofs.Common.{◌≡◌, ℕ, ◌+◌, Bool, true, false, cond, ◌&&◌, List, [], ◌∷◌, ◌++◌, length, Option, Some, None, refl, sym, ap, ◌∙◌, arith, append_assoc, length-append, position}
 use Rattle.std.specs.Prelude.{slice_get}
 use Rattle.std.specs.List.{position_from}
-use Rattle.std.specs.Option.{option_or, option_copied}
+use Rattle.std.specs.Option.{option_or}
 use Rattle.chart_model.specs.Attrs.{Attrs}
-use Rattle.std.proofs.lemmas.List.{drop_all}
 use Rattle.std.proofs.lemmas.Iterator.Adapters.{position_from-zero}
 use Rattle.chart_model.specs.declared.drawing.Geom.{Geom}
 use Rattle.lookup_table.specs.declared.line.TableLine.{TableLine}
-use Rattle.lookup_table.specs.Selection.{is_for, applies, is_unconditional, selected}
-use Rattle.lookup_table.specs.Index.{places_from, passes_at, first_place}
+use Rattle.lookup_table.specs.Selection.{is_for, applies, is_unconditional, place_for}
+use Rattle.lookup_table.specs.Places.{places_from, passes, first_place}
 
 at_seam : (front : List TableLine) (line : TableLine) (back : List TableLine) → slice_get (front ++ line ∷ back) (length front) ≡ Some line
 at_seam [] line back = refl
@@ -26,16 +25,16 @@ module _ (class : ℕ) (geom : Geom) (test : TableLine → Bool) where
   found_more : (all : List TableLine) (line : TableLine) (back : List TableLine) (n : ℕ) → slice_get all n ≡ Some line
       → first_place test all (places_from n class geom (line ∷ back))
       ≡ cond (both line) (Some n) (first_place test all (places_from (n + 1) class geom back))
-  unfolding first_place places_from
+  unfolding places_from
   found_more all line back n here = by (is_for class geom line)
     where
       by : (a : Bool) → first_place test all (cond a (n ∷ places_from (n + 1) class geom back) (places_from (n + 1) class geom back))
           ≡ cond (a && test line) (Some n) (first_place test all (places_from (n + 1) class geom back))
-      by true = ap (λ (o : Option TableLine). cond (passes_at test o) (Some n) (first_place test all (places_from (n + 1) class geom back))) here
+      by true = ap (λ (o : Option TableLine). cond (passes test o) (Some n) (first_place test all (places_from (n + 1) class geom back))) here
       by false = refl
 
   found_none : (all : List TableLine) (n : ℕ) → first_place test all (places_from n class geom []) ≡ None
-  unfolding first_place places_from
+  unfolding places_from
   found_none all n = refl
 
   found_from : (all front back : List TableLine) (n : ℕ) → all ≡ front ++ back → n ≡ length front
@@ -51,59 +50,15 @@ module _ (class : ℕ) (geom : Geom) (test : TableLine → Bool) where
   pub found : (lines : List TableLine) → first_place test lines (places_from 0 class geom lines) ≡ position (λ line. is_for class geom line && test line) lines
   found lines = found_from lines [] lines 0 refl refl ∙ sym (position_from-zero both lines)
 
--- ---- a walk over places
-
-module _ (test : TableLine → Bool) (lines : List TableLine) (places : List ℕ) (i : ℕ) where
-  at_place : i < length places → first_place test lines (drop i places)
-      ≡ cond (passes_at test (slice_get lines (get_or places i 0))) (Some (get_or places i 0)) (first_place test lines (drop (i + 1) places))
-  unfolding first_place
-  at_place h = ap (first_place test lines) (drop-cons places i 0 h) ∙ ap (λ (n : ℕ). cond (passes_at test (slice_get lines (get_or places i 0))) (Some (get_or places i 0)) (first_place test lines (drop n places))) next
-    where
-      next : suc i ≡ i + 1
-      next = omega arith
-
-  -- a line that is looked up at the place and tested decides whether the place is the first
-  tested_here : (looked : Option (Bor TableLine)) (line : Bor TableLine) (passed : Bool) → i < length places → option_copied looked ≡ slice_get lines (get_or places i 0)
-      → looked ≡ Some line → passed ≡ test line.now
-      → first_place test lines (drop i places) ≡ cond passed (Some (get_or places i 0)) (first_place test lines (drop (i + 1) places))
-  tested_here looked line passed h is there tested =
-      at_place h
-      ∙ ap (λ (o : Option TableLine). cond (passes_at test o) (Some (get_or places i 0)) (first_place test lines (drop (i + 1) places))) (sym is ∙ ap option_copied there)
-      ∙ ap (λ (b : Bool). cond b (Some (get_or places i 0)) (first_place test lines (drop (i + 1) places))) (sym tested)
-
-  -- the line at the place passes, and so the place is the first
-  pub place_passes : (looked : Option (Bor TableLine)) (line : Bor TableLine) (passed : Bool) → i < length places → option_copied looked ≡ slice_get lines (get_or places i 0)
-      → looked ≡ Some line → passed ≡ test line.now → passed ≡ true → first_place test lines (drop i places) ≡ Some (get_or places i 0)
-  place_passes looked line passed h is there tested passes =
-      tested_here looked line passed h is there tested
-      ∙ ap (λ (b : Bool). cond b (Some (get_or places i 0)) (first_place test lines (drop (i + 1) places))) passes
-
-  -- it fails, and so the first is among the places behind
-  pub place_fails : (looked : Option (Bor TableLine)) (line : Bor TableLine) (passed : Bool) → i < length places → option_copied looked ≡ slice_get lines (get_or places i 0)
-      → looked ≡ Some line → passed ≡ test line.now → passed ≡ false → first_place test lines (drop (i + 1) places) ≡ first_place test lines (drop i places)
-  place_fails looked line passed h is there tested fails =
-      sym (tested_here looked line passed h is there tested
-      ∙ ap (λ (b : Bool). cond b (Some (get_or places i 0)) (first_place test lines (drop (i + 1) places))) fails)
-
-  -- no line is at the place, and so the first is among the places behind
-  pub place_without_line : i < length places → slice_get lines (get_or places i 0) ≡ None
-      → first_place test lines (drop (i + 1) places) ≡ first_place test lines (drop i places)
-  place_without_line h absent =
-      sym (at_place h ∙ ap (λ (o : Option TableLine). cond (passes_at test o) (Some (get_or places i 0)) (first_place test lines (drop (i + 1) places))) absent)
-
-  pub no_place : length places ≤ i → first_place test lines (drop i places) ≡ None
-  unfolding first_place
-  no_place h = ap (first_place test lines) (drop_all i places h)
-
--- ---- the selected line
+-- ---- the line for an object
 
 module _ (class : ℕ) (geom : Geom) (lines : List TableLine) (attrs : Attrs) where
-  pub chosen_first : (place : ℕ) → first_place (applies attrs) lines (places_from 0 class geom lines) ≡ Some place → Some place ≡ selected lines class geom attrs
+  pub chosen_first : (place : ℕ) → first_place (applies attrs) lines (places_from 0 class geom lines) ≡ Some place → Some place ≡ place_for lines class geom attrs
   chosen_first place e =
       sym (ap (λ (o : Option ℕ). option_or o (position (λ line. is_for class geom line && is_unconditional line) lines)) (sym (found class geom (applies attrs) lines) ∙ e))
 
   pub chosen_second : first_place (applies attrs) lines (places_from 0 class geom lines) ≡ None
-      → first_place is_unconditional lines (places_from 0 class geom lines) ≡ selected lines class geom attrs
+      → first_place is_unconditional lines (places_from 0 class geom lines) ≡ place_for lines class geom attrs
   chosen_second e =
       found class geom is_unconditional lines
       ∙ sym (ap (λ (o : Option ℕ). option_or o (position (λ line. is_for class geom line && is_unconditional line) lines)) (sym (found class geom (applies attrs) lines) ∙ e))

@@ -1,6 +1,6 @@
 -- The parts of a line, one after the other.
-use Rattle.std.proofs.Common.{◌≡◌, ℕ, ◌+◌, ◌<◌, ◌≤◌, Bool, false, cond, eqb, List, [], ◌∷◌, length, Option, Some, None, Bor, refl, sym, ap, ◌∙◌, subst, arith}
-use Rattle.std.specs.Prelude.{IfSome, IfNone, codes}
+use Rattle.std.proofs.Common.{◌≡◌, ℕ, ◌≤◌, Bool, false, cond, eqb, List, [], ◌∷◌, length, Option, Some, refl, sym, ap, ◌∙◌, arith}
+use Rattle.std.specs.Prelude.{codes}
 use Rattle.std.specs.Str.{bytes_eq}
 use Rattle.std.specs.List.{join_with_byte}
 use Rattle.std.proofs.lemmas.List.Splits.{join_with_byte-slice_split, length-slice_split}
@@ -34,29 +34,6 @@ line_cut line class geom priority conditions rest e =
     ap written_in e
     ∙ five_parts class geom priority conditions (parts_at 32 rest) (omega (arith, length-slice_split (λ b. eqb b 32) rest))
     ∙ ap (λ (l : List ℕ). written_with (acronym_of class) (geom_of geom) (priority_of priority) (conditions_of conditions) (instructions_of l)) (join_with_byte-slice_split 32 rest)
-
--- what is left to read of joined parts
-abbrev pub parts_left : ℕ → Option (Bor (List ℕ)) → List (List ℕ)
-parts_left c None = []
-parts_left c (Some text) = parts_at c text.now
-
-abbrev pub left_to_read : Option (Bor (List ℕ)) → ℕ
-left_to_read None = 0
-left_to_read (Some text) = length text.now + 1
-
--- a part is read
-pub parts_left-cut : (c : ℕ) (left : Option (Bor (List ℕ))) (text : Bor (List ℕ)) (part : List ℕ) (rest : Option (Bor (List ℕ))) → left ≡ Some text
-    → IfSome rest (λ r. parts_at c text.now ≡ part ∷ parts_at c r.now)
-    → IfNone rest (parts_at c text.now ≡ part ∷ [])
-    → parts_left c left ≡ part ∷ parts_left c rest
-parts_left-cut c left text part None e h k = ap (parts_left c) e ∙ k
-parts_left-cut c left text part (Some r) e h k = ap (parts_left c) e ∙ h
-
--- and less is left
-pub left_to_read-cut : (left : Option (Bor (List ℕ))) (text : Bor (List ℕ)) (rest : Option (Bor (List ℕ))) → left ≡ Some text
-    → IfSome rest (λ r. length r.now < length text.now) → left_to_read rest < left_to_read left
-left_to_read-cut left text None e h = subst (λ (x : Option (Bor (List ℕ))). 0 < left_to_read x) (sym e) (omega arith)
-left_to_read-cut left text (Some r) e h = subst (λ (x : Option (Bor (List ℕ))). length r.now + 1 < left_to_read x) (sym e) (omega arith)
 
 pub conditions_by : (word : List ℕ) (o : Option (List WrittenCondition)) → bytes_eq word (codes "-") ≡ false → o ≡ each condition_of (parts_at 43 word) → o ≡ conditions_of word
 conditions_by word o other e = e ∙ sym (ap (λ (b : Bool). cond b (Some []) (each condition_of (parts_at 43 word))) other)

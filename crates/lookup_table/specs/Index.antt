@@ -1,39 +1,25 @@
--- The places of a table's lines, by class and geometry.
-use Rattle.std.specs.Prelude.{◌≡◌, ℕ, ◌+◌, ◌==◌, Bool, false, if◌then◌else◌, List, [], ◌∷◌, ◌++◌, slice_get}
-use Rattle.std.specs.Prelude.{Option, Some, None}
-use Rattle.std.specs.Option.{unwrap_or}
-use Rattle.std.specs.Map.{lookup}
-use Rattle.std.specs.Ordering.{nat_cmp, is_eq}
+-- An index: the places of a table's lines, in a map for each geometry.
+use Rattle.std.specs.Prelude.{◌≡◌, ℕ, ◌&&◌, ◌==◌, if◌then◌else◌, List, [], ◌∷◌, ◌++◌}
 use Rattle.chart_model.specs.declared.drawing.Geom.{Geom}
+use Rattle.chart_model.specs.declared.drawing.Geom.TheVariants.{Area, Line, Point}
+use Rattle.lookup_table.specs.declared.index.Index.{Index}
 use Rattle.lookup_table.specs.declared.line.TableLine.{TableLine}
-use Rattle.lookup_table.specs.Selection.{is_for}
+use Rattle.lookup_table.specs.Selection.{same_geom}
+use Rattle.lookup_table.specs.Places.{places_from, places_in}
 
--- the places, from one on, of the lines for a class and a geometry
-unfoldable pub places_from : ℕ → ℕ → Geom → List TableLine → List ℕ
-places_from start class geom [] = []
-places_from start class geom (line ∷ lines) =
-    if is_for class geom line then start ∷ places_from (start + 1) class geom lines
-    else places_from (start + 1) class geom lines
-
--- the places that a map by class has
-abbrev pub places_in : List (ℕ × List ℕ) → ℕ → List ℕ
-places_in entries class = unwrap_or (lookup (λ key. is_eq (nat_cmp class key)) entries) []
+-- the map of each geometry
+abbrev pub index_of : Index → Geom → List (ℕ × List ℕ)
+index_of index Area = index.areas.entries
+index_of index Line = index.lines.entries
+index_of index Point = index.points.entries
 
 -- a place more
-abbrev pub HasPlaceMore : List (ℕ × List ℕ) → List (ℕ × List ℕ) → ℕ → ℕ → Type 0
-HasPlaceMore old new class place = (other : ℕ) →
-    places_in new other ≡ (if class == other then places_in old other ++ place ∷ [] else places_in old other)
+abbrev pub AddsPlace : (Geom → List (ℕ × List ℕ)) → (Geom → List (ℕ × List ℕ)) → ℕ → Geom → ℕ → Type 0
+AddsPlace old new class geom place = (other : ℕ) (kind : Geom) →
+    places_in (new kind) other
+    ≡ (if (class == other) && same_geom geom kind then places_in (old kind) other ++ place ∷ []
+    else places_in (old kind) other)
 
 -- the maps have the places of all lines
 abbrev pub IsIndexOf : List TableLine → (Geom → List (ℕ × List ℕ)) → Type 0
 IsIndexOf lines index = (class : ℕ) (geom : Geom) → places_in (index geom) class ≡ places_from 0 class geom lines
-
--- the first of these places at which the line passes
-abbrev pub passes_at : (TableLine → Bool) → Option TableLine → Bool
-passes_at test None = false
-passes_at test (Some line) = test line
-
-unfoldable pub first_place : (TableLine → Bool) → List TableLine → List ℕ → Option ℕ
-first_place test lines [] = None
-first_place test lines (place ∷ places) =
-    if passes_at test (slice_get lines place) then Some place else first_place test lines places

@@ -14,7 +14,7 @@ use Rattle.lookup_table.specs.declared.condition.Condition.{Condition}
 use Rattle.lookup_table.specs.declared.instruction.Instruction.{Instruction}
 use Rattle.lookup_table.specs.declared.line.TableLine.{TableLine}
 use Rattle.lookup_table.specs.declared.written.WrittenLine.{WrittenLine}
-use Rattle.lookup_table.specs.Named.{line_as, named, named_condition, instruction_in, has_unknown_name}
+use Rattle.lookup_table.specs.Named.{line_as, coded_line, named_condition, instruction_in, has_unknown_name}
 use Rattle.lookup_table.specs.Named.{has_unknown_procedure}
 use Rattle.lookup_table.specs.Reading.{each, written_of}
 
@@ -23,8 +23,8 @@ abbrev pub written_on : List ℕ → List WrittenLine
 written_on line = if is_silent line then [] else option_to_list (written_of line)
 
 -- what a line says
-abbrev pub said : CatalogueValue → List ℕ → List TableLine
-said catalogue line = flat_map (λ written. option_to_list (named catalogue written)) (written_on line)
+abbrev pub lines_on : CatalogueValue → List ℕ → List TableLine
+lines_on catalogue line = flat_map (λ written. option_to_list (coded_line catalogue written)) (written_on line)
 
 -- the line says something and is no line of a table
 abbrev pub is_bad : List ℕ → Bool
@@ -49,13 +49,13 @@ fault_at catalogue before line = line_fault catalogue (length before + 1) line
 -- the table that the bytes are, or the first fault among their lines
 abbrev pub table_in : CatalogueValue → List ℕ → Result (List TableLine) TableFault
 table_in catalogue bytes =
-    unless (first_fault (fault_at catalogue) [] (lines bytes)) (flat_map (said catalogue) (lines bytes))
+    unless (first_fault (fault_at catalogue) [] (lines bytes)) (flat_map (lines_on catalogue) (lines bytes))
 
 -- ---- line by line
 
 -- what the line of this number says, or its fault
 unfoldable pub line_in : CatalogueValue → ℕ → List ℕ → Result (List TableLine) TableFault
-line_in catalogue number line = unless (line_fault catalogue number line) (said catalogue line)
+line_in catalogue number line = unless (line_fault catalogue number line) (lines_on catalogue line)
 
 -- the line of this number by its parts that are there, or the first fault among those that aren't
 abbrev pub line_or_fault : ℕ → WrittenLine → Option ℕ → Option (List Condition) → Option (List Instruction)
@@ -66,7 +66,7 @@ line_or_fault number line (Some class) (Some conditions) None = Err (UnknownProc
 line_or_fault number line (Some class) (Some conditions) (Some instructions) =
     Ok (line_as line class conditions instructions)
 
-abbrev pub named_or_fault : CatalogueValue → ℕ → WrittenLine → Result TableLine TableFault
-named_or_fault catalogue number line =
+abbrev pub coded_line_or_fault : CatalogueValue → ℕ → WrittenLine → Result TableLine TableFault
+coded_line_or_fault catalogue number line =
     line_or_fault number line (code_in catalogue.classes line.class)
     (each (named_condition catalogue) line.conditions) (each instruction_in line.instructions)

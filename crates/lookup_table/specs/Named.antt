@@ -65,8 +65,8 @@ line_with line (Some class) (Some conditions) None = None
 line_with line (Some class) (Some conditions) (Some instructions) = Some (line_as line class conditions instructions)
 
 -- the line with codes in place of acronyms, where all its names and procedures are there
-abbrev pub named : CatalogueValue → WrittenLine → Option TableLine
-named catalogue line =
+abbrev pub coded_line : CatalogueValue → WrittenLine → Option TableLine
+coded_line catalogue line =
     line_with line (code_in catalogue.classes line.class)
     (each (named_condition catalogue) line.conditions) (each instruction_in line.instructions)
 

@@ -47,8 +47,8 @@ is_unconditional line = length line.conditions == 0
 
 -- The place of the line for an object: the first line for its class and geometry with a condition at least, all of
 -- which hold; else the first without conditions.
-abbrev pub selected : List TableLine → ℕ → Geom → Attrs → Option ℕ
-selected lines class geom attrs =
+abbrev pub place_for : List TableLine → ℕ → Geom → Attrs → Option ℕ
+place_for lines class geom attrs =
     option_or
     (position (λ line. is_for class geom line && applies attrs line) lines)
     (position (λ line. is_for class geom line && is_unconditional line) lines)

@@ -1,4 +1,7 @@
 //! What a line of a table asks of an object's attributes.
+//!
+//! A cell has thousands of features, and each asks several lines. So a condition names its attribute by its code, and
+//! nothing is copied to test it.
 
 ghost use Rattle.std.specs.Prelude.{◌≡◌};
 ghost use Rattle.std.specs.Option.{option_copied};

@@ -1,4 +1,6 @@
 //! Why a table is not read.
+//!
+//! Want of memory stands beside the faults of lines, so that one type serves every call of the reading.
 
 ghost use Rattle.std.specs.Prelude.{◌≡◌};
 ghost use Rattle.lookup_table.specs.declared.fault.TableFault.TheVariants.{NoMemory};

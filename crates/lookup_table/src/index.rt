@@ -1,9 +1,11 @@
 //! Where the lines for a class and a geometry stand.
+//!
+//! A selection is made for each feature of a cell; with the places of its class and geometry it looks at few lines.
 
 ghost use Rattle.std.specs.Prelude.{◌≡◌, [], IfOk};
 ghost use Rattle.chart_model.specs.declared.drawing.Geom.{Geom as GeomValue};
-ghost use Rattle.lookup_table.specs.Index.{places_in, HasPlaceMore};
-ghost use Rattle.lookup_table.specs.Places.{index_of, AddsPlace};
+ghost use Rattle.lookup_table.specs.Places.{places_in, HasPlaceMore};
+ghost use Rattle.lookup_table.specs.Index.{index_of, AddsPlace};
 
 use chart_model::{Geom, Sequence};
 use std::alloc::{AllocError, Global};

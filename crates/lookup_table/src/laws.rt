@@ -1,4 +1,7 @@
 //! What holds of tables and of what they say.
+//!
+//! The contracts cite functions of a text. The grammar that a reader checks them by is a relation; the two are tied
+//! together here.
 
 ghost use Rattle.std.specs.Prelude.{◌≡◌, ◌↔◌, List, ℕ, Some, IsTrue};
 ghost use Rattle.lookup_table.specs.declared.written.WrittenLine.{WrittenLine as LineValue};

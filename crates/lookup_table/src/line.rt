@@ -1,4 +1,6 @@
 //! A line of a table.
+//!
+//! Its names are codes by now, so that it can be held against features, which have no acronyms.
 
 use crate::condition::ConditionList;
 use crate::instruction::InstructionList;

@@ -1,10 +1,12 @@
 //! The names and procedures of a line, looked up.
+//!
+//! They are looked up when the whole line is read: a bad line is told as bad, even where a name of it is unknown too.
 
 ghost use Rattle.std.specs.Prelude.{◌≡◌, IfOk};
 ghost use Rattle.lookup_table.specs.Answers.{AnswersNamed};
 ghost use Rattle.lookup_table.specs.Reading.{each};
 ghost use Rattle.lookup_table.specs.Named.{named_condition, instruction_in};
-ghost use Rattle.lookup_table.specs.Lines.{named_or_fault};
+ghost use Rattle.lookup_table.specs.Lines.{coded_line_or_fault};
 
 use crate::condition::Condition;
 use crate::fault::TableFault;
@@ -69,7 +71,7 @@ pub fn name_line(
     number: u64,
     written: WrittenLine,
 ) -> Result<TableLine, TableFault>
-    ensures { AnswersNamed result (named_or_fault catalogue.now number written) }
+    ensures { AnswersNamed result (coded_line_or_fault catalogue.now number written) }
 {
     let WrittenLine {
         class,

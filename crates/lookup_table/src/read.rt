@@ -1,6 +1,8 @@
 //! A table, read.
+//!
+//! The limit and the order of the faults stand here; what a line may say is in `written`, and what its names stand for
+//! in `named`.
 
-ghost use Rattle.std.specs.Prelude.{◌≤◌, IfOk};
 ghost use Rattle.lookup_table.specs.Lines.{table_in, line_in};
 ghost use Rattle.lookup_table.specs.Answers.{Answers, AnswersLine};
 
@@ -11,7 +13,7 @@ use crate::table::Table;
 use crate::written::read_written;
 use object_catalogue::Catalogue;
 use std::alloc::Global;
-use text_lines::{cut_line, is_silent};
+use text_lines::{is_silent, numbered_lines};
 
 /// The most lines of a table.
 const MOST_LINES: u64 = 10_000;
@@ -24,8 +26,7 @@ fn read_line(
     number: u64,
     line: &[u8],
 ) -> Result<Option<TableLine>, TableFault>
-    ensures answer { AnswersLine result (line_in catalogue.now number line.now) }
-    ensures within { IfOk result (λ _. number ≤ 10000) }
+    ensures { AnswersLine result (line_in catalogue.now number line.now) }
 {
     if number > MOST_LINES {
         return Err(TableFault::BadLine(number));
@@ -49,13 +50,9 @@ pub fn read_table(alloc: Global, bytes: &[u8], catalogue: &Catalogue) -> Result<
     ensures { Answers result (table_in catalogue.now bytes.now) }
 {
     let mut table = Table::new(alloc);
-    let mut number = 0;
-    let mut rest = bytes;
-    while let Some((line, others)) = cut_line(rest) {
-        number += 1;
+    for (number, line) in numbered_lines(bytes) {
         let said = read_line(alloc, catalogue, number, line)?;
         table = table.with_any(alloc, said)?;
-        rest = others;
     }
     Ok(table)
 }

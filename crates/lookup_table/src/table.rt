@@ -1,9 +1,11 @@
 //! A table, and the line that it has for an object.
+//!
+//! The lines keep their order, since the first one that applies is taken.
 
 ghost use Rattle.std.specs.Prelude.{◌≡◌, ◌++◌, ◌∷◌, [], IfOk, slice_get};
 ghost use Rattle.std.specs.Option.{option_copied, option_to_list};
-ghost use Rattle.lookup_table.specs.Selection.{applies, is_unconditional, selected};
-ghost use Rattle.lookup_table.specs.Index.{places_from, first_place};
+ghost use Rattle.lookup_table.specs.Selection.{applies, is_unconditional, place_for};
+ghost use Rattle.lookup_table.specs.Places.{places_from, passes, first_place};
 
 use crate::condition::all_hold;
 use crate::index::Index;
@@ -24,8 +26,7 @@ pub struct Table {
 impl Model for Table {
     ghost use Rattle.std.specs.Prelude.{List};
     ghost use Rattle.lookup_table.specs.declared.line.TableLine.{TableLine as LineValue};
-    ghost use Rattle.lookup_table.specs.Index.{IsIndexOf};
-    ghost use Rattle.lookup_table.specs.Places.{index_of};
+    ghost use Rattle.lookup_table.specs.Index.{IsIndexOf, index_of};
 
     ghost Value = { List LineValue };
 
@@ -55,32 +56,44 @@ fn line_at(lines: &[TableLine], place: usize) -> Option<&TableLine>
     lines.get(place)
 }
 
+/// Whether the line at a place applies to an object with these attributes.
+fn applies_at(lines: &[TableLine], place: usize, attrs: &AttrMap) -> bool
+    ensures { result ≡ passes (applies attrs.now) (slice_get lines.now place) }
+{
+    match line_at(lines, place) {
+        Some(line) => applies(line, attrs),
+        None => false,
+    }
+}
+
+/// Whether the line at a place has no condition.
+fn is_unconditional_at(lines: &[TableLine], place: usize) -> bool
+    ensures { result ≡ passes is_unconditional (slice_get lines.now place) }
+{
+    match line_at(lines, place) {
+        Some(line) => is_unconditional(line),
+        None => false,
+    }
+}
+
 /// The first of these places at which a line applies.
 fn first_that_applies(lines: &[TableLine], places: &[usize], attrs: &AttrMap) -> Option<usize>
     ensures { result ≡ first_place (applies attrs.now) lines.now places.now }
 {
-    for place in places {
-        if let Some(line) = line_at(lines, *place)
-            && applies(line, attrs)
-        {
-            return Some(*place);
-        }
-    }
-    None
+    places
+        .iter()
+        .copied()
+        .find(|place| applies_at(lines, *place, attrs))
 }
 
 /// The first of these places at which a line has no condition.
 fn first_unconditional(lines: &[TableLine], places: &[usize]) -> Option<usize>
     ensures { result ≡ first_place is_unconditional lines.now places.now }
 {
-    for place in places {
-        if let Some(line) = line_at(lines, *place)
-            && is_unconditional(line)
-        {
-            return Some(*place);
-        }
-    }
-    None
+    places
+        .iter()
+        .copied()
+        .find(|place| is_unconditional_at(lines, *place))
 }
 
 impl Table {
@@ -145,7 +158,7 @@ impl Table {
     ///
     /// It takes no memory, and looks at the lines of the class and the geometry alone.
     pub fn select(&self, class: u16, geom: Geom, attrs: &AttrMap) -> Option<usize>
-        ensures { result ≡ selected self.now class geom attrs.now }
+        ensures { result ≡ place_for self.now class geom attrs.now }
     {
         let places = self.places(class, geom);
         let lines = self.lines();

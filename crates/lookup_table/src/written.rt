@@ -1,4 +1,6 @@
 //! A line of a table as it is written.
+//!
+//! It is the grammar alone, and asks no catalogue; so the law on what a text spells (`laws`) needs none either.
 
 ghost use Rattle.std.specs.Prelude.{◌≡◌, ◌∷◌, [], IfOk, IsTrue};
 ghost use Rattle.std.specs.List.{list_all};
@@ -12,7 +14,7 @@ use crate::condition::Test;
 use chart_model::{Geom, Octets, Sequence};
 use object_catalogue::{Acronym, read_acronym};
 use std::alloc::{AllocError, Global};
-use text_lines::cut_part;
+use text_lines::{cut_part, parts_of};
 
 /// A condition as it is written, with its attribute's acronym.
 #[derive(Debug, Drop)]
@@ -53,7 +55,7 @@ fn read_test(alloc: Global, text: &[u8]) -> Result<Option<Test>, AllocError>
     if text.is_empty() || !are_text_bytes(text) {
         return Ok(None);
     }
-    let text = Octets::from_vec(Vec::from_slice(alloc, text)?);
+    let text = Octets::from_slice(alloc, text)?;
     Ok(Some(Test::Equals(text)))
 }
 
@@ -97,14 +99,11 @@ fn read_conditions(
     if word == b"-".as_slice() {
         return Ok(Some(conditions));
     }
-    let mut left = Some(word);
-    while let Some(text) = left {
-        let (part, rest) = cut_part(text, b'+');
+    for part in parts_of(word, b'+') {
         let Some(condition) = read_condition(alloc, part)? else {
             return Ok(None);
         };
         conditions.push(condition)?;
-        left = rest;
     }
     Ok(Some(conditions))
 }
@@ -146,7 +145,7 @@ fn read_instruction_text(alloc: Global, text: &[u8]) -> Result<Option<Octets>, A
     if !is_instruction(text) {
         return Ok(None);
     }
-    let text = Octets::from_vec(Vec::from_slice(alloc, text)?);
+    let text = Octets::from_slice(alloc, text)?;
     Ok(Some(text))
 }
 
@@ -158,14 +157,11 @@ fn read_instructions(alloc: Global, text: &[u8]) -> Result<Option<Sequence<Octet
     if text == b"-".as_slice() {
         return Ok(Some(instructions));
     }
-    let mut left = Some(text);
-    while let Some(text) = left {
-        let (part, rest) = cut_part(text, b';');
+    for part in parts_of(text, b';') {
         let Some(instruction) = read_instruction_text(alloc, part)? else {
             return Ok(None);
         };
         instructions.push(instruction)?;
-        left = rest;
     }
     Ok(Some(instructions))
 }

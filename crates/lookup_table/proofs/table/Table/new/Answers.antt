@@ -1,5 +1,5 @@
 use Rattle.std.proofs.Common.{ℕ, List, ap, ◌∙◌}
-use Rattle.lookup_table.specs.Index.{places_in}
+use Rattle.lookup_table.specs.Places.{places_in}
 use Rattle.lookup_table.proofs.Indexes.{no_places}
 use Rattle.lookup_table.proofs.table.Table.new.Goals as goal
 

@@ -1,5 +1,5 @@
 use Rattle.std.proofs.Common.{sym, ◌∙◌}
-use Rattle.lookup_table.specs.Index.{first_place}
+use Rattle.lookup_table.specs.Places.{first_place}
 use Rattle.lookup_table.specs.Selection.{applies, is_unconditional}
 use Rattle.lookup_table.proofs.Selections.{chosen_first, chosen_second}
 use Rattle.lookup_table.proofs.table.Table.select.Goals as goal

@@ -1,7 +1,6 @@
 use Rattle.std.proofs.Common.{◌≡◌, ℕ, List, length, sym, subst, rules}
 use Rattle.lookup_table.specs.declared.line.TableLine.{TableLine}
-use Rattle.lookup_table.specs.Index.{IsIndexOf}
-use Rattle.lookup_table.specs.Places.{index_of, AddsPlace}
+use Rattle.lookup_table.specs.Index.{IsIndexOf, index_of, AddsPlace}
 use Rattle.lookup_table.proofs.Indexes.{indexed-push}
 use Rattle.lookup_table.proofs.table.Table.with.Goals as goal
 
