@@ -14,10 +14,10 @@ use Rattle.iso8211_records.specs.Record.{IsDescriptiveRecord}
 use Rattle.iso8211_records.specs.RecordFile.{IsRecordFile, record_file_of}
 use Rattle.cell_bytes.specs.Descriptive.{descriptive_record}
 use Rattle.cell_bytes.specs.Layouts.{layouts, tags_read}
-use Rattle.cell_bytes.specs.Record.{digits, entries, entry, field, field_area, framed, leader_of, record_of}
+use Rattle.cell_bytes.specs.Record.{digits, entries, entry, field, field_area, record_bytes, leader_of, record_of}
 
 pub computed : record_file_of tags_read descriptive_record ≡ Ok (record { descriptors = layouts; records = [] })
-unfolding record_file_of descriptive_record_at record_at leader_at directory_at entries_at spans_at ends_at descriptors_in data_records_at is_leader is_entry frame_of entry_of AreDigits at_most before_end behind binary_format closed_label count_of cut_at descriptor_of digits_and_rest format_of format_with formats_of grouped_labels item_of items_of items_text labels_of layout_with format_number open_format parts_of plain_labels sized_format descriptive_record record_of framed leader_of entries entry digits field_area field layouts
+unfolding record_file_of descriptive_record_at record_at leader_at directory_at entries_at spans_at ends_at descriptors_in data_records_at is_leader is_entry frame_of entry_of AreDigits at_most before_end behind binary_format closed_label count_of cut_at descriptor_of digits_and_rest format_of format_with formats_of grouped_labels item_of items_of items_text labels_of layout_with format_number open_format parts_of plain_labels sized_format descriptive_record record_of record_bytes leader_of entries entry digits field_area field layouts
 computed = refl
 
 pub described : IsRecordFile tags_read descriptive_record (record { descriptors = layouts; records = [] })

@@ -32,8 +32,8 @@ use Rattle.cell_bytes.specs.FieldValues.{vector_pointer_values}
 use Rattle.cell_bytes.specs.RecordsRead.{IsCellInRange, IsFeatureEntryInRange, IsVectorInRange, feature_read, general_read}
 use Rattle.cell_bytes.specs.RecordsRead.{general_values, parameter_values, parameters_read, read_field, read_list}
 use Rattle.cell_bytes.specs.RecordsRead.{records_read, structure_values, unread_identifier, vector_read}
-use Rattle.cell_bytes.specs.Written.{Numbered, data_records, feature_record, feature_records, file_of, next_number}
-use Rattle.cell_bytes.specs.Written.{number_behind, numbered, vector_record, vector_records}
+use Rattle.cell_bytes.specs.Written.{NumberedRecord, data_records, feature_record, feature_records, file_of, next_number}
+use Rattle.cell_bytes.specs.Written.{number_behind, records_from, vector_record, vector_records}
 use Rattle.std.specs.Prelude.{Option, None, Ok, nat_lt}
 use Rattle.std.proofs.Common.{arith, false, length}
 use Rattle.std.proofs.lemmas.Bool.Decides.{nat_tests}
@@ -183,13 +183,13 @@ feature_is number entry range short =
 
 -- ---- all records
 
-abbrev AllRead : ℕ → List Numbered → List (List RawField) → Type 0
+abbrev AllRead : ℕ → List NumberedRecord → List (List RawField) → Type 0
 AllRead number [] [] = Unit {0}
 AllRead number (record_under ∷ more) (raw ∷ raws) =
     IsDataRecord layout.tags_read layout.layouts (record_under number) raw × AllRead (next_number number) more raws
 AllRead number _ _ = ⊥
 
-all-append : (number : ℕ) (xs ys : List Numbered) (vs ws : List (List RawField)) → AllRead number xs vs
+all-append : (number : ℕ) (xs ys : List NumberedRecord) (vs ws : List (List RawField)) → AllRead number xs vs
     → AllRead (number_behind number xs) ys ws → AllRead number (xs ++ ys) (vs ++ ws)
 unfolding number_behind
 all-append number [] ys [] ws first second = second
@@ -211,18 +211,18 @@ all_features number [] range short = tt
 all_features number (entry ∷ entries) range short =
     (feature_is number entry range.0 short.0, all_features (next_number number) entries range.1 short.1)
 
-all_records : (number : ℕ) (records : List Numbered) (raws : List (List RawField)) → AllRead number records raws
-    → AreDataRecords layout.tags_read layout.layouts (numbered number records) raws
-unfolding numbered
+all_records : (number : ℕ) (records : List NumberedRecord) (raws : List (List RawField)) → AllRead number records raws
+    → AreDataRecords layout.tags_read layout.layouts (records_from number records) raws
+unfolding records_from
 all_records number [] [] read = refl
 all_records number [] (raw ∷ raws) read = absurd read
 all_records number (record_under ∷ more) [] read = absurd read
 all_records number (record_under ∷ more) (raw ∷ raws) read =
-    (record_under number, numbered (next_number number) more, refl, read.0, all_records (next_number number) more raws read.1)
+    (record_under number, records_from (next_number number) more, refl, read.0, all_records (next_number number) more raws read.1)
 
 cell_records : (cell : CellValue) → IsCellInRange cell → AllByRecursion IsShortVector (finite.entries cell.vectors)
     → AllByRecursion IsShortFeature (finite.entries cell.features)
-    → AreDataRecords layout.tags_read layout.layouts (numbered 1 (data_records cell)) (records_read cell)
+    → AreDataRecords layout.tags_read layout.layouts (records_from 1 (data_records cell)) (records_read cell)
 unfolding data_records records_read vector_records feature_records
 cell_records cell range short_vectors short_features =
     let all : AllRead 1 (data_records cell) (records_read cell) = (
@@ -259,7 +259,7 @@ short_by n fault none =
       | false ↦ λ e h. grind (arith, nat_tests, e)
     ] refl none
 
-short_record : (name : Name) (record_under : Numbered) → record_fault name record_under ≡ None → length (record_under 0) ≤ 99999
+short_record : (name : Name) (record_under : NumberedRecord) → record_fault name record_under ≡ None → length (record_under 0) ≤ 99999
 unfolding record_fault
 short_record name record_under none = short_by (length (record_under 0)) (RecordLong name (length (record_under 0))) none
 
@@ -299,7 +299,7 @@ file_is described cell range none =
     let one = none_first (feature_faults cell) (vector_faults cell) two.0 in
     record {
       first = descriptive_record;
-      rest = numbered 1 (data_records cell);
+      rest = records_from 1 (data_records cell);
       pieces = refl;
       descriptive = described;
       data_records = cell_records cell range (short_vectors (finite.entries cell.vectors) one.1) (short_features (finite.entries cell.features) one.0);

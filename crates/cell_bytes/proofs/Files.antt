@@ -7,29 +7,29 @@ use Rattle.cell_bytes.specs.declared.fault.WriteFault.{WriteFault}
 use Rattle.cell_bytes.specs.Descriptive.{descriptive_record}
 use Rattle.cell_bytes.specs.Record.{of_data, record_of}
 use Rattle.cell_bytes.specs.DataSet.{general_fields, parameter_fields}
-use Rattle.cell_bytes.specs.Written.{Numbered, data_records, feature_faults, feature_records, file_of, length_fault}
-use Rattle.cell_bytes.specs.Written.{next_number, number_behind, numbered, vector_faults, vector_records, write_fault, written}
+use Rattle.cell_bytes.specs.Written.{NumberedRecord, data_records, feature_faults, feature_records, file_of, length_fault}
+use Rattle.cell_bytes.specs.Written.{next_number, number_behind, records_from, vector_faults, vector_records, write_fault, written}
 
-pub numbered-append : (number : ℕ) (xs ys : List Numbered)
-    → numbered number (xs ++ ys) ≡ numbered number xs ++ numbered (number_behind number xs) ys
-unfolding numbered number_behind
-numbered-append number [] ys = refl
-numbered-append number (x ∷ xs) ys =
-    ap (λ (l : List ℕ). x number ++ l) (numbered-append (next_number number) xs ys)
-    ∙ sym (append_assoc (x number) (numbered (next_number number) xs) (numbered (number_behind (next_number number) xs) ys))
+pub records_from-append : (number : ℕ) (xs ys : List NumberedRecord)
+    → records_from number (xs ++ ys) ≡ records_from number xs ++ records_from (number_behind number xs) ys
+unfolding records_from number_behind
+records_from-append number [] ys = refl
+records_from-append number (x ∷ xs) ys =
+    ap (λ (l : List ℕ). x number ++ l) (records_from-append (next_number number) xs ys)
+    ∙ sym (append_assoc (x number) (records_from (next_number number) xs) (records_from (number_behind (next_number number) xs) ys))
 
 -- the file as it is put together
 pieces : (cell : CellValue) → file_of cell
     ≡ (descriptive_record ++ record_of of_data (general_fields 1 cell)
     ++ record_of of_data (parameter_fields 2 cell.header.scale))
-    ++ numbered 3 (vector_records cell) ++ numbered (number_behind 3 (vector_records cell)) (feature_records cell)
-unfolding file_of data_records numbered
+    ++ records_from 3 (vector_records cell) ++ records_from (number_behind 3 (vector_records cell)) (feature_records cell)
+unfolding file_of data_records records_from
 pieces cell =
     let g = record_of of_data (general_fields 1 cell) in
     let p = record_of of_data (parameter_fields 2 cell.header.scale) in
-    let v = numbered 3 (vector_records cell) in
-    let f = numbered (number_behind 3 (vector_records cell)) (feature_records cell) in
-    ap (λ (l : List ℕ). descriptive_record ++ (g ++ (p ++ l))) (numbered-append 3 (vector_records cell) (feature_records cell))
+    let v = records_from 3 (vector_records cell) in
+    let f = records_from (number_behind 3 (vector_records cell)) (feature_records cell) in
+    ap (λ (l : List ℕ). descriptive_record ++ (g ++ (p ++ l))) (records_from-append 3 (vector_records cell) (feature_records cell))
     ∙ sym (append_assoc descriptive_record g (p ++ (v ++ f)))
     ∙ sym (append_assoc (descriptive_record ++ g) p (v ++ f))
     ∙ sym (append_assoc (descriptive_record ++ g ++ p) v f)
@@ -42,9 +42,9 @@ pub record Steps (cell : CellValue) (b0 b1 b2 b3 b4 : List ℕ) (n0 n1 n2 n3 : �
   pub second : n1 ≡ next_number n0
   pub parameters : b2 ≡ b1 ++ record_of of_data (parameter_fields n1 cell.header.scale)
   pub third : n2 ≡ next_number n1
-  pub vectors : b3 ≡ b2 ++ numbered n2 (vector_records cell)
+  pub vectors : b3 ≡ b2 ++ records_from n2 (vector_records cell)
   pub last : n3 ≡ number_behind n2 (vector_records cell)
-  pub features : b4 ≡ b3 ++ numbered n3 (feature_records cell)
+  pub features : b4 ≡ b3 ++ records_from n3 (feature_records cell)
 
 bytes_of : (cell : CellValue) (b0 b1 b2 b3 b4 : List ℕ) (n0 n1 n2 n3 : ℕ) → Steps cell b0 b1 b2 b3 b4 n0 n1 n2 n3
     → b4 ≡ file_of cell
@@ -53,10 +53,10 @@ bytes_of cell b0 b1 b2 b3 b4 n0 n1 n2 n3 s =
     let e2 : n2 ≡ 3 = s.third ∙ ap next_number e1 in
     let e3 : n3 ≡ number_behind 3 (vector_records cell) = s.last ∙ ap (λ (n : ℕ). number_behind n (vector_records cell)) e2 in
     s.features
-    ∙ ap (λ (n : ℕ). b3 ++ numbered n (feature_records cell)) e3
-    ∙ ap (λ (l : List ℕ). l ++ numbered (number_behind 3 (vector_records cell)) (feature_records cell))
-    (s.vectors ∙ ap (λ (n : ℕ). b2 ++ numbered n (vector_records cell)) e2
-    ∙ ap (λ (l : List ℕ). l ++ numbered 3 (vector_records cell))
+    ∙ ap (λ (n : ℕ). b3 ++ records_from n (feature_records cell)) e3
+    ∙ ap (λ (l : List ℕ). l ++ records_from (number_behind 3 (vector_records cell)) (feature_records cell))
+    (s.vectors ∙ ap (λ (n : ℕ). b2 ++ records_from n (vector_records cell)) e2
+    ∙ ap (λ (l : List ℕ). l ++ records_from 3 (vector_records cell))
     (s.parameters ∙ ap (λ (n : ℕ). b1 ++ record_of of_data (parameter_fields n cell.header.scale)) e1
     ∙ ap (λ (l : List ℕ). l ++ record_of of_data (parameter_fields 2 cell.header.scale))
     (s.general ∙ ap (λ (n : ℕ). b0 ++ record_of of_data (general_fields n cell)) s.first

@@ -3,7 +3,7 @@ use Rattle.std.proofs.Common.{◌≡◌, ℕ, ◌+◌, zero, suc, List, [], ◌�
 use Rattle.chart_model.specs.Codes.{FIELD_TERMINATOR}
 use Rattle.cell_bytes.specs.declared.fields.Fields.{Fields}
 use Rattle.cell_bytes.specs.declared.fields.Kind.{Kind}
-use Rattle.cell_bytes.specs.Record.{Field, alone, base_of, digits, entries, entry, field_area, framed, leader_of}
+use Rattle.cell_bytes.specs.Record.{Field, only_fields, base_of, digits, entries, entry, field_area, record_bytes, leader_of}
 use Rattle.cell_bytes.specs.Record.{of_data, no_fields, record_of, with_field, with_fields}
 
 directory-with_fields : (before : Fields) (fields : List Field)
@@ -24,12 +24,12 @@ area-with_fields before (one ∷ more) =
     area-with_fields (with_field before one) more ∙ append_assoc before.area one.1 (field_area more)
 
 -- the record of fields that were added is theirs
-pub framed_alone : (kind : Kind) (fields : List Field)
-    → framed kind (alone fields).directory (alone fields).area ≡ record_of kind fields
+pub record_bytes_only_fields : (kind : Kind) (fields : List Field)
+    → record_bytes kind (only_fields fields).directory (only_fields fields).area ≡ record_of kind fields
 unfolding record_of
-framed_alone kind fields =
-    ap (λ (d : List ℕ). framed kind d (alone fields).area) (directory-with_fields no_fields fields)
-    ∙ ap (framed kind (entries 0 fields)) (area-with_fields no_fields fields)
+record_bytes_only_fields kind fields =
+    ap (λ (d : List ℕ). record_bytes kind d (only_fields fields).area) (directory-with_fields no_fields fields)
+    ∙ ap (record_bytes kind (entries 0 fields)) (area-with_fields no_fields fields)
 
 pub length-digits : (count number : ℕ) → length (digits count number) ≡ count
 unfolding digits
@@ -41,9 +41,9 @@ unfolding leader_of digits
 length-leader_of base bytes = refl
 
 -- the bytes of a record
-pub length-framed : (directory area : List ℕ) → length (framed of_data directory area) ≡ base_of directory + length area
-unfolding framed
-length-framed directory area =
+pub length-record_bytes : (directory area : List ℕ) → length (record_bytes of_data directory area) ≡ base_of directory + length area
+unfolding record_bytes
+length-record_bytes directory area =
     omega (
       arith,
       length-leader_of (base_of directory) (base_of directory + length area),
@@ -54,6 +54,6 @@ length-framed directory area =
 
 -- the length of a record that was made is that of its bytes
 pub length-record_of : (fields : List Field)
-    → base_of (alone fields).directory + length (alone fields).area ≡ length (record_of of_data fields)
+    → base_of (only_fields fields).directory + length (only_fields fields).area ≡ length (record_of of_data fields)
 length-record_of fields =
-    sym (length-framed (alone fields).directory (alone fields).area) ∙ ap length (framed_alone of_data fields)
+    sym (length-record_bytes (only_fields fields).directory (only_fields fields).area) ∙ ap length (record_bytes_only_fields of_data fields)

@@ -13,7 +13,7 @@ use Rattle.chart_model.specs.Key.{IsVisible}
 use Rattle.chart_model.specs.Record.{IsPlainText}
 use Rattle.cell_bytes.specs.declared.data_set.Purpose.TheVariants.{NewDataSet}
 use Rattle.cell_bytes.specs.Subfields.{b11, b12, b14, open_text}
-use Rattle.cell_bytes.specs.Record.{digits, entries, entry, field, field_area, framed, leader_of, of_data, record_of}
+use Rattle.cell_bytes.specs.Record.{digits, entries, entry, field, field_area, record_bytes, leader_of, of_data, record_of}
 use Rattle.cell_bytes.specs.Vector.{identified}
 use Rattle.cell_bytes.specs.DataSet.{data_set_identifier, dates_text, datum_text, exchange_text, factor_text, feature_counts}
 use Rattle.cell_bytes.specs.DataSet.{general_fields, name_and_numbers, number_text, parameter_fields, parameter_text}
@@ -137,5 +137,5 @@ general_short number cell chart issued =
     omega (arith, length-of_record (general_fields number cell), entries_short number cell, area_short number cell chart issued)
 
 pub parameters_short : (number scale : ℕ) → length (record_of of_data (parameter_fields number scale)) ≤ 99999
-unfolding record_of framed leader_of entries entry field_area field digits parameter_fields identified parameter_text datum_text unit_text factor_text open_text b11 b12 b14
+unfolding record_of record_bytes leader_of entries entry field_area field digits parameter_fields identified parameter_text datum_text unit_text factor_text open_text b11 b12 b14
 parameters_short number scale = lit≤ tt

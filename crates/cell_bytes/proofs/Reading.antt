@@ -13,8 +13,8 @@ use Rattle.iso8211_leader.specs.Entry.{IsEntry, entry_of}
 use Rattle.iso8211_leader.specs.declared.entry.Entry.{Entry}
 use Rattle.iso8211_records.specs.Record.{IsDirectory, IsEnded, IsInside, field_bytes}
 use Rattle.cell_bytes.specs.Framing.{HasFields}
-use Rattle.cell_bytes.specs.Record.{Field, base_of, digits, entries, entry, field_area, framed, leader_of, of_data, record_of}
-use Rattle.cell_bytes.proofs.Framed.{length-digits, length-framed, length-leader_of}
+use Rattle.cell_bytes.specs.Record.{Field, base_of, digits, entries, entry, field_area, record_bytes, leader_of, of_data, record_of}
+use Rattle.cell_bytes.proofs.Framed.{length-digits, length-record_bytes, length-leader_of}
 
 -- ---- digits
 
@@ -147,21 +147,21 @@ is_directory base bytes position (one ∷ more) small fit = (
 
 module _ (directory area : List ℕ) where
   -- the parts of a record, from its leader on
-  parts : framed of_data directory area
+  parts : record_bytes of_data directory area
       ≡ leader_of of_data (base_of directory) (base_of directory + length area) ++ (directory ++ FIELD_TERMINATOR ∷ area)
-  unfolding framed
+  unfolding record_bytes
   parts =
       let leader : List ℕ = leader_of of_data (base_of directory) (base_of directory + length area) in
       append_assoc (leader ++ directory) (FIELD_TERMINATOR ∷ []) area
       ∙ append_assoc leader directory (FIELD_TERMINATOR ∷ area)
 
-  leader_taken : take 24 (framed of_data directory area) ≡ leader_of of_data (base_of directory) (base_of directory + length area)
+  leader_taken : take 24 (record_bytes of_data directory area) ≡ leader_of of_data (base_of directory) (base_of directory + length area)
   leader_taken =
       ap (take 24) parts
       ∙ take_at (leader_of of_data (base_of directory) (base_of directory + length area)) (directory ++ FIELD_TERMINATOR ∷ area) 24
       (length-leader_of (base_of directory) (base_of directory + length area))
 
-  directory_taken : slice_range (framed of_data directory area) 24 (base_of directory - 1) ≡ directory
+  directory_taken : slice_range (record_bytes of_data directory area) 24 (base_of directory - 1) ≡ directory
   directory_taken =
       ap (λ (l : List ℕ). take (base_of directory - 1 - 24) (drop 24 l)) parts
       ∙ ap (take (base_of directory - 1 - 24))
@@ -169,7 +169,7 @@ module _ (directory area : List ℕ) where
       (length-leader_of (base_of directory) (base_of directory + length area)))
       ∙ take_at directory (FIELD_TERMINATOR ∷ area) (base_of directory - 1 - 24) (omega arith)
 
-  closing_is : get_or (framed of_data directory area) (base_of directory - 1) 0 ≡ FIELD_TERMINATOR
+  closing_is : get_or (record_bytes of_data directory area) (base_of directory - 1) 0 ≡ FIELD_TERMINATOR
   closing_is =
       let leader : List ℕ = leader_of of_data (base_of directory) (base_of directory + length area) in
       let before : length (leader ++ directory) ≡ base_of directory - 1 =
@@ -178,8 +178,8 @@ module _ (directory area : List ℕ) where
       ∙ get_or_at (leader ++ directory) FIELD_TERMINATOR area 0 (base_of directory - 1) before
 
   -- what stands behind the base address
-  area_taken : drop (base_of directory) (framed of_data directory area) ≡ area
-  unfolding framed
+  area_taken : drop (base_of directory) (record_bytes of_data directory area) ≡ area
+  unfolding record_bytes
   area_taken =
       let leader : List ℕ = leader_of of_data (base_of directory) (base_of directory + length area) in
       drop_at (leader ++ directory ++ FIELD_TERMINATOR ∷ []) area (base_of directory)
@@ -248,7 +248,7 @@ has_fields tags fields small fit ends =
     let area : List ℕ = field_area fields in
     let base : ℕ = base_of directory in
     let bytes : ℕ = base + length area in
-    let whole : length (framed of_data directory area) ≡ bytes = length-framed directory area in
+    let whole : length (record_bytes of_data directory area) ≡ bytes = length-record_bytes directory area in
     let few : bytes < 100000 = omega (arith, whole, small) in
     record {
       frame = says base bytes;
@@ -261,7 +261,7 @@ has_fields tags fields small fit ends =
         closing = closing_is directory area;
         whole = whole;
         inside = inside (says base bytes) 0 fields (omega arith);
-        ended = ended tags (says base bytes) (framed of_data directory area) [] 0 fields refl (area_taken directory area) ends;
+        ended = ended tags (says base bytes) (record_bytes of_data directory area) [] 0 fields refl (area_taken directory area) ends;
       };
-      named = named (says base bytes) (framed of_data directory area) [] 0 fields refl (area_taken directory area);
+      named = named (says base bytes) (record_bytes of_data directory area) [] 0 fields refl (area_taken directory area);
     }

@@ -9,16 +9,16 @@ use Rattle.chart_model.specs.Codes.{FIELD_TERMINATOR}
 use Rattle.cell_bytes.specs.declared.fields.Fields.{Fields}
 use Rattle.cell_bytes.specs.declared.fault.WriteFault.{WriteFault}
 use Rattle.cell_bytes.specs.Subfields.{b12}
-use Rattle.cell_bytes.specs.Record.{Field, alone, base_of, digits, entries, entry, field, field_area, of_data, record_of}
+use Rattle.cell_bytes.specs.Record.{Field, only_fields, base_of, digits, entries, entry, field, field_area, of_data, record_of}
 use Rattle.cell_bytes.specs.Vector.{identified, vector_fields}
 use Rattle.cell_bytes.specs.Feature.{feature_fields}
 use Rattle.cell_bytes.specs.Written.{feature_record, long_fault, record_fault, vector_record}
-use Rattle.cell_bytes.proofs.Framed.{length-framed, length-record_of}
+use Rattle.cell_bytes.proofs.Framed.{length-record_bytes, length-record_of}
 
 pub length-of_record : (fields : List Field)
     → length (record_of of_data fields) ≡ base_of (entries 0 fields) + length (field_area fields)
 unfolding record_of
-length-of_record fields = length-framed (entries 0 fields) (field_area fields)
+length-of_record fields = length-record_bytes (entries 0 fields) (field_area fields)
 
 -- a record is as long as another whose first field is as long
 same_length : (tag x y : List ℕ) (rest : List Field) → length x ≡ length y
@@ -48,20 +48,20 @@ feature_length name feature m n =
     same_length _ (b12 m ++ FIELD_TERMINATOR ∷ []) (b12 n ++ FIELD_TERMINATOR ∷ []) _ (length-number m n)
 
 made_length : (made : Fields) (fields : List Field) (bytes : ℕ) → bytes ≡ base_of made.directory + length made.area
-    → made ≡ alone fields → bytes ≡ length (record_of of_data fields)
+    → made ≡ only_fields fields → bytes ≡ length (record_of of_data fields)
 made_length made fields bytes counted is =
     counted ∙ ap (λ (d : Fields). base_of d.directory + length d.area) is ∙ length-record_of fields
 
 -- what is wrong with the length of a vector's record, whatever its number
 pub vector_made : (name : Name) (vector : Vector) (number : ℕ) (made : Fields) (bytes : ℕ)
-    → bytes ≡ base_of made.directory + length made.area → made ≡ alone (vector_fields number name vector)
+    → bytes ≡ base_of made.directory + length made.area → made ≡ only_fields (vector_fields number name vector)
     → long_fault name bytes ≡ record_fault name (vector_record name vector)
 unfolding record_fault vector_record
 vector_made name vector number made bytes counted is =
     ap (long_fault name) (made_length made (vector_fields number name vector) bytes counted is ∙ vector_length name vector number 0)
 
 pub feature_made : (name : Name) (feature : Feature) (number : ℕ) (made : Fields) (bytes : ℕ)
-    → bytes ≡ base_of made.directory + length made.area → made ≡ alone (feature_fields number name feature)
+    → bytes ≡ base_of made.directory + length made.area → made ≡ only_fields (feature_fields number name feature)
     → long_fault name bytes ≡ record_fault name (feature_record name feature)
 unfolding record_fault feature_record
 feature_made name feature number made bytes counted is =

@@ -3,14 +3,14 @@ use Rattle.std.proofs.Common.{◌≡◌, ℕ, suc, ◌+◌, List, [], ◌∷◌,
 use Rattle.std.specs.Prelude.{filter}
 use Rattle.std.proofs.lemmas.List.{map-append}
 use Rattle.std.proofs.lemmas.List.Elements.{filter-append}
-use Rattle.cell_bytes.specs.Written.{Numbered, next_number, number_behind, numbered}
+use Rattle.cell_bytes.specs.Written.{NumberedRecord, next_number, number_behind, records_from}
 use Rattle.cell_bytes.specs.Descriptive.{descriptive_record}
 use Rattle.cell_bytes.specs.Record.{of_data, record_of}
 use Rattle.cell_bytes.specs.DataSet.{revision_fields}
 use Rattle.cell_bytes.specs.Generator.{modified, modified_areas, is_modified, made_header, made_update, numbers_to}
-use Rattle.cell_bytes.proofs.Files.{numbered-append}
+use Rattle.cell_bytes.proofs.Files.{records_from-append}
 
-number_behind-append : (number : ℕ) (xs ys : List Numbered)
+number_behind-append : (number : ℕ) (xs ys : List NumberedRecord)
     → number_behind number (xs ++ ys) ≡ number_behind (number_behind number xs) ys
 unfolding number_behind
 number_behind-append number [] ys = refl
@@ -29,27 +29,27 @@ areas_more update before =
 
 -- the bytes and the number behind one area more
 pub bytes_more : (update before number k : ℕ) (begun so_far after : List ℕ)
-    → so_far ≡ begun ++ numbered number (map (modified update) (modified_areas update before))
+    → so_far ≡ begun ++ records_from number (map (modified update) (modified_areas update before))
     → k ≡ number_behind number (map (modified update) (modified_areas update before))
-    → after ≡ so_far ++ numbered k (map (modified update) (filter (is_modified update) ((before + 1) ∷ [])))
-    → after ≡ begun ++ numbered number (map (modified update) (modified_areas update (before + 1)))
+    → after ≡ so_far ++ records_from k (map (modified update) (filter (is_modified update) ((before + 1) ∷ [])))
+    → after ≡ begun ++ records_from number (map (modified update) (modified_areas update (before + 1)))
 bytes_more update before number k begun so_far after bytes behind added =
-    let first : List Numbered = map (modified update) (modified_areas update before) in
-    let one : List Numbered = map (modified update) (filter (is_modified update) ((before + 1) ∷ [])) in
+    let first : List NumberedRecord = map (modified update) (modified_areas update before) in
+    let one : List NumberedRecord = map (modified update) (filter (is_modified update) ((before + 1) ∷ [])) in
     added
-    ∙ ap (λ (l : List ℕ). l ++ numbered k one) bytes
-    ∙ append_assoc begun (numbered number first) (numbered k one)
-    ∙ ap (λ (n : ℕ). begun ++ (numbered number first ++ numbered n one)) behind
-    ∙ ap (λ (l : List ℕ). begun ++ l) (sym (numbered-append number first one))
-    ∙ ap (λ (l : List Numbered). begun ++ numbered number l) (sym (areas_more update before))
+    ∙ ap (λ (l : List ℕ). l ++ records_from k one) bytes
+    ∙ append_assoc begun (records_from number first) (records_from k one)
+    ∙ ap (λ (n : ℕ). begun ++ (records_from number first ++ records_from n one)) behind
+    ∙ ap (λ (l : List ℕ). begun ++ l) (sym (records_from-append number first one))
+    ∙ ap (λ (l : List NumberedRecord). begun ++ records_from number l) (sym (areas_more update before))
 
 pub number_more : (update before number k after : ℕ)
     → k ≡ number_behind number (map (modified update) (modified_areas update before))
     → after ≡ number_behind k (map (modified update) (filter (is_modified update) ((before + 1) ∷ [])))
     → after ≡ number_behind number (map (modified update) (modified_areas update (before + 1)))
 number_more update before number k after behind added =
-    let first : List Numbered = map (modified update) (modified_areas update before) in
-    let one : List Numbered = map (modified update) (filter (is_modified update) ((before + 1) ∷ [])) in
+    let first : List NumberedRecord = map (modified update) (modified_areas update before) in
+    let one : List NumberedRecord = map (modified update) (filter (is_modified update) ((before + 1) ∷ [])) in
     added
     ∙ ap (λ (n : ℕ). number_behind n one) behind
     ∙ sym (number_behind-append number first one)
@@ -58,15 +58,15 @@ number_more update before number k after behind added =
 -- the file of an update, as it is put together
 pub update_of : (count update : ℕ) (b0 b1 b2 : List ℕ) (n0 n1 : ℕ) → b0 ≡ descriptive_record → n0 ≡ 1
     → b1 ≡ b0 ++ record_of of_data (revision_fields n0 (made_header count update 0)) → n1 ≡ next_number n0
-    → b2 ≡ b1 ++ numbered n1 (map (modified update) (modified_areas update count))
+    → b2 ≡ b1 ++ records_from n1 (map (modified update) (modified_areas update count))
     → b2 ≡ made_update count update
-unfolding made_update numbered
+unfolding made_update records_from
 update_of count update b0 b1 b2 n0 n1 begun first general second areas =
     let header = made_header count update 0 in
-    let more : List Numbered = map (modified update) (modified_areas update count) in
+    let more : List NumberedRecord = map (modified update) (modified_areas update count) in
     areas
-    ∙ ap (λ (n : ℕ). b1 ++ numbered n more) (second ∙ ap next_number first)
-    ∙ ap (λ (l : List ℕ). l ++ numbered 2 more)
+    ∙ ap (λ (n : ℕ). b1 ++ records_from n more) (second ∙ ap next_number first)
+    ∙ ap (λ (l : List ℕ). l ++ records_from 2 more)
     (general ∙ ap (λ (n : ℕ). b0 ++ record_of of_data (revision_fields n header)) first
     ∙ ap (λ (l : List ℕ). l ++ record_of of_data (revision_fields 1 header)) begun)
-    ∙ append_assoc descriptive_record (record_of of_data (revision_fields 1 header)) (numbered 2 more)
+    ∙ append_assoc descriptive_record (record_of of_data (revision_fields 1 header)) (records_from 2 more)

@@ -9,57 +9,57 @@ descriptor tag controls name labels formats =
     field tag (controls ++ name ++ UNIT_TERMINATOR ∷ [] ++ labels ++ UNIT_TERMINATOR ∷ [] ++ formats)
 
 -- of a field with one subfield, of one whose subfields stand once, and of one whose subfields are a repeated group
-abbrev pub single : List ℕ
-single = codes "0500;&   "
+abbrev pub single_controls : List ℕ
+single_controls = codes "0500;&   "
 
-abbrev pub once : List ℕ
-once = codes "1600;&   "
+abbrev pub row_controls : List ℕ
+row_controls = codes "1600;&   "
 
-abbrev pub repeated : List ℕ
-repeated = codes "2600;&   "
+abbrev pub group_controls : List ℕ
+group_controls = codes "2600;&   "
 
 abbrev pub general_descriptors : List Field
 general_descriptors =
-    descriptor (codes "0001") single (codes "ISO/IEC 8211 Record Identifier") [] (codes "(b12)")
-    ++ descriptor (codes "DSID") once (codes "Data set identification field")
+    descriptor (codes "0001") single_controls (codes "ISO/IEC 8211 Record Identifier") [] (codes "(b12)")
+    ++ descriptor (codes "DSID") row_controls (codes "Data set identification field")
     (codes "RCNM!RCID!EXPP!INTU!DSNM!EDTN!UPDN!UADT!ISDT!STED!PRSP!PSDN!PRED!PROF!AGEN!COMT")
     (codes "(b11,b14,2b11,3A,2A(8),R(4),b11,2A,b11,b12,A)")
-    ++ descriptor (codes "DSSI") once (codes "Data set structure information field")
+    ++ descriptor (codes "DSSI") row_controls (codes "Data set structure information field")
     (codes "DSTR!AALL!NALL!NOMR!NOCR!NOGR!NOLR!NOIN!NOCN!NOED!NOFA") (codes "(3b11,8b14)")
-    ++ descriptor (codes "DSPM") once (codes "Data set parameter field")
+    ++ descriptor (codes "DSPM") row_controls (codes "Data set parameter field")
     (codes "RCNM!RCID!HDAT!VDAT!SDAT!CSCL!DUNI!HUNI!PUNI!COUN!COMF!SOMF!COMT")
     (codes "(b11,b14,3b11,b14,4b11,2b14,A)")
 
 abbrev pub vector_descriptors : List Field
 vector_descriptors =
-    descriptor (codes "VRID") once (codes "Vector record identifier field")
+    descriptor (codes "VRID") row_controls (codes "Vector record identifier field")
     (codes "RCNM!RCID!RVER!RUIN") (codes "(b11,b14,b12,b11)")
-    ++ descriptor (codes "ATTV") repeated (codes "Vector record attribute field")
+    ++ descriptor (codes "ATTV") group_controls (codes "Vector record attribute field")
     (codes "*ATTL!ATVL") (codes "(b12,A)")
-    ++ descriptor (codes "VRPC") once (codes "Vector record pointer control field")
+    ++ descriptor (codes "VRPC") row_controls (codes "Vector record pointer control field")
     (codes "VPUI!VPIX!NVPT") (codes "(b11,2b12)")
-    ++ descriptor (codes "VRPT") repeated (codes "Vector record pointer field")
+    ++ descriptor (codes "VRPT") group_controls (codes "Vector record pointer field")
     (codes "*NAME!ORNT!USAG!TOPI!MASK") (codes "(B(40),4b11)")
-    ++ descriptor (codes "SGCC") once (codes "Coordinate control field")
+    ++ descriptor (codes "SGCC") row_controls (codes "Coordinate control field")
     (codes "CCUI!CCIX!CCNC") (codes "(b11,2b12)")
-    ++ descriptor (codes "SG2D") repeated (codes "2-D coordinate field") (codes "*YCOO!XCOO") (codes "(2b24)")
-    ++ descriptor (codes "SG3D") repeated (codes "3-D coordinate field") (codes "*YCOO!XCOO!VE3D") (codes "(3b24)")
+    ++ descriptor (codes "SG2D") group_controls (codes "2-D coordinate field") (codes "*YCOO!XCOO") (codes "(2b24)")
+    ++ descriptor (codes "SG3D") group_controls (codes "3-D coordinate field") (codes "*YCOO!XCOO!VE3D") (codes "(3b24)")
 
 abbrev pub feature_descriptors : List Field
 feature_descriptors =
-    descriptor (codes "FRID") once (codes "Feature record identifier field")
+    descriptor (codes "FRID") row_controls (codes "Feature record identifier field")
     (codes "RCNM!RCID!PRIM!GRUP!OBJL!RVER!RUIN") (codes "(b11,b14,2b11,2b12,b11)")
-    ++ descriptor (codes "FOID") once (codes "Feature object identifier field")
+    ++ descriptor (codes "FOID") row_controls (codes "Feature object identifier field")
     (codes "AGEN!FIDN!FIDS") (codes "(b12,b14,b12)")
-    ++ descriptor (codes "ATTF") repeated (codes "Feature record attribute field")
+    ++ descriptor (codes "ATTF") group_controls (codes "Feature record attribute field")
     (codes "*ATTL!ATVL") (codes "(b12,A)")
-    ++ descriptor (codes "FFPC") once (codes "Feature record to feature object pointer control field")
+    ++ descriptor (codes "FFPC") row_controls (codes "Feature record to feature object pointer control field")
     (codes "FFUI!FFIX!NFPT") (codes "(b11,2b12)")
-    ++ descriptor (codes "FFPT") repeated (codes "Feature record to feature object pointer field")
+    ++ descriptor (codes "FFPT") group_controls (codes "Feature record to feature object pointer field")
     (codes "*LNAM!RIND!COMT") (codes "(B(64),b11,A)")
-    ++ descriptor (codes "FSPC") once (codes "Feature record to spatial record pointer control field")
+    ++ descriptor (codes "FSPC") row_controls (codes "Feature record to spatial record pointer control field")
     (codes "FSUI!FSIX!NSPT") (codes "(b11,2b12)")
-    ++ descriptor (codes "FSPT") repeated (codes "Feature record to spatial record pointer field")
+    ++ descriptor (codes "FSPT") group_controls (codes "Feature record to spatial record pointer field")
     (codes "*NAME!ORNT!USAG!MASK") (codes "(B(40),3b11)")
 
 -- the bytes of the record

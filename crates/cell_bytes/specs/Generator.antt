@@ -21,7 +21,7 @@ use Rattle.cell_bytes.specs.Descriptive.{descriptive_record}
 use Rattle.cell_bytes.specs.DataSet.{revision_fields}
 use Rattle.cell_bytes.specs.Vector.{attribute, identified, name_text}
 use Rattle.cell_bytes.specs.Feature.{described}
-use Rattle.cell_bytes.specs.Written.{Numbered, numbered}
+use Rattle.cell_bytes.specs.Written.{NumberedRecord, records_from}
 
 -- ---- the cell
 
@@ -144,7 +144,7 @@ modified_fields update area number =
     ++ field (codes "FRID") (name_text (area_name area) ++ described AREA 1 42 (made_version update) ++ b11 MODIFY)
     ++ field (codes "ATTF") (attribute 87 (decimal_of (pos (update % 50))))
 
-unfoldable pub modified : ℕ → ℕ → Numbered
+unfoldable pub modified : ℕ → ℕ → NumberedRecord
 modified update area number = record_of of_data (modified_fields update area number)
 
 -- whether the update modifies the area: their numbers are equal modulo 30
@@ -158,6 +158,6 @@ modified_areas update count = filter (is_modified update) (numbers_to count)
 -- the file of the update
 unfoldable pub made_update : ℕ → ℕ → List ℕ
 made_update count update =
-    descriptive_record ++ numbered 1 (
+    descriptive_record ++ records_from 1 (
     (λ number. record_of of_data (revision_fields number (made_header count update 0)))
     ∷ map (modified update) (modified_areas update count))

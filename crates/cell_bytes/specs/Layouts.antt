@@ -5,12 +5,12 @@ use Rattle.iso8211_formats.specs.declared.format.Format.{Format}
 use Rattle.iso8211_formats.specs.declared.format.Format.TheVariants.{TextOpen, Text, Unsigned, Signed, Bits}
 
 -- subfields that stand once
-abbrev pub once : List (List ℕ) → List Format → Layout
-once labels formats = record { labels = labels; formats = formats; repeats_from = None }
+abbrev pub row_layout : List (List ℕ) → List Format → Layout
+row_layout labels formats = record { labels = labels; formats = formats; repeats_from = None }
 
 -- subfields that are repeated as a group
-abbrev pub repeated : List (List ℕ) → List Format → Layout
-repeated labels formats = record { labels = labels; formats = formats; repeats_from = Some 1 }
+abbrev pub group_layout : List (List ℕ) → List Format → Layout
+group_layout labels formats = record { labels = labels; formats = formats; repeats_from = Some 1 }
 
 abbrev pub b11 : Format
 b11 = Unsigned 1
@@ -25,7 +25,7 @@ abbrev pub b24 : Format
 b24 = Signed 4
 
 abbrev pub DSID : Layout
-DSID = once
+DSID = row_layout
     (codes "RCNM" ∷ codes "RCID" ∷ codes "EXPP" ∷ codes "INTU" ∷ codes "DSNM" ∷ codes "EDTN" ∷ codes "UPDN"
     ∷ codes "UADT" ∷ codes "ISDT" ∷ codes "STED" ∷ codes "PRSP" ∷ codes "PSDN" ∷ codes "PRED" ∷ codes "PROF"
     ∷ codes "AGEN" ∷ codes "COMT" ∷ [])
@@ -33,52 +33,52 @@ DSID = once
     ∷ b11 ∷ b12 ∷ TextOpen ∷ [])
 
 abbrev pub DSSI : Layout
-DSSI = once
+DSSI = row_layout
     (codes "DSTR" ∷ codes "AALL" ∷ codes "NALL" ∷ codes "NOMR" ∷ codes "NOCR" ∷ codes "NOGR" ∷ codes "NOLR"
     ∷ codes "NOIN" ∷ codes "NOCN" ∷ codes "NOED" ∷ codes "NOFA" ∷ [])
     (b11 ∷ b11 ∷ b11 ∷ b14 ∷ b14 ∷ b14 ∷ b14 ∷ b14 ∷ b14 ∷ b14 ∷ b14 ∷ [])
 
 abbrev pub DSPM : Layout
-DSPM = once
+DSPM = row_layout
     (codes "RCNM" ∷ codes "RCID" ∷ codes "HDAT" ∷ codes "VDAT" ∷ codes "SDAT" ∷ codes "CSCL" ∷ codes "DUNI"
     ∷ codes "HUNI" ∷ codes "PUNI" ∷ codes "COUN" ∷ codes "COMF" ∷ codes "SOMF" ∷ codes "COMT" ∷ [])
     (b11 ∷ b14 ∷ b11 ∷ b11 ∷ b11 ∷ b14 ∷ b11 ∷ b11 ∷ b11 ∷ b11 ∷ b14 ∷ b14 ∷ TextOpen ∷ [])
 
 abbrev pub VRID : Layout
-VRID = once (codes "RCNM" ∷ codes "RCID" ∷ codes "RVER" ∷ codes "RUIN" ∷ []) (b11 ∷ b14 ∷ b12 ∷ b11 ∷ [])
+VRID = row_layout (codes "RCNM" ∷ codes "RCID" ∷ codes "RVER" ∷ codes "RUIN" ∷ []) (b11 ∷ b14 ∷ b12 ∷ b11 ∷ [])
 
 -- ATTV and ATTF
 abbrev pub ATTRIBUTES : Layout
-ATTRIBUTES = repeated (codes "ATTL" ∷ codes "ATVL" ∷ []) (b12 ∷ TextOpen ∷ [])
+ATTRIBUTES = group_layout (codes "ATTL" ∷ codes "ATVL" ∷ []) (b12 ∷ TextOpen ∷ [])
 
 -- VRPC, SGCC, FFPC and FSPC
 abbrev pub control : List ℕ → List ℕ → List ℕ → Layout
-control instruction index count = once (instruction ∷ index ∷ count ∷ []) (b11 ∷ b12 ∷ b12 ∷ [])
+control instruction index count = row_layout (instruction ∷ index ∷ count ∷ []) (b11 ∷ b12 ∷ b12 ∷ [])
 
 abbrev pub VRPT : Layout
-VRPT = repeated
+VRPT = group_layout
     (codes "NAME" ∷ codes "ORNT" ∷ codes "USAG" ∷ codes "TOPI" ∷ codes "MASK" ∷ [])
     (Bits 40 ∷ b11 ∷ b11 ∷ b11 ∷ b11 ∷ [])
 
 abbrev pub SG2D : Layout
-SG2D = repeated (codes "YCOO" ∷ codes "XCOO" ∷ []) (b24 ∷ b24 ∷ [])
+SG2D = group_layout (codes "YCOO" ∷ codes "XCOO" ∷ []) (b24 ∷ b24 ∷ [])
 
 abbrev pub SG3D : Layout
-SG3D = repeated (codes "YCOO" ∷ codes "XCOO" ∷ codes "VE3D" ∷ []) (b24 ∷ b24 ∷ b24 ∷ [])
+SG3D = group_layout (codes "YCOO" ∷ codes "XCOO" ∷ codes "VE3D" ∷ []) (b24 ∷ b24 ∷ b24 ∷ [])
 
 abbrev pub FRID : Layout
-FRID = once
+FRID = row_layout
     (codes "RCNM" ∷ codes "RCID" ∷ codes "PRIM" ∷ codes "GRUP" ∷ codes "OBJL" ∷ codes "RVER" ∷ codes "RUIN" ∷ [])
     (b11 ∷ b14 ∷ b11 ∷ b11 ∷ b12 ∷ b12 ∷ b11 ∷ [])
 
 abbrev pub FOID : Layout
-FOID = once (codes "AGEN" ∷ codes "FIDN" ∷ codes "FIDS" ∷ []) (b12 ∷ b14 ∷ b12 ∷ [])
+FOID = row_layout (codes "AGEN" ∷ codes "FIDN" ∷ codes "FIDS" ∷ []) (b12 ∷ b14 ∷ b12 ∷ [])
 
 abbrev pub FFPT : Layout
-FFPT = repeated (codes "LNAM" ∷ codes "RIND" ∷ codes "COMT" ∷ []) (Bits 64 ∷ b11 ∷ TextOpen ∷ [])
+FFPT = group_layout (codes "LNAM" ∷ codes "RIND" ∷ codes "COMT" ∷ []) (Bits 64 ∷ b11 ∷ TextOpen ∷ [])
 
 abbrev pub FSPT : Layout
-FSPT = repeated
+FSPT = group_layout
     (codes "NAME" ∷ codes "ORNT" ∷ codes "USAG" ∷ codes "MASK" ∷ []) (Bits 40 ∷ b11 ∷ b11 ∷ b11 ∷ [])
 
 -- each field's layout under its tag, in the order of the directory

@@ -55,13 +55,13 @@ leader_of kind base bytes =
     digits 5 bytes ++ kind.identification ++ digits 5 base ++ kind.character_set ++ codes "5504"
 
 -- the bytes of a record with this directory and this field area
-unfoldable pub framed : Kind → List ℕ → List ℕ → List ℕ
-framed kind directory area =
+unfoldable pub record_bytes : Kind → List ℕ → List ℕ → List ℕ
+record_bytes kind directory area =
     leader_of kind (base_of directory) (base_of directory + length area) ++ directory ++ FIELD_TERMINATOR ∷ [] ++ area
 
 -- the bytes of a record of these fields
 unfoldable pub record_of : Kind → List Field → List ℕ
-record_of kind fields = framed kind (entries 0 fields) (field_area fields)
+record_of kind fields = record_bytes kind (entries 0 fields) (field_area fields)
 
 -- ---- fields so far
 
@@ -81,5 +81,5 @@ abbrev pub with_fields : Fields → List Field → Fields
 with_fields before fields = fold with_field before fields
 
 -- these fields alone
-abbrev pub alone : List Field → Fields
-alone fields = with_fields no_fields fields
+abbrev pub only_fields : List Field → Fields
+only_fields fields = with_fields no_fields fields

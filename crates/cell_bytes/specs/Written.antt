@@ -21,36 +21,36 @@ abbrev pub next_number : ℕ → ℕ
 next_number number = (number + 1) % 65536
 
 -- a record under a number
-abbrev pub Numbered : Type 0
-Numbered = ℕ → List ℕ
+abbrev pub NumberedRecord : Type 0
+NumberedRecord = ℕ → List ℕ
 
 -- records one after the other, of which the first has the number
-unfoldable pub numbered : ℕ → List Numbered → List ℕ
-numbered number [] = []
-numbered number (record_under ∷ more) = record_under number ++ numbered (next_number number) more
+unfoldable pub records_from : ℕ → List NumberedRecord → List ℕ
+records_from number [] = []
+records_from number (record_under ∷ more) = record_under number ++ records_from (next_number number) more
 
 -- the number behind those of records
-unfoldable pub number_behind : ℕ → List Numbered → ℕ
+unfoldable pub number_behind : ℕ → List NumberedRecord → ℕ
 number_behind number [] = number
 number_behind number (record_under ∷ more) = number_behind (next_number number) more
 
 -- ---- the records of a cell
 
-unfoldable pub vector_record : Name → Vector → Numbered
+unfoldable pub vector_record : Name → Vector → NumberedRecord
 vector_record name vector number = record_of of_data (vector_fields number name vector)
 
-unfoldable pub feature_record : Name → Feature → Numbered
+unfoldable pub feature_record : Name → Feature → NumberedRecord
 feature_record name feature number = record_of of_data (feature_fields number name feature)
 
 -- the records of the vectors and those of the features, in the order of their names
-unfoldable pub vector_records : CellValue → List Numbered
+unfoldable pub vector_records : CellValue → List NumberedRecord
 vector_records cell = map (λ entry. vector_record entry.0 entry.1) (finite.entries cell.vectors)
 
-unfoldable pub feature_records : CellValue → List Numbered
+unfoldable pub feature_records : CellValue → List NumberedRecord
 feature_records cell = map (λ entry. feature_record entry.0 entry.1) (finite.entries cell.features)
 
 -- all data records: general information, parameters, vectors and features
-unfoldable pub data_records : CellValue → List Numbered
+unfoldable pub data_records : CellValue → List NumberedRecord
 data_records cell =
     (λ number. record_of of_data (general_fields number cell))
     ∷ (λ number. record_of of_data (parameter_fields number cell.header.scale))
@@ -58,7 +58,7 @@ data_records cell =
 
 -- the file
 unfoldable pub file_of : CellValue → List ℕ
-file_of cell = descriptive_record ++ numbered 1 (data_records cell)
+file_of cell = descriptive_record ++ records_from 1 (data_records cell)
 
 -- ---- what is too long
 
@@ -67,7 +67,7 @@ abbrev pub long_fault : Name → ℕ → Option WriteFault
 long_fault name bytes = when (nat_lt 99999 bytes) (RecordLong name bytes)
 
 -- the fault of a record, which has as many bytes under each number
-unfoldable pub record_fault : Name → Numbered → Option WriteFault
+unfoldable pub record_fault : Name → NumberedRecord → Option WriteFault
 record_fault name record_under = long_fault name (length (record_under 0))
 
 unfoldable pub vector_faults : CellValue → List (Option WriteFault)

@@ -1,4 +1,7 @@
 //! The general information of a data set as bytes (S-57 Part 3, 7.3).
+//!
+//! A chart keeps less of it than a file has. What isn't kept is written as for a harbour chart, so the file stands for
+//! the records of the chart, and not for all that the file said from which it was loaded.
 
 ghost use Rattle.std.specs.Prelude.{◌≡◌, ◌++◌, ◌+◌, if◌then◌else◌, length, IfOk, OnOk};
 ghost use Rattle.chart_model.specs.Cell.{IsChartHeader};

@@ -1,4 +1,7 @@
 //! The data descriptive record of a written file (ISO/IEC 8211, data descriptive record).
+//!
+//! It is the same bytes for every cell: it describes each field that a written file may have, also those that this cell
+//! doesn't need.
 
 ghost use Rattle.std.specs.Prelude.{◌≡◌, ◌++◌, OnOk};
 ghost use Rattle.cell_bytes.specs.Descriptive.{descriptive_record};

@@ -1,7 +1,10 @@
 //! Records in the making.
+//!
+//! The text of a field is written before its length is known, which its directory entry has. So it stands apart until
+//! the field ends. One draft serves all records of a file, so that its memory is taken once.
 
 ghost use Rattle.std.specs.Prelude.{◌≡◌, [], OnOk};
-ghost use Rattle.cell_bytes.specs.Record.{alone, field, list_field, no_fields, with_fields};
+ghost use Rattle.cell_bytes.specs.Record.{only_fields, field, list_field, no_fields, with_fields};
 ghost use Rattle.cell_bytes.specs.Vector.{identified};
 
 use crate::fields::Fields;
@@ -29,7 +32,7 @@ impl RecordDraft {
 
     /// Begins a record anew, with its number.
     pub(crate) fn begin(&mut self, number: u16) -> Result<(), AllocError>
-        ensures fields { OnOk result (self.new.fields ≡ alone (identified number)) }
+        ensures fields { OnOk result (self.new.fields ≡ only_fields (identified number)) }
         ensures text { OnOk result (self.new.text ≡ []) }
     {
         self.text.clear();

@@ -1,4 +1,4 @@
-//! Why a cell is not written.
+//! Why a cell is not written: the limits of the formats, and want of memory.
 
 ghost use Rattle.std.specs.Prelude.{◌≡◌};
 ghost use Rattle.cell_bytes.specs.declared.fault.WriteFault.TheVariants.{NoMemory};

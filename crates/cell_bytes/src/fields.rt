@@ -1,7 +1,10 @@
 //! The fields of records (ISO/IEC 8211, records).
+//!
+//! A directory stands before the fields, and says where each begins. So a record's directory and its field area grow
+//! side by side, and are put behind each other when its last field is there.
 
 ghost use Rattle.std.specs.Prelude.{◌≡◌, ◌++◌, ◌+◌, ◌<◌, [], length, codes, IfOk, OnOk};
-ghost use Rattle.cell_bytes.specs.Record.{alone, base_of, digits, field, framed, leader_of, no_fields, with_fields};
+ghost use Rattle.cell_bytes.specs.Record.{only_fields, base_of, digits, field, record_bytes, leader_of, no_fields, with_fields};
 ghost use Rattle.cell_bytes.specs.Vector.{identified};
 
 use chart_model::Octets;
@@ -111,7 +114,7 @@ impl Fields {
     /// Leaves the identifier of a record alone: the field 0001 with its number, which is the first of each record.
     #[tactic(auto, unfolding(crate::specs::Vector::identified, crate::specs::Record::field, crate::specs::Record::with_field, crate::specs::Record::entry, crate::specs::Record::digits, crate::specs::Subfields::b12))]
     pub(crate) fn begin(&mut self, number: u16) -> Result<(), AllocError>
-        ensures { OnOk result (self.new ≡ alone (identified number)) }
+        ensures { OnOk result (self.new ≡ only_fields (identified number)) }
     {
         self.directory.clear();
         self.area.clear();
@@ -151,9 +154,9 @@ impl Fields {
     }
 
     /// Adds the bytes of a record of these fields.
-    #[tactic(auto, unfolding(crate::specs::Record::framed))]
+    #[tactic(auto, unfolding(crate::specs::Record::record_bytes))]
     pub(crate) fn append_to(&self, out: &mut Octets, kind: Kind) -> Result<(), AllocError>
-        ensures { OnOk result (out.new ≡ out.old ++ framed kind self.now.directory self.now.area) }
+        ensures { OnOk result (out.new ≡ out.old ++ record_bytes kind self.now.directory self.now.area) }
     {
         out.extend_from_slice(&leader(kind, self.base()?, self.record_length()?))?;
         out.extend_from_slice(self.directory.as_slice())?;

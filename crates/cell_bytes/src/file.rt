@@ -1,14 +1,18 @@
-//! A file in the making.
+//! A file in the making: records are put behind one another as they are finished.
+//!
+//! A file is written in one pass, and only the record that is made just now stands beside it. A record that turns out
+//! too long doesn't end the pass: the fault that is told is that of the least name, and where no record is too long,
+//! how many bytes the file would have.
 
 ghost use Rattle.std.specs.Prelude.{◌≡◌, ◌++◌, ◌+◌, [], length, IfOk, OnOk};
 ghost use Rattle.std.specs.List.{AllByRecursion};
 ghost use Rattle.std.specs.FinMap as map;
 ghost use Rattle.chart_model.specs.Answers.{first_of};
 ghost use Rattle.chart_model.specs.Cell.{IsFeature, IsVector};
-ghost use Rattle.cell_bytes.specs.Record.{base_of, framed, of_data, record_of};
+ghost use Rattle.cell_bytes.specs.Record.{base_of, record_bytes, of_data, record_of};
 ghost use Rattle.cell_bytes.specs.DataSet.{general_fields, parameter_fields};
 ghost use Rattle.cell_bytes.specs.Written.{feature_faults, feature_record, feature_records, long_fault, next_number};
-ghost use Rattle.cell_bytes.specs.Written.{number_behind, numbered, record_fault, vector_faults, vector_record};
+ghost use Rattle.cell_bytes.specs.Written.{number_behind, records_from, record_fault, vector_faults, vector_record};
 ghost use Rattle.cell_bytes.specs.Written.{vector_records};
 ghost use Rattle.cell_bytes.specs.FieldValues.{IsFourBytes};
 ghost use Rattle.cell_bytes.specs.RecordsRead.{AreCountsInRange, IsFeatureEntryInRange, IsHeaderInRange};
@@ -66,7 +70,7 @@ impl CellFile {
     /// Adds the record that was made, and answers how many bytes it has.
     pub(crate) fn put_record(&mut self) -> Result<usize, AllocError>
         ensures bytes { OnOk result (self.new.bytes ≡ self.old.bytes
-            ++ framed of_data self.old.draft.fields.directory self.old.draft.fields.area) }
+            ++ record_bytes of_data self.old.draft.fields.directory self.old.draft.fields.area) }
         ensures number { OnOk result (self.new.number ≡ next_number self.old.number) }
         ensures length { IfOk result (λ bytes. bytes
             ≡ base_of self.old.draft.fields.directory + length self.old.draft.fields.area) }
@@ -78,7 +82,7 @@ impl CellFile {
     }
 
     /// Adds the record of a base file's general information.
-    #[tactic(auto, using(crate::proofs::Framed::framed_alone))]
+    #[tactic(auto, using(crate::proofs::Framed::record_bytes_only_fields))]
     pub(crate) fn put_general(&mut self, alloc: Global, cell: &Cell) -> Result<(), AllocError>
         ensures bytes { OnOk result (self.new.bytes
             ≡ self.old.bytes ++ record_of of_data (general_fields self.old.number cell.now)) }
@@ -93,7 +97,7 @@ impl CellFile {
     }
 
     /// Adds the record of a base file's parameters.
-    #[tactic(auto, using(crate::proofs::Framed::framed_alone))]
+    #[tactic(auto, using(crate::proofs::Framed::record_bytes_only_fields))]
     pub(crate) fn put_parameters(&mut self, cell: &Cell) -> Result<(), AllocError>
         ensures bytes { OnOk result (self.new.bytes
             ≡ self.old.bytes ++ record_of of_data (parameter_fields self.old.number cell.now.header.scale)) }
@@ -106,7 +110,7 @@ impl CellFile {
     }
 
     /// Adds the record of a vector, and answers what is wrong with it.
-    #[tactic(auto, using(crate::proofs::Framed::framed_alone), unfolding(crate::specs::Written::vector_record))]
+    #[tactic(auto, using(crate::proofs::Framed::record_bytes_only_fields), unfolding(crate::specs::Written::vector_record))]
     fn put_vector(&mut self, name: Name, vector: &Vector) -> Result<Option<WriteFault>, AllocError>
         ensures bytes { OnOk result (self.new.bytes ≡ self.old.bytes ++ vector_record name vector.now self.old.number) }
         ensures number { OnOk result (self.new.number ≡ next_number self.old.number) }
@@ -119,7 +123,7 @@ impl CellFile {
     }
 
     /// Adds the record of a feature, and answers what is wrong with it.
-    #[tactic(auto, using(crate::proofs::Framed::framed_alone), unfolding(crate::specs::Written::feature_record))]
+    #[tactic(auto, using(crate::proofs::Framed::record_bytes_only_fields), unfolding(crate::specs::Written::feature_record))]
     fn put_feature(
         &mut self,
         name: Name,
@@ -137,10 +141,10 @@ impl CellFile {
     }
 
     /// Adds the records of the vectors, and answers the first fault of one.
-    #[tactic(auto, using(crate::proofs::RecordFaults::first_more), unfolding(crate::specs::Written::vector_records, crate::specs::Written::vector_faults, crate::specs::Written::numbered, crate::specs::Written::number_behind))]
+    #[tactic(auto, using(crate::proofs::RecordFaults::first_more), unfolding(crate::specs::Written::vector_records, crate::specs::Written::vector_faults, crate::specs::Written::records_from, crate::specs::Written::number_behind))]
     pub(crate) fn put_vectors(&mut self, cell: &Cell) -> Result<Option<WriteFault>, AllocError>
         ensures bytes { OnOk result (self.new.bytes
-            ≡ self.old.bytes ++ numbered self.old.number (vector_records cell.now)) }
+            ≡ self.old.bytes ++ records_from self.old.number (vector_records cell.now)) }
         ensures number { OnOk result (self.new.number ≡ number_behind self.old.number (vector_records cell.now)) }
         ensures fault { IfOk result (λ fault. fault ≡ first_of (vector_faults cell.now)) }
         ensures in_range { OnOk result (AllByRecursion IsVectorInRange (map.entries cell.now.vectors)) }
@@ -153,10 +157,10 @@ impl CellFile {
     }
 
     /// Adds the records of the features, and answers the first fault of one.
-    #[tactic(auto, using(crate::proofs::RecordFaults::first_more), unfolding(crate::specs::Written::feature_records, crate::specs::Written::feature_faults, crate::specs::Written::numbered, crate::specs::Written::number_behind))]
+    #[tactic(auto, using(crate::proofs::RecordFaults::first_more), unfolding(crate::specs::Written::feature_records, crate::specs::Written::feature_faults, crate::specs::Written::records_from, crate::specs::Written::number_behind))]
     pub(crate) fn put_features(&mut self, cell: &Cell) -> Result<Option<WriteFault>, AllocError>
         ensures bytes { OnOk result (self.new.bytes
-            ≡ self.old.bytes ++ numbered self.old.number (feature_records cell.now)) }
+            ≡ self.old.bytes ++ records_from self.old.number (feature_records cell.now)) }
         ensures number { OnOk result (self.new.number ≡ number_behind self.old.number (feature_records cell.now)) }
         ensures fault { IfOk result (λ fault. fault ≡ first_of (feature_faults cell.now)) }
         ensures in_range { OnOk result (AllByRecursion IsFeatureEntryInRange (map.entries cell.now.features)) }

@@ -1,4 +1,8 @@
 //! Cells that are made for trials.
+//!
+//! Benches, tests and the line `make` need charts of any size without a chart of anybody's. Such a cell has as many
+//! depth areas as are asked for, each with a node and an edge of its own, so that its records, and what is drawn of it,
+//! can be told by hand from that number alone.
 
 ghost use Rattle.std.specs.Prelude.{◌≡◌, ◌≤◌, ◌<◌, ◌+◌, pos, IfOk, OnOk};
 ghost use Rattle.text_scan.specs.Written.{decimal_of};

@@ -1,4 +1,7 @@
 //! What holds of written bytes where they are read.
+//!
+//! Writing and reading are defined apart, and share no definition but those of the formats. That one undoes the other
+//! is said here, layer by layer: values of subfields, fields, records, the data descriptive record, the file.
 
 ghost use Rattle.std.specs.Prelude.{◌≡◌, ℕ, ℤ, Ok, pos, ◌<◌, ◌≤◌, FitsSigned, List, length};
 ghost use Rattle.std.specs.Int.{w32};

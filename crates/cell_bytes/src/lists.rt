@@ -1,4 +1,7 @@
 //! The lists of vector and feature records as bytes (S-57 Part 3).
+//!
+//! Each list is the text of one field, group behind group in the order of the list, since pointers and coordinates mean
+//! something in their order.
 
 ghost use Rattle.std.specs.Prelude.{◌≡◌, ◌++◌, OnOk};
 ghost use Rattle.std.specs.List.{AllByRecursion, flat_map};

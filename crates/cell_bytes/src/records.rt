@@ -1,9 +1,11 @@
-//! The records of a cell file (S-57 Part 3).
+//! The records of a cell file (S-57 Part 3): which fields each has, and in which order.
+//!
+//! The field of a list is left out where the list is empty.
 
 ghost use Rattle.std.specs.Prelude.{◌≡◌, ◌++◌, [], codes, OnOk};
 ghost use Rattle.std.specs.List.{AllByRecursion, flat_map};
 ghost use Rattle.chart_model.specs.Cell.{IsFeature, IsVector};
-ghost use Rattle.cell_bytes.specs.Record.{alone, field, list_field, with_fields};
+ghost use Rattle.cell_bytes.specs.Record.{only_fields, field, list_field, with_fields};
 ghost use Rattle.cell_bytes.specs.Vector.{point, sounding, vector_fields, vector_identifier};
 ghost use Rattle.cell_bytes.specs.Feature.{feature_fields, feature_identifier};
 ghost use Rattle.cell_bytes.specs.DataSet.{general_fields, parameter_fields, revision_fields};
@@ -55,7 +57,7 @@ pub(crate) fn draft_vector(
     name: Name,
     vector: &Vector,
 ) -> Result<(), AllocError>
-    ensures fields { OnOk result (draft.new.fields ≡ alone (vector_fields number name vector.now)) }
+    ensures fields { OnOk result (draft.new.fields ≡ only_fields (vector_fields number name vector.now)) }
     ensures in_range { OnOk result (IsVector name vector.now → IsVectorInRange (name, vector.now)) }
 {
     draft.begin(number)?;
@@ -90,7 +92,7 @@ pub(crate) fn draft_feature(
     name: Name,
     feature: &Feature,
 ) -> Result<(), AllocError>
-    ensures fields { OnOk result (draft.new.fields ≡ alone (feature_fields number name feature.now)) }
+    ensures fields { OnOk result (draft.new.fields ≡ only_fields (feature_fields number name feature.now)) }
     ensures in_range { OnOk result (IsFeature name feature.now → IsFeatureEntryInRange (name, feature.now)) }
 {
     draft.begin(number)?;
@@ -114,7 +116,7 @@ pub(crate) fn draft_general(
     number: u16,
     cell: &Cell,
 ) -> Result<(), AllocError>
-    ensures fields { OnOk result (draft.new.fields ≡ alone (general_fields number cell.now)) }
+    ensures fields { OnOk result (draft.new.fields ≡ only_fields (general_fields number cell.now)) }
     // The scale is written with the parameters.
     ensures header { OnOk result (IsFourBytes cell.now.header.scale → IsHeaderInRange cell.now.header) }
     ensures counts { OnOk result (AreCountsInRange cell.now) }
@@ -133,7 +135,7 @@ pub(crate) fn draft_parameters(
     number: u16,
     scale: u32,
 ) -> Result<(), AllocError>
-    ensures { OnOk result (draft.new.fields ≡ alone (parameter_fields number scale)) }
+    ensures { OnOk result (draft.new.fields ≡ only_fields (parameter_fields number scale)) }
 {
     draft.begin(number)?;
     put_parameters(&mut draft.text, scale)?;
@@ -148,7 +150,7 @@ pub(crate) fn draft_revision(
     number: u16,
     header: &Header,
 ) -> Result<(), AllocError>
-    ensures { OnOk result (draft.new.fields ≡ alone (revision_fields number header.now)) }
+    ensures { OnOk result (draft.new.fields ≡ only_fields (revision_fields number header.now)) }
 {
     draft.begin(number)?;
     put_identification(alloc, &mut draft.text, Purpose::Revision, header)?;

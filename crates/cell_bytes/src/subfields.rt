@@ -1,4 +1,5 @@
-//! Subfields as bytes (ISO/IEC 8211, user data).
+//! Subfields as bytes (ISO/IEC 8211, user data), by the formats that the data descriptive record gives them: numbers
+//! with the least significant byte first (S-57 Part 3), and texts up to a unit terminator.
 
 ghost use Rattle.std.specs.Prelude.{◌≡◌, ◌++◌, OnOk};
 ghost use Rattle.cell_bytes.specs.Subfields.{b11, b12, b14, b24, open_text};

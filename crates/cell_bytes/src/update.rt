@@ -1,16 +1,19 @@
 //! Updates of the cells that are made for trials.
+//!
+//! Each modifies a thirtieth of the areas, so that thirty of them touch every area once, and what is in force after any
+//! of them can be told by hand.
 
 ghost use Rattle.std.specs.Prelude.{◌≡◌, ◌++◌, ◌∷◌, [], ◌≤◌, filter, length, map, IfOk, OnOk};
 ghost use Rattle.std.specs.Int.{IsInRange};
 ghost use Rattle.chart_model.specs.Codes.{MODIFY as MODIFIES};
-ghost use Rattle.cell_bytes.specs.Record.{alone, of_data, record_of};
+ghost use Rattle.cell_bytes.specs.Record.{only_fields, of_data, record_of};
 ghost use Rattle.cell_bytes.specs.DataSet.{revision_fields};
 ghost use Rattle.cell_bytes.specs.Generator.{modified, modified_areas, modified_fields, made_update, made_version};
 ghost use Rattle.cell_bytes.specs.Generator.{area_name, is_modified};
 ghost use Rattle.cell_bytes.specs.Vector.{name_text};
 ghost use Rattle.cell_bytes.specs.Feature.{described};
 ghost use Rattle.cell_bytes.specs.Subfields.{b11};
-ghost use Rattle.cell_bytes.specs.Written.{next_number, number_behind, numbered};
+ghost use Rattle.cell_bytes.specs.Written.{next_number, number_behind, records_from};
 
 use crate::descriptive::put_descriptive_record;
 use crate::draft::RecordDraft;
@@ -55,7 +58,7 @@ fn draft_area(
     area: u32,
 ) -> Result<(), AllocError>
     requires { IsInRange 1 999 update }
-    ensures { OnOk result (draft.new.fields ≡ alone (modified_fields update area number)) }
+    ensures { OnOk result (draft.new.fields ≡ only_fields (modified_fields update area number)) }
 {
     let depth = decimal(alloc, update % 50)?;
     draft.begin(number)?;
@@ -66,7 +69,7 @@ fn draft_area(
 }
 
 /// Adds the record of the general information.
-#[tactic(auto, using(crate::proofs::Framed::framed_alone))]
+#[tactic(auto, using(crate::proofs::Framed::record_bytes_only_fields))]
 fn put_general(file: &mut CellFile, alloc: Global, header: &Header) -> Result<(), AllocError>
     ensures bytes { OnOk result (file.new.bytes
         ≡ file.old.bytes ++ record_of of_data (revision_fields file.old.number header.now)) }
@@ -78,7 +81,7 @@ fn put_general(file: &mut CellFile, alloc: Global, header: &Header) -> Result<()
 }
 
 /// Adds the record that modifies an area.
-#[tactic(auto, using(crate::proofs::Framed::framed_alone), unfolding(crate::specs::Generator::modified))]
+#[tactic(auto, using(crate::proofs::Framed::record_bytes_only_fields), unfolding(crate::specs::Generator::modified))]
 fn put_area(file: &mut CellFile, alloc: Global, update: u32, area: u32) -> Result<(), AllocError>
     requires { IsInRange 1 999 update }
     ensures bytes { OnOk result (file.new.bytes ≡ file.old.bytes ++ modified update area file.old.number) }
@@ -90,7 +93,7 @@ fn put_area(file: &mut CellFile, alloc: Global, update: u32, area: u32) -> Resul
 }
 
 /// Adds the record that modifies an area, where the update modifies it.
-#[tactic(auto, unfolding(crate::specs::Written::numbered, crate::specs::Written::number_behind))]
+#[tactic(auto, unfolding(crate::specs::Written::records_from, crate::specs::Written::number_behind))]
 fn put_where_modified(
     file: &mut CellFile,
     alloc: Global,
@@ -99,7 +102,7 @@ fn put_where_modified(
 ) -> Result<(), AllocError>
     requires { IsInRange 1 999 update }
     ensures bytes { OnOk result (file.new.bytes ≡ file.old.bytes
-        ++ numbered file.old.number (map (modified update) (filter (is_modified update) (area ∷ [])))) }
+        ++ records_from file.old.number (map (modified update) (filter (is_modified update) (area ∷ [])))) }
     ensures number { OnOk result (file.new.number
         ≡ number_behind file.old.number (map (modified update) (filter (is_modified update) (area ∷ [])))) }
 {
@@ -111,12 +114,12 @@ fn put_where_modified(
 }
 
 /// Adds the records that modify areas, in the order of their numbers.
-#[tactic(auto, unfolding(crate::specs::Generator::modified_areas, crate::specs::Generator::numbers_to, crate::specs::Written::numbered, crate::specs::Written::number_behind))]
+#[tactic(auto, unfolding(crate::specs::Generator::modified_areas, crate::specs::Generator::numbers_to, crate::specs::Written::records_from, crate::specs::Written::number_behind))]
 fn put_areas(file: &mut CellFile, alloc: Global, update: u32, count: u32) -> Result<(), AllocError>
     requires update { IsInRange 1 999 update }
     requires count { count ≤ 20000 }
     ensures { OnOk result (file.new.bytes
-        ≡ file.old.bytes ++ numbered file.old.number (map (modified update) (modified_areas update count))) }
+        ≡ file.old.bytes ++ records_from file.old.number (map (modified update) (modified_areas update count))) }
 {
     for before in 0..count {
         put_where_modified(file, alloc, update, before + 1)?;

@@ -1,4 +1,4 @@
-//! Cells as files.
+//! Cells as files: the order of the records, and what is told of a cell that can't be written.
 
 ghost use Rattle.chart_model.specs.Answers.{unless};
 ghost use Rattle.std.specs.Prelude.{IfOk};

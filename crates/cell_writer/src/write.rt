@@ -1,4 +1,7 @@
 //! Cells as files that read back.
+//!
+//! `cell_bytes` says which bytes are written, and this crate that they are the chart's: reading the file gives the same
+//! records.
 
 ghost use Rattle.std.specs.Prelude.{IfOk};
 ghost use Rattle.chart_closure.specs.Closed.{IsClosed};

@@ -1,12 +1,12 @@
 use Rattle.std.proofs.Common.{◌≡◌, ◌++◌, map}
 use Rattle.cell_bytes.specs.Generator.{modified, modified_areas}
-use Rattle.cell_bytes.specs.Written.{number_behind, numbered}
+use Rattle.cell_bytes.specs.Written.{number_behind, records_from}
 use Rattle.cell_bytes.proofs.update.put_areas.Given as goal
 
 abbrev pub invariant-loop-before : goal.invariant-loop-before
 invariant-loop-before l =
     let areas = map (modified l.update) (modified_areas l.update l.before) in
     record {
-      bytes : l.file.bytes ≡ l.initial.file.bytes ++ numbered l.initial.file.number areas;
+      bytes : l.file.bytes ≡ l.initial.file.bytes ++ records_from l.initial.file.number areas;
       number : l.file.number ≡ number_behind l.initial.file.number areas;
     }
