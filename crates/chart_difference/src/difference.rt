@@ -1,4 +1,6 @@
 //! The names whose records differ.
+//!
+//! Whoever shows a chart asks which of its objects to look at anew after a command.
 
 ghost use Rattle.std.specs.Prelude.{◌≡◌, ◌≢◌, ◌↔◌, ◌++◌, ◌||◌, None, is_none, IfOk, OnOk, Contains};
 ghost use Rattle.std.specs.List.{filter};

@@ -1,4 +1,4 @@
-//! Records that are told apart.
+//! Records that are told apart, field by field: what is drawn and reported depends on each of them.
 
 ghost use Rattle.std.specs.Prelude.{◌≡◌};
 ghost use Rattle.std.specs.Option.{option_copied};

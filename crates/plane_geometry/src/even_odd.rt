@@ -1,4 +1,7 @@
 //! Whether a point is inside rings, by the even-odd rule.
+//!
+//! The rings of an area are its outer and its inner ones in one list: a place in a hole is inside two of them, and so
+//! outside of the area, and nobody has to say which ring is a hole.
 
 ghost use Rattle.std.specs.Prelude.{◌≡◌, ◌%◌, ◌↔◌, IsTrue, IsNone, IfSome};
 ghost use Rattle.std.specs.List.{Any, count_by};

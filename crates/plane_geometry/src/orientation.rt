@@ -1,4 +1,6 @@
 //! On which side of a line a point lies.
+//!
+//! Coordinates have 32 bits, so a difference of two has 33 and a product of two differences 66: it is exact in 128.
 
 ghost use Rattle.std.specs.Prelude.{◌≡◌, ◌-ℤ◌, ◌*ℤ◌, ◌<◌, ◌^◌, unsigned_abs};
 ghost use Rattle.std.specs.Int.{int_signum};

@@ -1,4 +1,4 @@
-//! Points and rings.
+//! Points and rings, in the whole numbers in which a chart has its coordinates.
 
 use chart_model::Sequence;
 

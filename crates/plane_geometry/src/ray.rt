@@ -1,4 +1,4 @@
-//! Segments that cross a ray.
+//! Segments that cross a ray to greater x: the even-odd rule counts them.
 
 ghost use Rattle.std.specs.Prelude.{◌≡◌};
 ghost use Rattle.plane_geometry.specs.EvenOdd.{crosses};

@@ -1,4 +1,4 @@
-//! Points on a segment.
+//! Points on a segment: a place on the boundary of an area belongs to it, and no ray is asked for it.
 
 ghost use Rattle.std.specs.Prelude.{◌↔◌, IsTrue};
 ghost use Rattle.plane_geometry.specs.Segment.{LiesOnSegment, IsBetween, IsInBox};

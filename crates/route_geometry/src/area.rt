@@ -1,4 +1,6 @@
 //! Whether a leg meets an area.
+//!
+//! A leg that meets no segment of the boundary lies inside with all of it or with nothing, so one of its points tells.
 
 ghost use Rattle.std.specs.Prelude.{◌↔◌, IsTrue};
 ghost use Rattle.plane_geometry.specs.EvenOdd.{segments, all_segments};

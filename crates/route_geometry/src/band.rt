@@ -1,4 +1,5 @@
-//! The bands in which a leg and a segment are near on an axis.
+//! The bands in which a leg and a segment are near on an axis: between two sides, one for each direction in which they
+//! may differ.
 
 ghost use Rattle.std.specs.Prelude.{◌≡◌, ◌-ℤ◌, ◌<◌, ◌^◌, unsigned_abs};
 ghost use Rattle.route_geometry.specs.Side.{IsOpposite};

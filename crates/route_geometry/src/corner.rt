@@ -1,4 +1,7 @@
 //! Whether a place is within two sides.
+//!
+//! By turning a way round, or exchanging the two, all signs of the sides become those of three cases, each with a
+//! corner or an edge of the square of fractions that tells.
 
 ghost use Rattle.std.specs.Prelude.{◌↔◌, ◌*ℤ◌, ◌≤ℤ◌, ◌<ℤ◌, pos, IsTrue};
 ghost use Rattle.route_geometry.specs.Side.{BothMet};

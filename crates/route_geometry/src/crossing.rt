@@ -1,4 +1,7 @@
 //! Whether a part of one way leads to within two sides.
+//!
+//! Where one side is entered on the way and the other left, it matters which comes first. The fractions are compared by
+//! products, so that nothing is rounded.
 
 ghost use Rattle.std.specs.Prelude.{◌≡◌, ◌↔◌, ◌+ℤ◌, ◌*ℤ◌, ◌≤ℤ◌, ◌<ℤ◌, pos, IsTrue};
 ghost use Rattle.route_geometry.specs.Slope.{BothReached};

@@ -1,4 +1,6 @@
 //! Legs of a route, and whether one meets a segment.
+//!
+//! A leg is widened by a box and not by a circle, so that the test is exact in whole numbers.
 
 ghost use Rattle.std.specs.Prelude.{◌↔◌, IsTrue};
 ghost use Rattle.route_geometry.specs.Leg.{MeetsSegment, MeetsPoint};

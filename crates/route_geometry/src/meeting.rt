@@ -1,4 +1,4 @@
-//! Whether a leg and a segment are near on both axes.
+//! Whether a leg and a segment are near on both axes at one place of each: near on each axis somewhere isn't enough.
 
 ghost use Rattle.std.specs.Prelude.{◌↔◌, IsTrue};
 ghost use Rattle.route_geometry.specs.Band.{SideMeetsBand, BandsMeet};

@@ -1,4 +1,7 @@
 //! The sides within which a leg and a segment are near.
+//!
+//! How far two points differ on an axis is linear in where each is on its way, so "by at most so much" is two linear
+//! conditions, one for each direction.
 
 ghost use Rattle.std.specs.Prelude.{◌≡◌, ◌+ℤ◌};
 ghost use Rattle.route_geometry.specs.Bound.{IsBoundedSide};

@@ -1,4 +1,4 @@
-//! A side along one way.
+//! A side along one way, where the place on the other way is settled.
 
 ghost use Rattle.route_geometry.specs.Bound.{IsBoundedSlope};
 
