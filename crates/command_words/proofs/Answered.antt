@@ -8,11 +8,11 @@ use Rattle.command_words.specs.declared.fault.WordsFault.{WordsFault}
 use Rattle.command_words.specs.declared.fault.WordsFault.TheVariants.{Refused, NoMemory}
 use Rattle.command_words.specs.declared.reading.Words.{Words}
 use Rattle.command_words.specs.Command.{IsAnsweredBy, ecdis}
-use Rattle.command_words.specs.Reading.{WordsValue, said_in, value_of, where_none, words_of}
+use Rattle.command_words.specs.Reading.{WordsValue, words_in, value_of, where_none, words_of}
 
-pub taken : (words : List (List ℕ)) → fault_of ecdis words ≡ [] → words_of words ≡ said_in (matches_of ecdis words)
+pub taken : (words : List (List ℕ)) → fault_of ecdis words ≡ [] → words_of words ≡ words_in (matches_of ecdis words)
 unfolding words_of
-taken words none = ap (λ (kinds : Kinds). where_none kinds (said_in (matches_of ecdis words))) none
+taken words none = ap (λ (kinds : Kinds). where_none kinds (words_in (matches_of ecdis words))) none
 
 none_where : (kinds : Kinds) (error : Error) (found : Option WordsValue) → kind_of error ≢ OutOfMemory
     → HasKind kinds error → where_none kinds found ≡ None
@@ -23,7 +23,7 @@ none_where (kind ∷ more) error found other (inr among) = refl
 pub refused : (words : List (List ℕ)) (error : Error) → kind_of error ≢ OutOfMemory
     → HasKind (fault_of ecdis words) error → words_of words ≡ None
 unfolding words_of
-refused words error other has = none_where (fault_of ecdis words) error (said_in (matches_of ecdis words)) other has
+refused words error other has = none_where (fault_of ecdis words) error (words_in (matches_of ecdis words)) other has
 
 -- an answer to the words: what they say, and a refusal exactly where they say nothing
 abbrev pub Answers : Option WordsValue → Result Words WordsFault → Type 0
@@ -48,6 +48,6 @@ failed words error (Err Refused) has answered = λ _. refused words error answer
 failed words error (Err NoMemory) has answered = λ e. absurd cc
 
 pub passed : (words : List (List ℕ)) (found : List Row) (result : Result Words WordsFault) → fault_of ecdis words ≡ []
-    → found ≡ matches_of ecdis words → Answers (said_in found) result → Answers (words_of words) result
-passed words found (Ok read) none same answered = taken words none ∙ ap said_in (sym same) ∙ answered
-passed words found (Err fault) none same answered = λ is. taken words none ∙ ap said_in (sym same) ∙ answered is
+    → found ≡ matches_of ecdis words → Answers (words_in found) result → Answers (words_of words) result
+passed words found (Ok read) none same answered = taken words none ∙ ap words_in (sym same) ∙ answered
+passed words found (Err fault) none same answered = λ is. taken words none ∙ ap words_in (sym same) ∙ answered is

@@ -12,8 +12,8 @@ use Rattle.clap.specs.declared.error.kind.ErrorKind.TheVariants.{UnknownArgument
 use Rattle.clap.proofs.OnLiterals.{clap_on_literals}
 use Rattle.command_words.specs.Command.{ecdis}
 use Rattle.command_words.specs.Settings.{defaults}
-use Rattle.command_words.specs.Reading.{WordsValue, said_in, settings_in, where_none, words_of}
-use Rattle.command_words.specs.Given.{naming, naming_apart, with_settings}
+use Rattle.command_words.specs.Reading.{WordsValue, words_in, settings_in, where_none, words_of}
+use Rattle.command_words.specs.Options.{words_naming, words_naming_apart, with_settings}
 
 abbrev shape : Shape
 shape = (built ecdis).top
@@ -90,7 +90,7 @@ told_by kinds w = where_none
     (or_else (settle_fault rules shape.args_override_self w.held)
     (or_else (defaults_fault (settled rules w.held).rows rules)
     (check_fault shape (finished rules w.held) (is_some (entered (built ecdis) w.stopped)))))))
-    (said_in (finished rules w.held))
+    (words_in (finished rules w.held))
 
 told : (program : List ℕ) (words : List (List ℕ)) → words_of (program ∷ words)
     ≡ told_by (walk_fault shape [] start words) (fold (walked rules []) start words)
@@ -109,11 +109,11 @@ opens_table catalogue = refl
 whole : (catalogue table : List ℕ)
     → told_by [] (with_value (codes "table") table (catalogue_row catalogue))
     ≡ Some (with_settings catalogue table defaults)
-unfolding clap_on_literals said_in settings_in
+unfolding clap_on_literals words_in settings_in
 whole catalogue table = refl
 
 pub named_apart : (program catalogue table : List ℕ) → slice_index catalogue 0 ≢ 45 → slice_index table 0 ≢ 45
-    → words_of (naming_apart program catalogue table) ≡ Some (with_settings catalogue table defaults)
+    → words_of (words_naming_apart program catalogue table) ≡ Some (with_settings catalogue table defaults)
 named_apart program catalogue table c t =
     let words = codes "--catalogue" ∷ catalogue ∷ codes "--table" ∷ table ∷ [] in
     let goes = ap (λ (w : Walk). fold (walked rules []) w (catalogue ∷ codes "--table" ∷ table ∷ [])) opens_catalogue
@@ -165,7 +165,7 @@ unfolding walk_fault
 strays_at_last word rows fault = ap (λ (kinds : Kinds). or_else kinds (walk_fault shape [] (walked rules [] (idle_with rows) word) [])) fault
 
 pub stray : (program catalogue table word : List ℕ) → slice_index word 0 ≢ 45
-    → words_of (naming program catalogue table (word ∷ [])) ≡ None
+    → words_of (words_naming program catalogue table (word ∷ [])) ≡ None
 stray program catalogue table word other =
     let words = (codes "--catalogue=" ++ catalogue) ∷ (codes "--table=" ++ table) ∷ word ∷ [] in
     let fault = step start _ (codes "--catalogue=" ++ catalogue) _ refl (reads_catalogue catalogue)

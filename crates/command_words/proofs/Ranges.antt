@@ -11,10 +11,10 @@ use Rattle.chart_model.specs.declared.settings.Shades.{Shades}
 use Rattle.command_words.specs.Numbers.{number_from_to}
 use Rattle.command_words.specs.Command.{ecdis}
 use Rattle.command_words.specs.Settings.{AreInRange, IsCentimetres, IsScale, centimetres_of, defaults, is_set}
-use Rattle.command_words.specs.Settings.{scale_of, said_or}
-use Rattle.command_words.specs.Reading.{WordsValue, depth_in, given, said_in, value_of, scale_in, settings_in}
+use Rattle.command_words.specs.Settings.{scale_of, value_or}
+use Rattle.command_words.specs.Reading.{WordsValue, depth_in, ◌>>=◌, words_in, value_of, scale_in, settings_in}
 use Rattle.command_words.specs.Reading.{shades_in, where_none, words_of}
-use Rattle.command_words.specs.Given.{with_settings}
+use Rattle.command_words.specs.Options.{with_settings}
 use Rattle.command_words.proofs.Digits.{from_to_found}
 
 within : (low high n : ℕ) → low ≤ n → n ≤ high → (pos low ≤ℤ pos n) × (pos n ≤ℤ pos high)
@@ -27,12 +27,12 @@ read_depth (Some n) depth most e = subst IsCentimetres (some_is (pos n) depth e)
     (within 0 1000000 n (omega arith) (most n refl))
 
 said_depth : (default depth : ℤ) (text : Option (List ℕ)) → IsCentimetres default
-    → said_or default centimetres_of text ≡ Some depth → IsCentimetres depth
+    → value_or default centimetres_of text ≡ Some depth → IsCentimetres depth
 said_depth default depth None is e = subst IsCentimetres (some_is _ _ e) is
 said_depth default depth (Some text) is e = read_depth (number_from_to 0 1000000 text)
     depth (λ n found. (from_to_found 0 1000000 text n found).2) e
 
-said_scale : (scale : ℕ) (text : Option (List ℕ)) → said_or 1 scale_of text ≡ Some scale → IsScale scale
+said_scale : (scale : ℕ) (text : Option (List ℕ)) → value_or 1 scale_of text ≡ Some scale → IsScale scale
 said_scale scale None e = let same = some_is _ _ e in (omega arith, omega arith)
 said_scale scale (Some text) e = let found = from_to_found 1 100000000 text scale e in (found.1, found.2)
 
@@ -41,7 +41,7 @@ all_in_range : (a b d f : Option ℤ) (g : Option Shades) (h : Option ℕ) (patt
     → ((x : ℤ) → a ≡ Some x → IsCentimetres x) → ((x : ℤ) → b ≡ Some x → IsCentimetres x)
     → ((x : ℤ) → d ≡ Some x → IsCentimetres x) → ((x : ℤ) → f ≡ Some x → IsCentimetres x)
     → ((n : ℕ) → h ≡ Some n → IsScale n)
-    → given a (λ safety_contour. given b (λ safety_depth. given d (λ shallow. given f (λ deep. given g (λ shades. given h (λ scale.
+    → (a >>= (λ safety_contour. b >>= (λ safety_depth. d >>= (λ shallow. f >>= (λ deep. g >>= (λ shades. h >>= (λ scale.
     Some (record {
       safety_contour = safety_contour;
       safety_depth = safety_depth;
@@ -50,7 +50,7 @@ all_in_range : (a b d f : Option ℤ) (g : Option Shades) (h : Option ℕ) (patt
       shades = shades;
       pattern = pattern;
       scale = scale;
-    })))))))
+    }))))))))
     ≡ Some settings
     → AreInRange settings
 all_in_range None b d f g h pattern settings ra rb rd rf rh e = absurd cc
@@ -82,7 +82,7 @@ said_by [] o said e = e
 said_by (kind ∷ more) o said e = absurd cc
 
 settings_kept : (catalogue table : Option (List ℕ)) (settings : Option Settings) (said : WordsValue)
-    → given catalogue (λ c. given table (λ t. given settings (λ s. Some (with_settings c t s)))) ≡ Some said
+    → (catalogue >>= (λ c. table >>= (λ t. settings >>= (λ s. Some (with_settings c t s))))) ≡ Some said
     → settings ≡ Some said.settings
 settings_kept None table settings said e = absurd cc
 settings_kept (Some c) None settings said e = absurd cc
@@ -92,10 +92,10 @@ settings_kept (Some c) (Some t) (Some s) said e = ap (λ (value : WordsValue). S
 
 pub said_in_range : (words : List (List ℕ)) (said : WordsValue) → words_of words ≡ Some said
     → AreInRange said.settings
-unfolding words_of said_in
+unfolding words_of words_in
 said_in_range words said e =
     let found = matches_of ecdis words in
-    let whole = said_by (fault_of ecdis words) (said_in found) said e in
+    let whole = said_by (fault_of ecdis words) (words_in found) said e in
     in_range found said.settings (settings_kept (first_of (codes "catalogue") found) (first_of (codes "table") found) (settings_in found) said whole)
 
 pub read_in_range : (words : List (List ℕ)) (result : Result Words WordsFault)

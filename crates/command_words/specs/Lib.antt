@@ -2,4 +2,4 @@ pub mod Numbers
 pub mod Settings
 pub mod Command
 pub mod Reading
-pub mod Given
+pub mod Options

@@ -1,10 +1,11 @@
 -- What the words of the command line say.
 use Rattle.std.specs.Prelude.{ℕ, ℤ, List, [], ◌∷◌, codes, Option, Some, None, string_bytes}
+use Rattle.std.specs.Option.{option_and_then}
 use Rattle.clap.specs.Words.{Kinds, Row, fault_of, first_of, matches_of}
 use Rattle.chart_model.specs.declared.settings.Settings.{Settings}
 use Rattle.chart_model.specs.declared.settings.Shades.{Shades}
 use Rattle.command_words.specs.Command.{ecdis}
-use Rattle.command_words.specs.Settings.{centimetres_of, defaults, is_set, said_or, scale_of, shades_of}
+use Rattle.command_words.specs.Settings.{centimetres_of, defaults, is_set, value_or, scale_of, shades_of}
 use Rattle.command_words.specs.declared.reading.Words.{Words}
 
 -- the names of the two files as bytes, and the settings
@@ -20,49 +21,46 @@ value_of words = record {
   settings = words.settings;
 }
 
--- a value, and what is made of it, or nothing where there is none
-abbrev pub given : {A B : Type 0} → Option A → (A → Option B) → Option B
-given None next = None
-given (Some x) next = next x
+infixl 10 ◌>>=◌
+abbrev pub ◌>>=◌ : {A B : Type 0} → Option A → (A → Option B) → Option B
+value >>= next = option_and_then next value
 
 -- each setting in what `clap` found, by its name and its default
 abbrev pub depth_in : ℤ → List ℕ → List Row → Option ℤ
-depth_in default name found = said_or default centimetres_of (first_of name found)
+depth_in default name found = value_or default centimetres_of (first_of name found)
 
 abbrev pub shades_in : List Row → Option Shades
-shades_in found = said_or defaults.shades shades_of (first_of (codes "shades") found)
+shades_in found = value_or defaults.shades shades_of (first_of (codes "shades") found)
 
 abbrev pub scale_in : List Row → Option ℕ
-scale_in found = said_or defaults.scale scale_of (first_of (codes "scale") found)
+scale_in found = value_or defaults.scale scale_of (first_of (codes "scale") found)
 
 -- the settings, where each value is in its range
 unfoldable pub settings_in : List Row → Option Settings
-settings_in found =
-    given (depth_in defaults.safety_contour (codes "safety-contour") found) (λ safety_contour.
-    given (depth_in defaults.safety_depth (codes "safety-depth") found) (λ safety_depth.
-    given (depth_in defaults.shallow (codes "shallow") found) (λ shallow.
-    given (depth_in defaults.deep (codes "deep") found) (λ deep.
-    given (shades_in found) (λ shades.
-    given (scale_in found) (λ scale. Some (record {
-      safety_contour = safety_contour;
-      safety_depth = safety_depth;
-      shallow = shallow;
-      deep = deep;
-      shades = shades;
-      pattern = is_set (first_of (codes "pattern") found);
-      scale = scale;
-    })))))))
+settings_in found = do
+  safety_contour ← depth_in defaults.safety_contour (codes "safety-contour") found
+  safety_depth ← depth_in defaults.safety_depth (codes "safety-depth") found
+  shallow ← depth_in defaults.shallow (codes "shallow") found
+  deep ← depth_in defaults.deep (codes "deep") found
+  shades ← shades_in found
+  scale ← scale_in found
+  Some (record {
+    safety_contour = safety_contour;
+    safety_depth = safety_depth;
+    shallow = shallow;
+    deep = deep;
+    shades = shades;
+    pattern = is_set (first_of (codes "pattern") found);
+    scale = scale;
+  })
 
 -- the two names and the settings
-unfoldable pub said_in : List Row → Option WordsValue
-said_in found =
-    given (first_of (codes "catalogue") found) (λ catalogue.
-    given (first_of (codes "table") found) (λ table.
-    given (settings_in found) (λ settings. Some (record {
-      catalogue = catalogue;
-      table = table;
-      settings = settings;
-    }))))
+unfoldable pub words_in : List Row → Option WordsValue
+words_in found = do
+  catalogue ← first_of (codes "catalogue") found
+  table ← first_of (codes "table") found
+  settings ← settings_in found
+  Some (record { catalogue = catalogue; table = table; settings = settings })
 
 -- what is found where nothing is wrong
 abbrev pub where_none : Kinds → Option WordsValue → Option WordsValue
@@ -71,4 +69,4 @@ where_none (kind ∷ more) found = None
 
 -- what the words say, the program's name first, where the command takes them and each value is in its range
 unfoldable pub words_of : List (List ℕ) → Option WordsValue
-words_of words = where_none (fault_of ecdis words) (said_in (matches_of ecdis words))
+words_of words = where_none (fault_of ecdis words) (words_in (matches_of ecdis words))

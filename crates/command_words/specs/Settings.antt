@@ -54,6 +54,6 @@ is_set None = false
 is_set (Some text) = bytes_eq text (codes "true")
 
 -- what an option's text says, and where the option isn't there its default
-abbrev pub said_or : {A : Type 0} → A → (List ℕ → Option A) → Option (List ℕ) → Option A
-said_or default read None = Some default
-said_or default read (Some text) = read text
+abbrev pub value_or : {A : Type 0} → A → (List ℕ → Option A) → Option (List ℕ) → Option A
+value_or default read None = Some default
+value_or default read (Some text) = read text

@@ -1,4 +1,7 @@
 //! The command, built with `clap`.
+//!
+//! Its rules are compared one by one with those of the definition; what words they take is `clap`'s to say, and proved
+//! there.
 
 ghost use Rattle.std.specs.Prelude.{◌≡◌, IfOk, false};
 ghost use Rattle.clap.specs.Words.{app_of, rule_of};

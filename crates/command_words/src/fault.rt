@@ -1,4 +1,6 @@
 //! Why the words are not taken.
+//!
+//! What `clap` finds wrong is one fault, since the words are then refused whole; want of memory stays another.
 
 ghost use Rattle.std.specs.Prelude.{◌≡◌, ◌↔◌};
 ghost use Rattle.command_words.specs.declared.fault.WordsFault.TheVariants.{NoMemory};

@@ -1,11 +1,13 @@
 //! What holds of words and of what they say.
+//!
+//! What the definitions make of words goes through `clap`'s own. The laws say in few words what a mariner may rely on.
 
 ghost use Rattle.std.specs.Prelude.{◌≡◌, ◌≢◌, ◌↔◌, ◌≤◌, ◌++◌, ◌∷◌, [], List, ℕ, Some, None, codes};
 ghost use Rattle.std.specs.Prelude.{slice_index, true};
 ghost use Rattle.command_words.specs.Numbers.{SpellsNumber, number_from_to};
 ghost use Rattle.command_words.specs.Settings.{AreInRange, centimetres_of, defaults, scale_of, shades_of};
 ghost use Rattle.command_words.specs.Reading.{WordsValue, words_of};
-ghost use Rattle.command_words.specs.Given.{naming, naming_apart, with_settings, OptionSets};
+ghost use Rattle.command_words.specs.Options.{words_naming, words_naming_apart, with_settings, OptionSets};
 
 /// The function that definitions cite gives the number that a text spells, where it is in the range.
 pub fn numbers_are_spelled()
@@ -22,15 +24,17 @@ pub fn settings_are_in_their_ranges()
 /// with `-` (45) has to stand behind `=`.
 pub fn defaults_stand_alone()
     ensures joined { (program catalogue table : List ℕ) →
-        words_of (naming program catalogue table []) ≡ Some (with_settings catalogue table defaults) }
+        words_of (words_naming program catalogue table []) ≡ Some (with_settings catalogue table defaults) }
     ensures apart { (program catalogue table : List ℕ) → slice_index catalogue 0 ≢ 45 → slice_index table 0 ≢ 45 →
-        words_of (naming_apart program catalogue table) ≡ Some (with_settings catalogue table defaults) }
+        words_of (words_naming_apart program catalogue table) ≡ Some (with_settings catalogue table defaults) }
 {}
 
 /// Each depth's option changes its own depth, and nothing else.
 pub fn depths_are_set()
-    ensures safety_contour { OptionSets (codes "--safety-contour=") centimetres_of (λ depth. record defaults { safety_contour = depth }) }
-    ensures safety_depth { OptionSets (codes "--safety-depth=") centimetres_of (λ depth. record defaults { safety_depth = depth }) }
+    ensures safety_contour { OptionSets (codes "--safety-contour=") centimetres_of
+        (λ depth. record defaults { safety_contour = depth }) }
+    ensures safety_depth { OptionSets (codes "--safety-depth=") centimetres_of
+        (λ depth. record defaults { safety_depth = depth }) }
     ensures shallow { OptionSets (codes "--shallow=") centimetres_of (λ depth. record defaults { shallow = depth }) }
     ensures deep { OptionSets (codes "--deep=") centimetres_of (λ depth. record defaults { deep = depth }) }
 {}
@@ -39,7 +43,7 @@ pub fn depths_are_set()
 pub fn looks_are_set()
     ensures shades { OptionSets (codes "--shades=") shades_of (λ shades. record defaults { shades = shades }) }
     ensures pattern { (program catalogue table : List ℕ) →
-        words_of (naming program catalogue table (codes "--pattern" ∷ []))
+        words_of (words_naming program catalogue table (codes "--pattern" ∷ []))
         ≡ Some (with_settings catalogue table (record defaults { pattern = true })) }
     ensures scale { OptionSets (codes "--scale=") scale_of (λ scale. record defaults { scale = scale }) }
 {}
@@ -51,11 +55,11 @@ pub fn other_words_are_refused()
     ensures no_table { (program catalogue : List ℕ) → words_of (program ∷ (codes "--catalogue=" ++ catalogue) ∷ [])
         ≡ None }
     ensures twice { (program catalogue table other : List ℕ) →
-        words_of (naming program catalogue table ((codes "--table=" ++ other) ∷ [])) ≡ None }
+        words_of (words_naming program catalogue table ((codes "--table=" ++ other) ∷ [])) ≡ None }
     ensures help { (program catalogue table : List ℕ) →
-        words_of (naming program catalogue table (codes "--help" ∷ [])) ≡ None }
+        words_of (words_naming program catalogue table (codes "--help" ∷ [])) ≡ None }
     ensures version { (program catalogue table : List ℕ) →
-        words_of (naming program catalogue table (codes "--version" ∷ [])) ≡ None }
+        words_of (words_naming program catalogue table (codes "--version" ∷ [])) ≡ None }
     ensures stray { (program catalogue table word : List ℕ) → slice_index word 0 ≢ 45 →
-        words_of (naming program catalogue table (word ∷ [])) ≡ None }
+        words_of (words_naming program catalogue table (word ∷ [])) ≡ None }
 {}

@@ -1,4 +1,6 @@
 //! Numbers among the words.
+//!
+//! They are read more strictly than Rust's `parse`, which takes a sign and leading zeros.
 
 ghost use Rattle.std.specs.Prelude.{◌≡◌, ◌≢◌, ◌<◌, ◌↔◌, ◌^◌, IsTrue, length, slice_index};
 ghost use Rattle.std.specs.Option.{SomeIff};

@@ -1,10 +1,12 @@
 //! The words, read.
+//!
+//! The values are read only where the command takes the words as a whole.
 
 ghost use Rattle.std.specs.Prelude.{◌≡◌, map, string_bytes, IfOk, MatchResult, Err, Some, None};
 ghost use Rattle.clap.specs.Words.{found_of, rows_of};
 ghost use Rattle.command_words.specs.declared.fault.WordsFault.TheVariants.{Refused};
 ghost use Rattle.command_words.specs.Settings.{AreInRange};
-ghost use Rattle.command_words.specs.Reading.{said_in, value_of, words_of};
+ghost use Rattle.command_words.specs.Reading.{words_in, value_of, words_of};
 
 use crate::command::ecdis;
 use crate::fault::WordsFault;
@@ -25,10 +27,10 @@ pub struct Words {
 }
 
 /// What the matches say, where each value is in its range.
-#[tactic(auto, unfolding(crate::specs::Reading::said_in))]
+#[tactic(auto, unfolding(crate::specs::Reading::words_in))]
 fn words_in(alloc: Global, matches: &ArgMatches) -> Result<Words, WordsFault>
-    ensures { MatchResult result (λ words. said_in (rows_of (found_of matches.now)) ≡ Some (value_of words))
-        (λ fault. fault ≡ Refused → said_in (rows_of (found_of matches.now)) ≡ None) }
+    ensures { MatchResult result (λ words. words_in (rows_of (found_of matches.now)) ≡ Some (value_of words))
+        (λ fault. fault ≡ Refused → words_in (rows_of (found_of matches.now)) ≡ None) }
 {
     let catalogue = text_of(matches, "catalogue").ok_or(WordsFault::Refused)?;
     let table = text_of(matches, "table").ok_or(WordsFault::Refused)?;
