@@ -16,7 +16,8 @@ use Rattle.chart_model.proofs.Names.{name_cmp-total, name_cmp-IsAntisymmetric}
 use Rattle.chart_model.proofs.Pages.{EachEntry, each-of-map}
 use Rattle.chart_model.proofs.SortedEntries.{second, first}
 use Rattle.update_apply.specs.Fault.{is_feature, held_vector, held_feature, fault_by, fault_of}
-use Rattle.update_apply.specs.Changed.{inserted_vector, inserted_feature, modified_vector, modified_feature, changed_in, changed}
+use Rattle.update_apply.specs.Changed.{inserted_vector, inserted_feature, modified_vector, modified_feature}
+use Rattle.update_apply.specs.Changed.{records_after, cell_after}
 use Rattle.update_sequence.specs.declared.fault.BuildFault.TheVariants as of_build
 use Rattle.update_sequence.specs.Built.{folded}
 use Rattle.cell_writer.specs.ReadBack.{vector_insertion, feature_insertion, insertions}
@@ -24,7 +25,8 @@ use Rattle.cell_writer.proofs.PutEntries.{put_entries, AreNew, new-empty, new-af
 use Rattle.cell_writer.proofs.Settings.{set-settings}
 
 -- a change that has no fault is made, and then those behind it
-folded-next : (cell after : CellValue) (change : Change) (rest : List Change) → fault_of cell change ≡ None → changed cell change ≡ after → folded cell (change ∷ rest) ≡ folded after rest
+folded-next : (cell after : CellValue) (change : Change) (rest : List Change) → fault_of cell change ≡ None
+    → cell_after cell change ≡ after → folded cell (change ∷ rest) ≡ folded after rest
 unfolding folded
 folded-next cell after change rest none made =
     (λ i. unless (option_map of_build.Change (none i)) (made i) >>= (λ x. folded x rest))
@@ -51,10 +53,13 @@ inserted-vector : (name : Name) (vector : Vector) → IsVector name vector → i
 inserted-vector name vector is =
     λ i. record { version = vector.version; attrs = set-settings vector.attrs is.attrs i; pointers = vector.pointers; coords = vector.coords }
 
-vector-put : (cell : CellValue) (name : Name) (vector : Vector) → IsVector name vector → changed cell (vector_insertion name vector) ≡ with_vectors cell (map.insert cell.vectors name vector)
+vector-put : (cell : CellValue) (name : Name) (vector : Vector) → IsVector name vector
+    → cell_after cell (vector_insertion name vector) ≡ with_vectors cell (map.insert cell.vectors name vector)
 vector-put cell name vector is =
     λ i. if not-feature name is.named i
-    then record cell { features = changed_in inserted_feature modified_feature cell.features (vector_insertion name vector) }
+    then record cell {
+      features = records_after inserted_feature modified_feature cell.features (vector_insertion name vector);
+    }
     else with_vectors cell (map.insert cell.vectors name (inserted-vector name vector is i))
 
 vectors-folded : (cell : CellValue) (es : List (Name × Vector)) (rest : List Change) → EachEntry name_cmp IsVector es → T (is_sorted name_cmp es) → AreNew name_cmp cell.vectors es
@@ -93,11 +98,14 @@ inserted-feature name feature is =
       pointers = feature.pointers;
     }
 
-feature-put : (cell : CellValue) (name : Name) (feature : Feature) → IsFeature name feature → changed cell (feature_insertion name feature) ≡ with_features cell (map.insert cell.features name feature)
+feature-put : (cell : CellValue) (name : Name) (feature : Feature) → IsFeature name feature
+    → cell_after cell (feature_insertion name feature) ≡ with_features cell (map.insert cell.features name feature)
 feature-put cell name feature is =
     λ i. if is-feature name is.named i
     then with_features cell (map.insert cell.features name (inserted-feature name feature is i))
-    else record cell { vectors = changed_in inserted_vector modified_vector cell.vectors (feature_insertion name feature) }
+    else record cell {
+      vectors = records_after inserted_vector modified_vector cell.vectors (feature_insertion name feature);
+    }
 
 features-folded : (cell : CellValue) (es : List (Name × Feature)) → EachEntry name_cmp IsFeature es → T (is_sorted name_cmp es) → AreNew name_cmp cell.features es
     → folded cell (list.map feature_change es) ≡ Ok (with_features cell (put_entries name_cmp cell.features es))

@@ -11,7 +11,7 @@ use Rattle.chart_model.specs.Record.{AreCoords, IsCoord}
 use Rattle.update_apply.specs.declared.judge.HeldRecord.{HeldRecord}
 use Rattle.update_apply.specs.declared.fault.ChangeFault.{ChangeFault}
 use Rattle.update_apply.specs.declared.fault.ChangeFault.TheVariants as fault
-use Rattle.update_apply.specs.Edited.{edited, edited_by}
+use Rattle.update_apply.specs.Edited.{list_after, edited_by}
 use Rattle.chart_model.specs.Answers.{when}
 use Rattle.update_apply.specs.Fault.{have_depths, mixed_fault}
 
@@ -34,9 +34,10 @@ module _ {A : Type 0} (P : A → Type 0) where
         ] refl
       ] refl
 
-  pub all-edited : (edit : Option Control) (given items : List A) → All P given → All P items → All P (edited edit given items)
-  all-edited None given items new old = old
-  all-edited (Some control) given items new old = all-edited-by control given items (λ _. new) old
+  pub all-list_after : (edit : Option Control) (given items : List A) → All P given → All P items
+      → All P (list_after edit given items)
+  all-list_after None given items new old = old
+  all-list_after (Some control) given items new old = all-edited-by control given items (λ _. new) old
 
 -- a list that is alike has depths everywhere or nowhere
 abbrev HasDepths : Bool → List Coord → Type 0
@@ -88,12 +89,14 @@ module _ (name : Name) (control : Control) (held : HeldRecord) where
   )
 
 -- coordinates that are edited without a fault stay those of one record
-pub coords-edited : (name : Name) (edit : Option Control) (held : HeldRecord) (given items : List Coord) → held.coords ≡ length items → held.depths ≡ have_depths items
-    → mixed_fault name edit held given ≡ None → AreCoords given → AreCoords items → AreCoords (edited edit given items)
-coords-edited name None held given items many depths none new old = old
-coords-edited name (Some control) held given items many depths none new old =
+pub coords-list_after : (name : Name) (edit : Option Control) (held : HeldRecord) (given items : List Coord)
+    → held.coords ≡ length items → held.depths ≡ have_depths items
+    → mixed_fault name edit held given ≡ None → AreCoords given → AreCoords items
+    → AreCoords (list_after edit given items)
+coords-list_after name None held given items many depths none new old = old
+coords-list_after name (Some control) held given items many depths none new old =
     let alike = alike-edited name control held given items many depths none new old in
     record {
-      each = all-edited IsCoord (Some control) given items new.each old.each;
+      each = all-list_after IsCoord (Some control) given items new.each old.each;
       alike = to-alike alike.0 _ alike.1;
     }

@@ -9,7 +9,7 @@ use Rattle.chart_model.specs.declared.update_record.Control.{Control}
 use Rattle.chart_model.specs.Change.{IsEdit, IsInstruction}
 use Rattle.update_apply.specs.declared.fault.ChangeFault.{ChangeFault}
 use Rattle.update_apply.specs.declared.fault.ChangeFault.TheVariants as fault
-use Rattle.update_apply.specs.Edited.{edited, edited_by, IsEdited, IsEditedBy, FitsEach}
+use Rattle.update_apply.specs.Edited.{list_after, edited_by, IsEdited, IsEditedBy, FitsEach}
 use Rattle.chart_model.specs.Answers.{when}
 use Rattle.update_apply.specs.Fault.{index_fault, count_fault, behind}
 
@@ -99,7 +99,8 @@ module _ {A : Type 0} (control : Control) (given items : List A) where
             ] refl
       ] refl
 
-pub is-edited : {A : Type 0} (name : Name) (edit : Option Control) (given items : List A) → IsEdit edit → index_fault name edit (length items) ≡ None → IsEdited edit given items (edited edit given items)
+pub is-edited : {A : Type 0} (name : Name) (edit : Option Control) (given items : List A) → IsEdit edit
+    → index_fault name edit (length items) ≡ None → IsEdited edit given items (list_after edit given items)
 is-edited name None given items range none = refl
 is-edited name (Some control) given items range none = is-edited-by control given items range (placed name control (length items) none)
 
@@ -140,7 +141,8 @@ module _ {A : Type 0} (control : Control) (given old new : List A) where
         ] refl
       ] refl
 
-pub only-edited : {A : Type 0} (edit : Option Control) (given old new : List A) → IsEdit edit → IsEdited edit given old new → new ≡ edited edit given old
+pub only-edited : {A : Type 0} (edit : Option Control) (given old new : List A) → IsEdit edit
+    → IsEdited edit given old new → new ≡ list_after edit given old
 only-edited None given old new range is = is
 only-edited (Some control) given old new range is = only-edited-by control given old new range is
 

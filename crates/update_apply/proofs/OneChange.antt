@@ -12,23 +12,27 @@ use Rattle.chart_model.specs.Record.{IsVectorName, IsFeatureName}
 use Rattle.chart_model.specs.Names.{name_cmp, edited_at, edited_in}
 use Rattle.update_apply.specs.declared.judge.HeldRecord.{HeldRecord}
 use Rattle.update_apply.specs.declared.fault.ChangeFault.TheVariants as fault
-use Rattle.update_apply.specs.Changed.{inserted_vector, inserted_feature, modified_vector, modified_feature, changed_in, changed, IsModifiedVector, IsModifiedFeature, ChangesIn, Changes}
+use Rattle.update_apply.specs.Changed.{inserted_vector, inserted_feature, modified_vector, modified_feature}
+use Rattle.update_apply.specs.Changed.{records_after, cell_after, IsModifiedVector, IsModifiedFeature, ChangesIn}
+use Rattle.update_apply.specs.Changed.{Changes}
 use Rattle.update_apply.specs.Fault.{is_feature, inserts, fault_by, fault_of, held_vector, held_feature, held_faults, edit_faults}
 use Rattle.update_apply.proofs.Edits.{quiet, is-edited, only-edited}
 use Rattle.update_apply.proofs.NoFault.{AreNone, none-vector, none-feature, none-edits}
 
 module _ {V : Type 0} (inserted : Change → V) (modified : Change → V → V) (records : map.FinMap name_cmp V) (change : Change) where
-  new-in : change.ruin ≡ 1 → changed_in inserted modified records change ≡ map.insert records change.target (inserted change)
+  new-in : change.ruin ≡ 1
+      → records_after inserted modified records change ≡ map.insert records change.target (inserted change)
   new-in one =
       ap (λ (n : ℕ). if n == 1 then map.insert records change.target (inserted change)
       else if n == 2 then map.remove records change.target else edited_in (modified change) records change.target) one
 
-  gone-in : change.ruin ≡ 2 → changed_in inserted modified records change ≡ map.remove records change.target
+  gone-in : change.ruin ≡ 2 → records_after inserted modified records change ≡ map.remove records change.target
   gone-in two =
       ap (λ (n : ℕ). if n == 1 then map.insert records change.target (inserted change)
       else if n == 2 then map.remove records change.target else edited_in (modified change) records change.target) two
 
-  other-in : (held : V) → change.ruin ≡ 3 → map.get records change.target ≡ Some held → changed_in inserted modified records change ≡ map.insert records change.target (modified change held)
+  other-in : (held : V) → change.ruin ≡ 3 → map.get records change.target ≡ Some held
+      → records_after inserted modified records change ≡ map.insert records change.target (modified change held)
   other-in held three there =
       ap (λ (n : ℕ). if n == 1 then map.insert records change.target (inserted change)
       else if n == 2 then map.remove records change.target else edited_in (modified change) records change.target) three
@@ -39,7 +43,7 @@ module _ {V : Type 0} (inserted : Change → V) (modified : Change → V → V) 
         → (map.get records change.target ≡ None → not (inserts change) ≡ false)
         → ((held : V) → map.get records change.target ≡ Some held → AreNone (held_faults change (held_of held)))
         → ((held : V) → AreNone (edit_faults change (held_of held)) → IsModified change held (modified change held))
-        → ChangesIn inserted IsModified change records (changed_in inserted modified records change)
+        → ChangesIn inserted IsModified change records (records_after inserted modified records change)
     changes-in held_of absent present is-modified = record {
       insert = λ one. (
         elim (map.get records change.target) as (λ (o : Option V). map.get records change.target ≡ o → o ≡ None) [
@@ -53,16 +57,19 @@ module _ {V : Type 0} (inserted : Change → V) (modified : Change → V → V) 
     }
       where
         modifies-in : change.ruin ≡ 3 → (o : Option V) → map.get records change.target ≡ o
-            → (held : V) × (made : V) × (map.get records change.target ≡ Some held) × IsModified change held made × (changed_in inserted modified records change ≡ map.insert records change.target made)
+            → (held : V) × (made : V) × (map.get records change.target ≡ Some held) × IsModified change held made
+            × (records_after inserted modified records change ≡ map.insert records change.target made)
         modifies-in three None e = absurd (true≢false (ap (λ n. not (n == 1)) (sym three) ∙ absent e))
         modifies-in three (Some held) e =
             (held, modified change held, e, is-modified held (none-edits change (held_of held) (present held e) (ap (λ n. n == 3) three)), other-in held three e)
 
     only-in : IsInRange 1 3 change.ruin → ((held made : V) → IsModified change held made → made ≡ modified change held)
-        → (after : map.FinMap name_cmp V) → ChangesIn inserted IsModified change records after → after ≡ changed_in inserted modified records change
+        → (after : map.FinMap name_cmp V) → ChangesIn inserted IsModified change records after
+        → after ≡ records_after inserted modified records change
     only-in range only after is = by (change.ruin == 1) (change.ruin == 2) refl refl
       where
-        by : (one two : Bool) → change.ruin == 1 ≡ one → change.ruin == 2 ≡ two → after ≡ changed_in inserted modified records change
+        by : (one two : Bool) → change.ruin == 1 ≡ one → change.ruin == 2 ≡ two
+            → after ≡ records_after inserted modified records change
         by true two e d = (is.insert (eqb-true change.ruin 1 e)).1 ∙ sym (new-in (eqb-true change.ruin 1 e))
         by false true e d = is.delete (eqb-true change.ruin 2 d) ∙ sym (gone-in (eqb-true change.ruin 2 d))
         by false false e d =
@@ -100,7 +107,9 @@ module _ (cell : CellValue) (change : Change) (has : IsChange change) where
         quiet _ (fault.Absent change.target)
         ((λ i. fault_by (if sym so i then option_map held_feature (sym e i) else option_map held_vector (map.get cell.vectors change.target)) change) ∙ none)
 
-    vectors-change : is_feature change.target ≡ false → ChangesIn inserted_vector IsModifiedVector change cell.vectors (changed_in inserted_vector modified_vector cell.vectors change)
+    vectors-change : is_feature change.target ≡ false
+        → ChangesIn inserted_vector IsModifiedVector change cell.vectors
+        (records_after inserted_vector modified_vector cell.vectors change)
     vectors-change other =
         changes-in inserted_vector modified_vector cell.vectors change IsModifiedVector held_vector (absent-vector other)
         (λ held there. none-vector cell change none held other there)
@@ -111,7 +120,9 @@ module _ (cell : CellValue) (change : Change) (has : IsChange change) where
           coords = is-edited change.target change.coord_edit change.coords held.coords has.coord_edit edits.1.1.1.1.1.1.1.0;
         })
 
-    features-change : is_feature change.target ≡ true → ChangesIn inserted_feature IsModifiedFeature change cell.features (changed_in inserted_feature modified_feature cell.features change)
+    features-change : is_feature change.target ≡ true
+        → ChangesIn inserted_feature IsModifiedFeature change cell.features
+        (records_after inserted_feature modified_feature cell.features change)
     features-change so =
         changes-in inserted_feature modified_feature cell.features change IsModifiedFeature held_feature (absent-feature so)
         (λ held there. none-feature cell change none held so there)
@@ -126,11 +137,11 @@ module _ (cell : CellValue) (change : Change) (has : IsChange change) where
           pointers = is-edited change.target change.pointer_edit change.pointers held.pointers has.pointer_edit edits.1.1.1.1.1.1.0;
         })
 
-    pub change-follows : Changes cell change (changed cell change)
+    pub change-follows : Changes cell change (cell_after cell change)
     change-follows =
         elim (is_feature change.target) as (λ b. is_feature change.target ≡ b → Changes cell change (if b
-        then record cell { features = changed_in inserted_feature modified_feature cell.features change }
-        else record cell { vectors = changed_in inserted_vector modified_vector cell.vectors change })) [
+        then record cell { features = records_after inserted_feature modified_feature cell.features change }
+        else record cell { vectors = records_after inserted_vector modified_vector cell.vectors change })) [
           | true ↦ λ so. record { header = refl; vector = λ named. absurd (no-vector change so named); feature = λ named. (features-change so, refl) }
           | false ↦ λ other. record { header = refl; vector = λ named. (vectors-change other, refl); feature = λ named. absurd (no-feature change other named) }
         ] refl
@@ -138,11 +149,11 @@ module _ (cell : CellValue) (change : Change) (has : IsChange change) where
   vector-name : is_feature change.target ≡ false → IsVectorName change.target
   vector-name other = ⊎_elim (λ (v : IsVectorName change.target). v) (λ (f : IsFeatureName change.target). absurd (no-feature change other f)) has.target
 
-  pub no-other-follows : (after : CellValue) → Changes cell change after → after ≡ changed cell change
+  pub no-other-follows : (after : CellValue) → Changes cell change after → after ≡ cell_after cell change
   no-other-follows after is =
       elim (is_feature change.target) as (λ b. is_feature change.target ≡ b → after ≡ (if b
-      then record cell { features = changed_in inserted_feature modified_feature cell.features change }
-      else record cell { vectors = changed_in inserted_vector modified_vector cell.vectors change })) [
+      then record cell { features = records_after inserted_feature modified_feature cell.features change }
+      else record cell { vectors = records_after inserted_vector modified_vector cell.vectors change })) [
         | true ↦ λ so.
             let features = is.feature (eqb-true change.target.rcnm 100 so) in
             let are = only-in inserted_feature modified_feature cell.features change IsModifiedFeature has.ruin (only-feature change has) after.features features.0 in

@@ -10,7 +10,7 @@ use Rattle.chart_model.specs.Change.{Change}
 use Rattle.chart_model.specs.Record.{IsVectorName, IsFeatureName}
 use Rattle.chart_model.specs.Names.{name_cmp, edited_in}
 use Rattle.chart_model.specs.Codes.{INSERT, DELETE, MODIFY}
-use Rattle.update_apply.specs.Edited.{edited, FitsEach, IsEdited}
+use Rattle.update_apply.specs.Edited.{list_after, FitsEach, IsEdited}
 use Rattle.update_apply.specs.Fault.{inserts, deletes, is_feature}
 
 -- ---- as a function
@@ -42,8 +42,8 @@ abbrev pub modified_vector : Change → Vector → Vector
 modified_vector change held = record {
   version = held.version + 1;
   attrs = set_attrs held.attrs change.attrs;
-  pointers = edited change.pointer_edit change.pointers held.pointers;
-  coords = edited change.coord_edit change.coords held.coords;
+  pointers = list_after change.pointer_edit change.pointers held.pointers;
+  coords = list_after change.coord_edit change.coords held.coords;
 }
 
 abbrev pub modified_feature : Change → Feature → Feature
@@ -54,8 +54,8 @@ modified_feature change held = record {
   version = held.version + 1;
   foid = held.foid;
   attrs = set_attrs held.attrs change.attrs;
-  related = edited change.related_edit change.related held.related;
-  pointers = edited change.pointer_edit change.pointers held.pointers;
+  related = list_after change.related_edit change.related held.related;
+  pointers = list_after change.pointer_edit change.pointers held.pointers;
 }
 
 -- what a record has to be for that: the version follows, and each edit fits its list
@@ -71,18 +71,18 @@ pub record FitsFeature (change : Change) (held : Feature) : Type 0 where
 
 module _ {V : Type 0} (inserted : Change → V) (modified : Change → V → V) where
   -- a record is put, is taken out, or is modified where there is one
-  abbrev pub changed_in : map.FinMap name_cmp V → Change → map.FinMap name_cmp V
-  changed_in records change =
+  abbrev pub records_after : map.FinMap name_cmp V → Change → map.FinMap name_cmp V
+  records_after records change =
       if inserts change then map.insert records change.target (inserted change)
       else if deletes change then map.remove records change.target
       else edited_in (modified change) records change.target
 
 -- the cell after the change
-abbrev pub changed : CellValue → Change → CellValue
-changed cell change =
+abbrev pub cell_after : CellValue → Change → CellValue
+cell_after cell change =
     if is_feature change.target
-    then record cell { features = changed_in inserted_feature modified_feature cell.features change }
-    else record cell { vectors = changed_in inserted_vector modified_vector cell.vectors change }
+    then record cell { features = records_after inserted_feature modified_feature cell.features change }
+    else record cell { vectors = records_after inserted_vector modified_vector cell.vectors change }
 
 -- ---- as a relation
 

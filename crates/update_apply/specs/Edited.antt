@@ -14,9 +14,9 @@ edited_by control given items =
     else take front items ++ given ++ drop (front + control.count) items
 
 -- a list without a control field stays
-abbrev pub edited : {A : Type 0} → Option Control → List A → List A → List A
-edited None given items = items
-edited (Some control) given items = edited_by control given items
+abbrev pub list_after : {A : Type 0} → Option Control → List A → List A → List A
+list_after None given items = items
+list_after (Some control) given items = edited_by control given items
 
 -- the items around the place stay. An insertion puts the given ones between them; a deletion takes out as
 -- many as it states; a modification replaces as many by the given ones
@@ -49,6 +49,6 @@ abbrev pub FitsEach : {A : Type 0} → Option Control → List A → List A → 
 FitsEach edit given items = IfSome edit (λ control. Fits control given items)
 
 -- how many items an edit adds at most
-abbrev pub added : {A : Type 0} → Option Control → List A → ℕ
-added None given = 0
-added (Some control) given = if control.instruction == INSERT then length given else 0
+abbrev pub items_added : {A : Type 0} → Option Control → List A → ℕ
+items_added None given = 0
+items_added (Some control) given = if control.instruction == INSERT then length given else 0

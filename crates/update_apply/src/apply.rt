@@ -1,9 +1,12 @@
 //! A change made to a cell.
+//!
+//! A change is judged before anything is done, so that one that is refused leaves the cell as it
+//! was.
 
 ghost use Rattle.std.specs.Prelude.{◌≡◌, ◌+◌, ◌≤◌, None, OnOk, OnErr};
 ghost use Rattle.std.specs.Option.{option_map};
 ghost use Rattle.std.specs.FinMap as map;
-ghost use Rattle.update_apply.specs.Changed.{changed, changed_in, inserted_vector, inserted_feature};
+ghost use Rattle.update_apply.specs.Changed.{cell_after, records_after, inserted_vector, inserted_feature};
 ghost use Rattle.update_apply.specs.Changed.{modified_vector, modified_feature};
 ghost use Rattle.update_apply.specs.Fault as spec;
 ghost use Rattle.update_apply.specs.Moves.{cost_of};
@@ -23,7 +26,7 @@ fn change_vectors(
     change: &UpdateRecord,
 ) -> Result<(), AllocError>
     requires { spec.fault_by (option_map spec.held_vector (map.get vectors.old change.now.target)) change.now ≡ None }
-    ensures ok { OnOk result (vectors.new ≡ changed_in inserted_vector modified_vector vectors.old change.now) }
+    ensures ok { OnOk result (vectors.new ≡ records_after inserted_vector modified_vector vectors.old change.now) }
     ensures err { OnErr result (vectors.new ≡ vectors.old) }
 {
     match change.ruin {
@@ -43,7 +46,7 @@ fn change_vectors_owned(
     change: UpdateRecord,
 ) -> Result<(), AllocError>
     requires { spec.fault_by (option_map spec.held_vector (map.get vectors.old change.target)) change ≡ None }
-    ensures ok { OnOk result (vectors.new ≡ changed_in inserted_vector modified_vector vectors.old change) }
+    ensures ok { OnOk result (vectors.new ≡ records_after inserted_vector modified_vector vectors.old change) }
     ensures err { OnErr result (vectors.new ≡ vectors.old) }
 {
     if change.ruin != INSERT {
@@ -61,7 +64,7 @@ fn change_features(
     change: &UpdateRecord,
 ) -> Result<(), AllocError>
     requires { spec.fault_by (option_map spec.held_feature (map.get features.old change.now.target)) change.now ≡ None }
-    ensures ok { OnOk result (features.new ≡ changed_in inserted_feature modified_feature features.old change.now) }
+    ensures ok { OnOk result (features.new ≡ records_after inserted_feature modified_feature features.old change.now) }
     ensures err { OnErr result (features.new ≡ features.old) }
 {
     match change.ruin {
@@ -81,7 +84,7 @@ fn change_features_owned(
     change: UpdateRecord,
 ) -> Result<(), AllocError>
     requires { spec.fault_by (option_map spec.held_feature (map.get features.old change.target)) change ≡ None }
-    ensures ok { OnOk result (features.new ≡ changed_in inserted_feature modified_feature features.old change) }
+    ensures ok { OnOk result (features.new ≡ records_after inserted_feature modified_feature features.old change) }
     ensures err { OnErr result (features.new ≡ features.old) }
 {
     if change.ruin != INSERT {
@@ -120,7 +123,7 @@ pub fn apply_within(
     change: &UpdateRecord,
     moves: &mut Moves,
 ) -> Result<(), ChangeFault>
-    ensures ok { OnOk result (cell.new ≡ changed cell.old change.now) }
+    ensures ok { OnOk result (cell.new ≡ cell_after cell.old change.now) }
     ensures err { OnErr result (cell.new ≡ cell.old) }
     ensures fault { spec.told result ≡ spec.fault_of cell.old change.now }
 
@@ -146,7 +149,7 @@ pub fn apply_owned(
     change: UpdateRecord,
     moves: &mut Moves,
 ) -> Result<(), ChangeFault>
-    ensures ok { OnOk result (cell.new ≡ changed cell.old change) }
+    ensures ok { OnOk result (cell.new ≡ cell_after cell.old change) }
     ensures err { OnErr result (cell.new ≡ cell.old) }
     ensures fault { spec.told result ≡ spec.fault_of cell.old change }
 
@@ -171,7 +174,7 @@ pub fn apply_record(
     cell: &mut Cell,
     change: &UpdateRecord,
 ) -> Result<(), ChangeFault>
-    ensures ok { OnOk result (cell.new ≡ changed cell.old change.now) }
+    ensures ok { OnOk result (cell.new ≡ cell_after cell.old change.now) }
     ensures err { OnErr result (cell.new ≡ cell.old) }
     ensures fault { spec.told result ≡ spec.fault_of cell.old change.now }
 

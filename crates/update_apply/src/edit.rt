@@ -1,4 +1,6 @@
 //! Lists edited by their control fields.
+//!
+//! A list has room for an edit before it is made, so that no edit stops halfway.
 
 ghost use Rattle.std.specs.Prelude.{◌≡◌, ◌+◌, ◌≤◌, ◌++◌, length, take, drop};
 ghost use Rattle.std.specs.Vec.{vec_len, vec_capacity};
@@ -54,8 +56,8 @@ fn edit_by<T: Copy>(list: &mut Vec<T>, control: Control, given: &[T])
 /// Edits a list that has room for what is added. It takes no memory.
 pub fn edit<T: Copy>(list: &mut Vec<T>, edit: Option<Control>, given: &[T])
     requires fits { spec.FitsEach edit given.now list.old.items }
-    requires room { vec_len list.old + spec.added edit given.now ≤ vec_capacity list.old }
-    ensures { list.new.items ≡ spec.edited edit given.now list.old.items }
+    requires room { vec_len list.old + spec.items_added edit given.now ≤ vec_capacity list.old }
+    ensures { list.new.items ≡ spec.list_after edit given.now list.old.items }
 {
     if let Some(control) = edit {
         edit_by(list, control, given);
@@ -63,8 +65,8 @@ pub fn edit<T: Copy>(list: &mut Vec<T>, edit: Option<Control>, given: &[T])
 }
 
 /// How many items an edit adds at most.
-pub fn added<T>(edit: Option<Control>, given: &[T]) -> usize
-    ensures { result ≡ spec.added edit given.now }
+pub fn items_added<T>(edit: Option<Control>, given: &[T]) -> usize
+    ensures { result ≡ spec.items_added edit given.now }
 {
     match edit {
         Some(control) if control.instruction == INSERT => given.len(),

@@ -1,4 +1,7 @@
 //! Whether a change fits the cell.
+//!
+//! Vector records and features are judged by the same few numbers of what is kept, so that the
+//! order of the faults is said once.
 
 ghost use Rattle.std.specs.Prelude.{◌≡◌, IsTrue, None, [], if◌then◌else◌};
 ghost use Rattle.chart_model.specs.Answers.{first_of, when};

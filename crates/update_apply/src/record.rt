@@ -1,12 +1,15 @@
 //! Records inserted and modified.
+//!
+//! An insertion takes over the lists of its change. A modification takes all memory first, so that
+//! no record is left half modified.
 
 ghost use Rattle.std.specs.Prelude.{◌≡◌, IfOk, OnOk, OnErr};
 ghost use Rattle.std.specs.FinMap as map;
 ghost use Rattle.chart_model.specs.Attrs.{set_attrs};
 ghost use Rattle.update_apply.specs.Changed.{inserted_vector, inserted_feature};
-ghost use Rattle.update_apply.specs.Edited.{edited, FitsEach};
+ghost use Rattle.update_apply.specs.Edited.{FitsEach, list_after};
 
-use crate::edit::{added, edit};
+use crate::edit::{edit, items_added};
 use chart_model::{
     AttrList, AttrMap, Control, Edit, Feature, Foid, Pointer, Sequence, UpdateRecord, Vector,
 };
@@ -89,14 +92,14 @@ fn edit_parts<T: Copy>(
     requires others { FitsEach control given.now others.old.items }
     ensures attrs { OnOk result (attrs.new ≡ set_attrs attrs.old change.now.attrs) }
     ensures pointers { OnOk result (pointers.new.items
-        ≡ edited change.now.pointer_edit change.now.pointers pointers.old.items) }
-    ensures others { OnOk result (others.new.items ≡ edited control given.now others.old.items) }
+        ≡ list_after change.now.pointer_edit change.now.pointers pointers.old.items) }
+    ensures others { OnOk result (others.new.items ≡ list_after control given.now others.old.items) }
     ensures err { OnErr result ((attrs.new ≡ attrs.old) × (pointers.new.items ≡ pointers.old.items) ×
         (others.new.items ≡ others.old.items)) }
 {
     let given_pointers = change.pointers.as_slice();
-    pointers.reserve(added(change.pointer_edit, given_pointers))?;
-    others.reserve(added(control, given))?;
+    pointers.reserve(items_added(change.pointer_edit, given_pointers))?;
+    others.reserve(items_added(control, given))?;
     attrs.set_all(alloc, change.attrs.as_slice())?;
     edit(pointers, change.pointer_edit, given_pointers);
     edit(others, control, given);

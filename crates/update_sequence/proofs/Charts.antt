@@ -12,7 +12,7 @@ use Rattle.chart_model.specs.Dataset.{DatasetValue, IsDataset}
 use Rattle.chart_model.proofs.Maps.{each-empty}
 use Rattle.chart_closure.specs.Closed.{closure_fault}
 use Rattle.update_apply.specs.Fault.{fault_of}
-use Rattle.update_apply.specs.Changed.{changed}
+use Rattle.update_apply.specs.Changed.{cell_after}
 use Rattle.update_sequence.specs.declared.fault.BuildFault.{BuildFault}
 use Rattle.update_sequence.specs.declared.fault.BuildFault.TheVariants as of_build
 use Rattle.chart_model.specs.Answers.{unless, ◌>>=◌}
@@ -40,13 +40,15 @@ built-ok chart dataset cell e =
     (b.1 ∙ ap Ok u.1, subst (λ (x : CellValue). closure_fault x ≡ None) u.1 u.0)
 
 -- what holds of a cell, and of each cell that a change without a fault leaves, holds of what changes leave
-pub folded-keeps : (P : CellValue → Type 0) (Q : Change → Type 0) → ((cell : CellValue) (change : Change) → P cell → Q change → fault_of cell change ≡ None → P (changed cell change)) →
+pub folded-keeps : (P : CellValue → Type 0) (Q : Change → Type 0)
+    → ((cell : CellValue) (change : Change) → P cell → Q change → fault_of cell change ≡ None
+    → P (cell_after cell change)) →
     (cell after : CellValue) (changes : List Change) → P cell → AllByRecursion Q changes → folded cell changes ≡ Ok after → P after
 unfolding folded
 folded-keeps P Q keeps cell after [] here each e = subst P (ok_is e) here
 folded-keeps P Q keeps cell after (change ∷ rest) here each e =
-    let b = bind-ok (unless (option_map of_build.Change (fault_of cell change)) (changed cell change)) _ after e in
-    let u = unless-ok of_build.Change (fault_of cell change) (changed cell change) b.0 b.1 in
+    let b = bind-ok (unless (option_map of_build.Change (fault_of cell change)) (cell_after cell change)) _ after e in
+    let u = unless-ok of_build.Change (fault_of cell change) (cell_after cell change) b.0 b.1 in
     folded-keeps P Q keeps b.0 after rest (subst P u.1 (keeps cell change here each.0 u.0)) each.1 b.2
 
 -- ---- cells
@@ -69,7 +71,8 @@ begun-cell (Some chart) header is ranges = record {
   features = is.features;
 }
 
-pub built-cell : ((cell : CellValue) (change : Change) → IsCell cell → IsChange change → fault_of cell change ≡ None → IsCell (changed cell change)) →
+pub built-cell : ((cell : CellValue) (change : Change) → IsCell cell → IsChange change → fault_of cell change ≡ None
+    → IsCell (cell_after cell change)) →
     (chart : Option CellValue) (dataset : DatasetValue) (cell : CellValue) → IfSome chart IsCell → IsDataset dataset → All IsChange dataset.changes → dataset.cancels ≡ false →
     built chart dataset ≡ Ok cell → IsCell cell
 built-cell keeps chart dataset cell is data_set changes stands e =
@@ -82,7 +85,7 @@ any_change : (changes : List Change) → AllByRecursion (λ _. Unit {0}) changes
 any_change [] = tt
 any_change (change ∷ rest) = (tt, any_change rest)
 
-pub built-header : ((cell : CellValue) (change : Change) → (changed cell change).header ≡ cell.header) →
+pub built-header : ((cell : CellValue) (change : Change) → (cell_after cell change).header ≡ cell.header) →
     (chart : Option CellValue) (dataset : DatasetValue) (cell : CellValue) → built chart dataset ≡ Ok cell → cell.header ≡ (begun chart dataset.header).header
 built-header keeps chart dataset cell e =
     let first = begun chart dataset.header in

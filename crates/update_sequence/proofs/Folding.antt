@@ -4,7 +4,7 @@ use Rattle.std.specs.Option.{option_map}
 use Rattle.chart_model.specs.Cell.{CellValue}
 use Rattle.chart_model.specs.Change.{Change}
 use Rattle.update_apply.specs.Fault.{fault_of, told}
-use Rattle.update_apply.specs.Changed.{changed}
+use Rattle.update_apply.specs.Changed.{cell_after}
 use Rattle.update_apply.specs.declared.fault.ChangeFault.{ChangeFault}
 use Rattle.update_apply.specs.declared.fault.ChangeFault.TheVariants as of_change
 use Rattle.update_sequence.specs.declared.fault.BuildFault.{BuildFault}
@@ -16,7 +16,8 @@ use Rattle.update_sequence.proofs.Places.{from_place}
 
 -- what a change and those after it make, by the fault of the change
 abbrev pub after_change : CellValue → Change → List Change → Option ChangeFault → Result CellValue BuildFault
-after_change cell change rest fault = unless (option_map of_build.Change fault) (changed cell change) >>= (λ after. folded after rest)
+after_change cell change rest fault =
+    unless (option_map of_build.Change fault) (cell_after cell change) >>= (λ after. folded after rest)
 
 pub folded-cons : (cell : CellValue) (change : Change) (rest : List Change) → folded cell (change ∷ rest) ≡ after_change cell change rest (fault_of cell change)
 unfolding folded
@@ -32,20 +33,24 @@ bind-bind : (r : Result CellValue BuildFault) (f g : CellValue → Result CellVa
 bind-bind (Ok x) f g = refl
 bind-bind (Err fault) f g = refl
 
-pub folded-one : (cell : CellValue) (change : Change) → folded cell (change ∷ []) ≡ unless (option_map of_build.Change (fault_of cell change)) (changed cell change)
+pub folded-one : (cell : CellValue) (change : Change)
+    → folded cell (change ∷ []) ≡ unless (option_map of_build.Change (fault_of cell change)) (cell_after cell change)
 unfolding folded
-folded-one cell change = bind-ok-again (unless (option_map of_build.Change (fault_of cell change)) (changed cell change))
+folded-one cell change =
+    bind-ok-again (unless (option_map of_build.Change (fault_of cell change)) (cell_after cell change))
 
 pub folded-append : (cell : CellValue) (first rest : List Change) → folded cell (first ++ rest) ≡ folded_after (folded cell first) rest
 unfolding folded
 folded-append cell [] rest = refl
 folded-append cell (change ∷ first) rest =
-    let made : Result CellValue BuildFault = unless (option_map of_build.Change (fault_of cell change)) (changed cell change) in
+    let made : Result CellValue BuildFault =
+    unless (option_map of_build.Change (fault_of cell change)) (cell_after cell change) in
     (λ i. made >>= (λ after. folded-append after first rest i))
     ∙ bind-bind made (λ after. folded after first) (λ after. folded after rest)
 
 pub folded-made : (cell after : CellValue) (changes : List Change) (i : ℕ) (change : Change) → i < length changes → change ≡ get_or changes i change →
-    None ≡ fault_of cell change → after ≡ changed cell change → folded after (drop (i + 1) changes) ≡ folded cell (drop i changes)
+    None ≡ fault_of cell change → after ≡ cell_after cell change
+    → folded after (drop (i + 1) changes) ≡ folded cell (drop i changes)
 folded-made cell after changes i change h e none made =
     ap (λ (x : CellValue). folded x (drop (i + 1) changes)) made
     ∙ ap (after_change cell change (drop (i + 1) changes)) none

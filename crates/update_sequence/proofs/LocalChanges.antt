@@ -18,10 +18,11 @@ use Rattle.chart_closure.specs.Closed.{fault_at, IsClosed}
 use Rattle.chart_closure.specs.Unchanged.{KeepsRecords, ShowsTheSame, StandsStill, StandsAsBefore}
 use Rattle.update_apply.specs.declared.fault.ChangeFault.{ChangeFault}
 use Rattle.update_apply.specs.declared.fault.ChangeFault.TheVariants as fault
-use Rattle.update_apply.specs.Edited.{edited, edited_by}
+use Rattle.update_apply.specs.Edited.{list_after, edited_by}
 use Rattle.chart_model.specs.Answers.{when, first_of}
 use Rattle.update_apply.specs.Fault.{is_feature, held_vector, held_feature, inserts, deletes, modifies, count_fault, edit_faults, held_faults, fault_by, fault_of}
-use Rattle.update_apply.specs.Changed.{changed, changed_in, inserted_vector, inserted_feature, modified_vector, modified_feature}
+use Rattle.update_apply.specs.Changed.{cell_after, records_after, inserted_vector, inserted_feature, modified_vector}
+use Rattle.update_apply.specs.Changed.{modified_feature}
 use Rattle.update_sequence.specs.Built.{begun, folded}
 use Rattle.update_sequence.specs.Extended.{keeps_coords, is_local, are_local, asks_closure, asked_target}
 use Rattle.update_sequence.specs.Extended.{have_no_closure_fault}
@@ -47,9 +48,10 @@ local-stays change local =
 
 -- ---- lists that are edited
 
-edited-none : {A : Type 0} (edit : Option Control) (given items : List A) → is_none edit ≡ true → edited edit given items ≡ items
-edited-none None given items none = refl
-edited-none (Some control) given items none = absurd (true≢false (sym none))
+list_after-none : {A : Type 0} (edit : Option Control) (given items : List A) → is_none edit ≡ true
+    → list_after edit given items ≡ items
+list_after-none None given items none = refl
+list_after-none (Some control) given items none = absurd (true≢false (sym none))
 
 quiet : (so : Bool) (what : ChangeFault) → when so what ≡ None → so ≡ false
 quiet true what e = absurd (true≢false (ap is_some e))
@@ -75,9 +77,10 @@ edited-length {A} name control given items keeps none =
           (omega (arith, many, length-append (take f items ++ given) (drop (f + n) items), length-append (take f items) given, length-take f items, length-drop (f + n) items))
     ]
 
-edited-some : {A : Type 0} (name : Name) (edit : Option Control) (given items : List A) → keeps_coords edit ≡ true → count_fault name edit given ≡ None → items ≢ [] → edited edit given items ≢ []
-edited-some name None given items keeps none some = some
-edited-some name (Some control) given items keeps none some = λ gone.
+list_after-some : {A : Type 0} (name : Name) (edit : Option Control) (given items : List A) → keeps_coords edit ≡ true
+    → count_fault name edit given ≡ None → items ≢ [] → list_after edit given items ≢ []
+list_after-some name None given items keeps none some = some
+list_after-some name (Some control) given items keeps none some = λ gone.
     some (nil_from_length items (omega (arith, edited-length name control given items keeps none, ap length gone)))
 
 -- ---- faults that a change hasn't
@@ -122,13 +125,14 @@ modified-stands : (change : Change) (kept : Vector) → (is_none change.pointer_
 modified-stands change kept edits none =
     let parts = and_parts (is_none change.pointer_edit) _ edits in
     record {
-      pointers = edited-none change.pointer_edit change.pointers kept.pointers parts.0;
-      placed = edited-some change.target change.coord_edit change.coords kept.coords parts.1 none;
+      pointers = list_after-none change.pointer_edit change.pointers kept.pointers parts.0;
+      placed = list_after-some change.target change.coord_edit change.coords kept.coords parts.1 none;
     }
 
 -- what a modification makes of records
 modified-is : (records : map.FinMap name_cmp Vector) (change : Change) (kept : Vector) → modifies change ≡ true → map.get records change.target ≡ Some kept
-    → changed_in inserted_vector modified_vector records change ≡ map.insert records change.target (modified_vector change kept)
+    → records_after inserted_vector modified_vector records change
+    ≡ map.insert records change.target (modified_vector change kept)
 modified-is records change kept so there =
     ap (λ (n : ℕ). if n == 1 then map.insert records change.target (inserted_vector change)
     else if n == 2 then map.remove records change.target else edited_in (modified_vector change) records change.target) (eqb-true change.ruin 3 so)
@@ -136,12 +140,14 @@ modified-is records change kept so there =
 
 module _ (cell : CellValue) (change : Change) (local : is_local change ≡ true) (none : fault_of cell change ≡ None) where
   -- under the changed name
-  target-stands : (vector : Vector) → map.get cell.vectors change.target ≡ Some vector → Stands (map.get (changed cell change).vectors change.target) vector
+  target-stands : (vector : Vector) → map.get cell.vectors change.target ≡ Some vector
+      → Stands (map.get (cell_after cell change).vectors change.target) vector
   target-stands vector there = by (is_feature change.target) refl
     where
       by : (b : Bool) → is_feature change.target ≡ b → Stands (map.get (if b
-          then record cell { features = changed_in inserted_feature modified_feature cell.features change }
-          else record cell { vectors = changed_in inserted_vector modified_vector cell.vectors change }).vectors change.target) vector
+          then record cell { features = records_after inserted_feature modified_feature cell.features change }
+          else record cell { vectors = records_after inserted_vector modified_vector cell.vectors change }).vectors
+          change.target) vector
       by true so = (vector, there, stands-itself vector)
       by false other =
           elim (local-kind change local) [
@@ -155,25 +161,31 @@ module _ (cell : CellValue) (change : Change) (local : is_local change ≡ true)
           ]
 
   -- under any name
-  vector-stands : (name : Name) (vector : Vector) → map.get cell.vectors name ≡ Some vector → Stands (map.get (changed cell change).vectors name) vector
+  vector-stands : (name : Name) (vector : Vector) → map.get cell.vectors name ≡ Some vector
+      → Stands (map.get (cell_after cell change).vectors name) vector
   vector-stands name vector there = by (eq_by_cmp name_cmp name change.target) refl
     where
-      by : (b : Bool) → eq_by_cmp name_cmp name change.target ≡ b → Stands (map.get (changed cell change).vectors name) vector
+      by : (b : Bool) → eq_by_cmp name_cmp name change.target ≡ b
+          → Stands (map.get (cell_after cell change).vectors name) vector
       by true same =
           let e = same_name name change.target same in
-          subst (λ n. Stands (map.get (changed cell change).vectors n) vector) (sym e) (target-stands vector (ap (map.get cell.vectors) (sym e) ∙ there))
+          subst (λ n. Stands (map.get (cell_after cell change).vectors n) vector) (sym e)
+          (target-stands vector (ap (map.get cell.vectors) (sym e) ∙ there))
       by false apart = (vector, (vectors-at cell change (local-stays change local)).others name apart ∙ there, stands-itself vector)
 
-  feature-stays : (name : Name) → IsSome (map.get cell.features name) → IsSome (map.get (changed cell change).features name)
+  feature-stays : (name : Name) → IsSome (map.get cell.features name)
+      → IsSome (map.get (cell_after cell change).features name)
   feature-stays name some = by (eq_by_cmp name_cmp name change.target) refl
     where
-      at : ChangedAt change.target cell.features (changed cell change).features
+      at : ChangedAt change.target cell.features (cell_after cell change).features
       at = features-at cell change (local-stays change local)
 
-      by : (b : Bool) → eq_by_cmp name_cmp name change.target ≡ b → IsSome (map.get (changed cell change).features name)
+      by : (b : Bool) → eq_by_cmp name_cmp name change.target ≡ b
+          → IsSome (map.get (cell_after cell change).features name)
       by true same =
           let e = same_name name change.target same in
-          subst (λ n. IsSome (map.get (changed cell change).features n)) (sym e) (at.kept (subst (λ n. IsSome (map.get cell.features n)) e some))
+          subst (λ n. IsSome (map.get (cell_after cell change).features n)) (sym e)
+          (at.kept (subst (λ n. IsSome (map.get cell.features n)) e some))
       by false apart = ap is_some (at.others name apart) ∙ some
 
 -- ---- charts
@@ -191,7 +203,8 @@ keeps-itself chart header = record {
   features = λ name some. some;
 }
 
-keeps-next : (chart cell : CellValue) (change : Change) → KeepsRecords chart cell → is_local change ≡ true → fault_of cell change ≡ None → KeepsRecords chart (changed cell change)
+keeps-next : (chart cell : CellValue) (change : Change) → KeepsRecords chart cell → is_local change ≡ true
+    → fault_of cell change ≡ None → KeepsRecords chart (cell_after cell change)
 keeps-next chart cell change keeps local none = record {
   vectors = λ name. if-some _ (map.get chart.vectors name) (λ vector there.
       let before = at-some (Stands (map.get cell.vectors name)) (map.get chart.vectors name) vector there (keeps.vectors name) in
@@ -255,7 +268,7 @@ stands-next chart cell after name one two = record {
 -- what a modification leaves under its name
 modified-at : {V : Type 0} (inserted : Change → V) (modified : Change → V → V) (records : map.FinMap name_cmp V)
     (change : Change) → modifies change ≡ true →
-    map.get (changed_in inserted modified records change) change.target
+    map.get (records_after inserted modified records change) change.target
     ≡ option_map (modified change) (map.get records change.target)
 modified-at {V} inserted modified records change so =
     ap (λ (n : ℕ). map.get (if n == 1 then map.insert records change.target (inserted change)
@@ -272,7 +285,7 @@ modified-shows : (change : Change) → is_none change.pointer_edit ≡ true → 
     StandsStill ShowsTheSame o (option_map (modified_feature change) o)
 modified-shows change edits None = refl
 modified-shows change edits (Some kept) =
-    record { prim = refl; pointers = edited-none change.pointer_edit change.pointers kept.pointers edits }
+    record { prim = refl; pointers = list_after-none change.pointer_edit change.pointers kept.pointers edits }
 
 -- a change that asks nothing is a modification without an edit of pointers
 asks-nothing : (change : Change) → asks_closure change ≡ false →
@@ -284,32 +297,34 @@ asks-nothing change quiet =
 module _ (cell : CellValue) (change : Change) (local : is_local change ≡ true) (none : fault_of cell change ≡ None)
     (asks : asks_closure change ≡ false) where
   vector-still : StandsStill StandsFor
-      (map.get cell.vectors change.target) (map.get (changed cell change).vectors change.target)
+      (map.get cell.vectors change.target) (map.get (cell_after cell change).vectors change.target)
   vector-still = by (map.get cell.vectors change.target) refl
     where
       gone : (b : Bool) → is_feature change.target ≡ b → map.get cell.vectors change.target ≡ None →
           map.get (if b
-          then record cell { features = changed_in inserted_feature modified_feature cell.features change }
-          else record cell { vectors = changed_in inserted_vector modified_vector cell.vectors change }).vectors change.target ≡ None
+          then record cell { features = records_after inserted_feature modified_feature cell.features change }
+          else record cell { vectors = records_after inserted_vector modified_vector cell.vectors change }).vectors
+          change.target ≡ None
       gone true so there = there
       gone false other there =
           modified-at inserted_vector modified_vector cell.vectors change (asks-nothing change asks).0
           ∙ ap (option_map (modified_vector change)) there
 
       by : (o : Option Vector) → map.get cell.vectors change.target ≡ o →
-          StandsStill StandsFor o (map.get (changed cell change).vectors change.target)
+          StandsStill StandsFor o (map.get (cell_after cell change).vectors change.target)
       by None there = gone (is_feature change.target) refl there
       by (Some vector) there =
           let after = target-stands cell change local none vector there in
           subst (λ found. IsSomeAnd found (StandsFor vector)) (sym after.1) after.2
 
   feature-still : StandsStill ShowsTheSame
-      (map.get cell.features change.target) (map.get (changed cell change).features change.target)
+      (map.get cell.features change.target) (map.get (cell_after cell change).features change.target)
   feature-still = by (is_feature change.target)
     where
       by : (b : Bool) → StandsStill ShowsTheSame (map.get cell.features change.target) (map.get (if b
-          then record cell { features = changed_in inserted_feature modified_feature cell.features change }
-          else record cell { vectors = changed_in inserted_vector modified_vector cell.vectors change }).features change.target)
+          then record cell { features = records_after inserted_feature modified_feature cell.features change }
+          else record cell { vectors = records_after inserted_vector modified_vector cell.vectors change }).features
+          change.target)
       by true =
           let parts = asks-nothing change asks in
           subst (λ found. StandsStill ShowsTheSame (map.get cell.features change.target) found)
@@ -323,25 +338,25 @@ Leaves name change = (eq_by_cmp name_cmp name change.target ≡ false) ⊎ (asks
 
 -- such a change, where it is local, leaves what stands under a name
 left-still : (cell : CellValue) (change : Change) (name : Name) → is_local change ≡ true → fault_of cell change ≡ None →
-    Leaves name change → StandsAsBefore cell (changed cell change) name
+    Leaves name change → StandsAsBefore cell (cell_after cell change) name
 left-still cell change name local none leaves = by (eq_by_cmp name_cmp name change.target) refl leaves
   where
-    others : eq_by_cmp name_cmp name change.target ≡ false → StandsAsBefore cell (changed cell change) name
+    others : eq_by_cmp name_cmp name change.target ≡ false → StandsAsBefore cell (cell_after cell change) name
     others apart = record {
       vector = still-same StandsFor stands-itself
-          (map.get cell.vectors name) (map.get (changed cell change).vectors name)
+          (map.get cell.vectors name) (map.get (cell_after cell change).vectors name)
           ((vectors-at cell change (local-stays change local)).others name apart);
       feature = still-same ShowsTheSame shows-itself
-          (map.get cell.features name) (map.get (changed cell change).features name)
+          (map.get cell.features name) (map.get (cell_after cell change).features name)
           ((features-at cell change (local-stays change local)).others name apart);
     }
 
     by : (b : Bool) → eq_by_cmp name_cmp name change.target ≡ b → Leaves name change →
-        StandsAsBefore cell (changed cell change) name
+        StandsAsBefore cell (cell_after cell change) name
     by false apart leaves = others apart
     by true same (inl apart) = others apart
     by true same (inr asks) =
-        subst (λ n. StandsAsBefore cell (changed cell change) n) (sym (same_name name change.target same)) (record {
+        subst (λ n. StandsAsBefore cell (cell_after cell change) n) (sym (same_name name change.target same)) (record {
           vector = vector-still cell change local none asks;
           feature = feature-still cell change local none asks;
         })
@@ -397,7 +412,7 @@ stays-closed law chart after header changes closed made local faultless =
           | inl none ↦ inl none
           | inr left ↦ inr (folded-keeps (λ cell. StandsAsBefore chart cell name)
               (λ change. (is_local change ≡ true) × Leaves name change)
-              (λ cell change still here none. stands-next chart cell (changed cell change) name still
+              (λ cell change still here none. stands-next chart cell (cell_after cell change) name still
               (left-still cell change name here.0 none here.1))
               (begun (Some chart) header) after changes (stands-begun chart header name)
               (both (λ change. is_local change ≡ true) (Leaves name) changes (each-local changes local) left) made)

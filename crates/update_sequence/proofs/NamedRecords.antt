@@ -20,7 +20,7 @@ use Rattle.chart_model.specs.Names.{name_cmp, edited_at}
 use Rattle.update_apply.specs.declared.judge.HeldRecord.{HeldRecord}
 use Rattle.update_apply.specs.declared.fault.ChangeFault.{ChangeFault}
 use Rattle.update_apply.specs.declared.fault.ChangeFault.TheVariants as fault
-use Rattle.update_apply.specs.Changed.{changed, changed_in, inserted_vector, inserted_feature, modified_vector}
+use Rattle.update_apply.specs.Changed.{cell_after, records_after, inserted_vector, inserted_feature, modified_vector}
 use Rattle.update_apply.specs.Changed.{modified_feature}
 use Rattle.update_apply.specs.Fault.{is_feature, inserts, deletes, held_vector, held_feature, fault_by, fault_of}
 use Rattle.update_sequence.specs.declared.fault.BuildFault.TheVariants as of_build
@@ -29,7 +29,7 @@ use Rattle.update_sequence.specs.Others.{HasOther, delete_none}
 use Rattle.update_sequence.proofs.Charts.{bind-ok, unless-ok, built-ok}
 use Rattle.update_sequence.proofs.DataSets.{ok_is}
 use Rattle.update_sequence.proofs.OneName.{get-new, same_name}
-use Rattle.update_sequence.proofs.OtherRecords.{changed-others}
+use Rattle.update_sequence.proofs.OtherRecords.{cell_after-others}
 
 -- ---- the age of a record: none, or one more than its version
 
@@ -86,7 +86,7 @@ module _ {V : Type 0} (version : V → ℕ) (held_of : V → HeldRecord) (insert
   raised-in : (records : finite.FinMap name_cmp V) (change : Change) → deletes change ≡ false →
       fault_by (option_map held_of (finite.get records change.target)) change ≡ None →
       age_in version (finite.get records change.target)
-      < age_in version (finite.get (changed_in inserted modified records change) change.target)
+      < age_in version (finite.get (records_after inserted modified records change) change.target)
   raised-in records change stays none =
       let found = finite.get records change.target in
       subst (λ (deleting : Bool). age_in version found
@@ -96,8 +96,8 @@ module _ {V : Type 0} (version : V → ℕ) (held_of : V → HeldRecord) (insert
 abbrev made_of : Bool → CellValue → Change → CellValue
 made_of b cell change =
     if b
-    then record cell { features = changed_in inserted_feature modified_feature cell.features change }
-    else record cell { vectors = changed_in inserted_vector modified_vector cell.vectors change }
+    then record cell { features = records_after inserted_feature modified_feature cell.features change }
+    else record cell { vectors = records_after inserted_vector modified_vector cell.vectors change }
 
 older-by : (b : Bool) (cell : CellValue) (change : Change) → deletes change ≡ false →
     fault_by (if b then option_map held_feature (finite.get cell.features change.target)
@@ -116,19 +116,19 @@ Ages cell next change name =
     (age cell name ≤ age next name) × (change.target ≡ name → age cell name < age next name)
 
 ages-one : (cell : CellValue) (change : Change) (name : Name) → deletes change ≡ false → fault_of cell change ≡ None →
-    Ages cell (changed cell change) change name
+    Ages cell (cell_after cell change) change name
 ages-one cell change name stays none = by (eq_by_cmp name_cmp name change.target) refl
   where
-    older : change.target ≡ name → age cell name < age (changed cell change) name
+    older : change.target ≡ name → age cell name < age (cell_after cell change) name
     older same =
-        subst (λ (n : Name). age cell n < age (changed cell change) n) same
+        subst (λ (n : Name). age cell n < age (cell_after cell change) n) same
         (older-by (is_feature change.target) cell change stays none)
 
-    by : (b : Bool) → eq_by_cmp name_cmp name change.target ≡ b → Ages cell (changed cell change) change name
+    by : (b : Bool) → eq_by_cmp name_cmp name change.target ≡ b → Ages cell (cell_after cell change) change name
     by true same = (omega (arith, older (sym (same_name name change.target same))), older)
     by false apart =
-        let same = changed-others cell change name apart in
-        let alike : age (changed cell change) name ≡ age cell name
+        let same = cell_after-others cell change name apart in
+        let alike : age (cell_after cell change) name ≡ age cell name
         = λ i. if is_feature name then feature_age (same.feature i) else vector_age (same.vector i) in
         (omega (arith, alike), older)
 
@@ -150,8 +150,8 @@ ages cell after [] name stay e =
     (omega (arith, same), λ there. absurd (let below = there.1 in omega arith))
 ages cell after (change ∷ rest) name stay e =
     let parts = and_parts (not (deletes change)) (delete_none rest) stay in
-    let b = bind-ok (unless (option_map of_build.Change (fault_of cell change)) (changed cell change)) _ after e in
-    let u = unless-ok of_build.Change (fault_of cell change) (changed cell change) b.0 b.1 in
+    let b = bind-ok (unless (option_map of_build.Change (fault_of cell change)) (cell_after cell change)) _ after e in
+    let u = unless-ok of_build.Change (fault_of cell change) (cell_after cell change) b.0 b.1 in
     let one = subst (λ (x : CellValue). Ages cell x change name) u.1
     (ages-one cell change name (not-true _ parts.0) u.0) in
     let later = ages b.0 after rest name parts.1 b.2 in (

@@ -11,7 +11,8 @@ use Rattle.chart_model.specs.Names.{name_cmp, edited_at}
 use Rattle.chart_model.proofs.Names.{name_cmp-total, name_cmp-IsAntisymmetric}
 use Rattle.chart_model.specs.Cell.{CellValue}
 use Rattle.chart_model.specs.Change.{Change}
-use Rattle.update_apply.specs.Changed.{changed_in, changed, inserted_vector, inserted_feature, modified_vector, modified_feature}
+use Rattle.update_apply.specs.Changed.{records_after, cell_after, inserted_vector, inserted_feature, modified_vector}
+use Rattle.update_apply.specs.Changed.{modified_feature}
 use Rattle.update_apply.specs.Fault.{is_feature, inserts, deletes}
 
 tied : (r : Ordering) → is_eq r ≡ true → r ≡ Equal
@@ -44,9 +45,11 @@ module _ {V : Type 0} where
 -- ---- changes
 
 -- a change that deletes nothing leaves all other records, and a record where there was one
-changed_in-at : {V : Type 0} (inserted : Change → V) (modified : Change → V → V) (records : map.FinMap name_cmp V) (change : Change) → deletes change ≡ false
-    → ChangedAt change.target records (changed_in inserted modified records change)
-changed_in-at {V} inserted modified records change stays =
+records_after-at : {V : Type 0} (inserted : Change → V) (modified : Change → V → V) (records : map.FinMap name_cmp V)
+    (change : Change)
+    → deletes change ≡ false
+    → ChangedAt change.target records (records_after inserted modified records change)
+records_after-at {V} inserted modified records change stays =
     let name = change.target in
     let modified_here : Option V → map.FinMap name_cmp V = edited_at (modified change) records name in
     elim (inserts change) as (λ b. ChangedAt name records (if b then map.insert records name (inserted change)
@@ -59,20 +62,20 @@ changed_in-at {V} inserted modified records change stays =
     ]
 
 module _ (cell : CellValue) (change : Change) (stays : deletes change ≡ false) where
-  pub vectors-at : ChangedAt change.target cell.vectors (changed cell change).vectors
+  pub vectors-at : ChangedAt change.target cell.vectors (cell_after cell change).vectors
   vectors-at =
       elim (is_feature change.target) as (λ b. ChangedAt change.target cell.vectors (if b
-      then record cell { features = changed_in inserted_feature modified_feature cell.features change }
-      else record cell { vectors = changed_in inserted_vector modified_vector cell.vectors change }).vectors) [
+      then record cell { features = records_after inserted_feature modified_feature cell.features change }
+      else record cell { vectors = records_after inserted_vector modified_vector cell.vectors change }).vectors) [
         | true ↦ at-same change.target cell.vectors
-        | false ↦ changed_in-at inserted_vector modified_vector cell.vectors change stays
+        | false ↦ records_after-at inserted_vector modified_vector cell.vectors change stays
       ]
 
-  pub features-at : ChangedAt change.target cell.features (changed cell change).features
+  pub features-at : ChangedAt change.target cell.features (cell_after cell change).features
   features-at =
       elim (is_feature change.target) as (λ b. ChangedAt change.target cell.features (if b
-      then record cell { features = changed_in inserted_feature modified_feature cell.features change }
-      else record cell { vectors = changed_in inserted_vector modified_vector cell.vectors change }).features) [
-        | true ↦ changed_in-at inserted_feature modified_feature cell.features change stays
+      then record cell { features = records_after inserted_feature modified_feature cell.features change }
+      else record cell { vectors = records_after inserted_vector modified_vector cell.vectors change }).features) [
+        | true ↦ records_after-at inserted_feature modified_feature cell.features change stays
         | false ↦ at-same change.target cell.features
       ]

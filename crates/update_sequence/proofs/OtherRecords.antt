@@ -13,7 +13,8 @@ use Rattle.chart_model.specs.Change.{Change}
 use Rattle.chart_model.specs.Dataset.{DatasetValue}
 use Rattle.chart_model.specs.Names.{name_cmp, edited_at}
 use Rattle.chart_model.proofs.Names.{name_cmp-total}
-use Rattle.update_apply.specs.Changed.{changed_in, changed, inserted_vector, inserted_feature, modified_vector, modified_feature}
+use Rattle.update_apply.specs.Changed.{records_after, cell_after, inserted_vector, inserted_feature, modified_vector}
+use Rattle.update_apply.specs.Changed.{modified_feature}
 use Rattle.update_apply.specs.Fault.{is_feature, inserts, deletes}
 use Rattle.update_sequence.specs.Built.{begun, built}
 use Rattle.update_sequence.proofs.Charts.{folded-keeps, built-ok}
@@ -34,10 +35,11 @@ module _ {V : Type 0} (records : finite.FinMap name_cmp V) (name other : Name) (
   other-edit f None = refl
   other-edit f (Some v) = other-insert (f v)
 
-changed_in-others : {V : Type 0} (inserted : Change → V) (modified : Change → V → V) (records : finite.FinMap name_cmp V)
+records_after-others : {V : Type 0} (inserted : Change → V) (modified : Change → V → V)
+    (records : finite.FinMap name_cmp V)
     (change : Change) (other : Name) → eq_by_cmp name_cmp other change.target ≡ false →
-    finite.get (changed_in inserted modified records change) other ≡ finite.get records other
-changed_in-others {V} inserted modified records change other apart =
+    finite.get (records_after inserted modified records change) other ≡ finite.get records other
+records_after-others {V} inserted modified records change other apart =
     let edit : finite.FinMap name_cmp V = edited_at (modified change) records change.target (finite.get records change.target) in
     elim (inserts change) as (λ b. finite.get (if b then finite.insert records change.target (inserted change)
     else if deletes change then finite.remove records change.target else edit) other ≡ finite.get records other) [
@@ -51,18 +53,19 @@ changed_in-others {V} inserted modified records change other apart =
     ]
 
 -- a change of another name leaves the records of a name
-pub changed-others : (cell : CellValue) (change : Change) (other : Name) → eq_by_cmp name_cmp other change.target ≡ false →
-    HasSame cell (changed cell change) other
-changed-others cell change other apart =
+pub cell_after-others : (cell : CellValue) (change : Change) (other : Name)
+    → eq_by_cmp name_cmp other change.target ≡ false →
+    HasSame cell (cell_after cell change) other
+cell_after-others cell change other apart =
     elim (is_feature change.target) as (λ b. HasSame cell (if b
-    then record cell { features = changed_in inserted_feature modified_feature cell.features change }
-    else record cell { vectors = changed_in inserted_vector modified_vector cell.vectors change }) other) [
+    then record cell { features = records_after inserted_feature modified_feature cell.features change }
+    else record cell { vectors = records_after inserted_vector modified_vector cell.vectors change }) other) [
       | true ↦ record {
         vector = refl;
-        feature = changed_in-others inserted_feature modified_feature cell.features change other apart;
+        feature = records_after-others inserted_feature modified_feature cell.features change other apart;
       }
       | false ↦ record {
-        vector = changed_in-others inserted_vector modified_vector cell.vectors change other apart;
+        vector = records_after-others inserted_vector modified_vector cell.vectors change other apart;
         feature = refl;
       }
     ]
@@ -93,7 +96,7 @@ others-stay chart after dataset name made =
       | inl there ↦ inl there
       | inr others ↦ inr (folded-keeps (λ cell. HasSame chart cell name)
           (λ change. eq_by_cmp name_cmp name change.target ≡ false)
-          (λ cell change same apart none. let next = changed-others cell change name apart in
+          (λ cell change same apart none. let next = cell_after-others cell change name apart in
           record { vector = next.vector ∙ same.vector; feature = next.feature ∙ same.feature })
           (begun (Some chart) dataset.header) after dataset.changes (record { vector = refl; feature = refl })
           others (built-ok (Some chart) dataset after made).0)

@@ -8,7 +8,7 @@ use Rattle.chart_model.specs.Dataset.{DatasetValue}
 use Rattle.chart_model.specs.declared.dataset.Header.{Header}
 use Rattle.chart_closure.specs.Closed.{closure_fault}
 use Rattle.update_apply.specs.Fault.{fault_of}
-use Rattle.update_apply.specs.Changed.{changed}
+use Rattle.update_apply.specs.Changed.{cell_after}
 use Rattle.update_sequence.specs.declared.fault.BuildFault.{BuildFault}
 use Rattle.update_sequence.specs.declared.fault.BuildFault.TheVariants as of_build
 
@@ -25,7 +25,7 @@ begun (Some chart) header = record chart { header = header_after chart.header he
 unfoldable pub folded : CellValue → List Change → Result CellValue BuildFault
 folded cell [] = Ok cell
 folded cell (change ∷ rest) = do
-  after ← unless (option_map of_build.Change (fault_of cell change)) (changed cell change)
+  after ← unless (option_map of_build.Change (fault_of cell change)) (cell_after cell change)
   folded after rest
 
 -- changes made of what others leave, or the fault of those

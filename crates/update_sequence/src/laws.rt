@@ -14,7 +14,7 @@ ghost use Rattle.chart_model.specs.State.{IsHolding};
 ghost use Rattle.chart_model.specs.declared.name.Name.{Name};
 ghost use Rattle.chart_model.specs.declared.state.Held.{Held};
 ghost use Rattle.update_sequence.specs.Reading.{data_set_in};
-ghost use Rattle.update_apply.specs.Changed.{changed};
+ghost use Rattle.update_apply.specs.Changed.{cell_after};
 ghost use Rattle.update_apply.specs.Fault.{fault_of};
 ghost use Rattle.update_sequence.specs.declared.fault.BuildFault.TheVariants as of_build;
 ghost use Rattle.update_sequence.specs.Built.{built, folded, folded_after, header_after};
@@ -127,7 +127,7 @@ pub fn sequences_are_held()
 pub fn changes_are_made_in_turn()
     ensures none { (cell : CellValue) → folded cell [] ≡ Ok cell }
     ensures one { (cell : CellValue) (change : Change) → folded cell (change ∷ [])
-        ≡ unless (option_map of_build.Change (fault_of cell change)) (changed cell change) }
+        ≡ unless (option_map of_build.Change (fault_of cell change)) (cell_after cell change) }
     ensures turn { (cell : CellValue) (first rest : List Change) →
         folded cell (first ++ rest) ≡ folded_after (folded cell first) rest }
 {}

@@ -2,14 +2,14 @@ use Rattle.std.proofs.Common.{◌≡◌, ◌≢◌, ap, subst, sym, ◌∙◌}
 use Rattle.chart_model.specs.Cell.{CellValue}
 use Rattle.chart_model.specs.Change.{IsChange}
 use Rattle.update_apply.specs.Fault.{fault_of}
-use Rattle.update_apply.proofs.CellsKept.{features-changed, vectors-changed}
+use Rattle.update_apply.proofs.CellsKept.{features-after, vectors-after}
 use Rattle.update_apply.proofs.apply.apply_owned.Goals as goal
 
 pub invariant_of-cell : goal.invariant_of-cell
 invariant_of-cell c =
     let seen = c.cell.inside in
     let cell : CellValue = record { header = seen.header; vectors = seen.vectors; features = seen.features } in
-    features-changed cell c.args.change c.change_features_owned-done.new.features c.change_features_owned-done.result
+    features-after cell c.args.change c.change_features_owned-done.new.features c.change_features_owned-done.result
     (subst (λ change. change.target.rcnm ≡ 100) c.change.view_is c.if-change-eq-FEATURE.true)
     c.cell.invariant
     (subst IsChange c.change.view_is c.change.invariant)
@@ -21,7 +21,7 @@ pub invariant_of-cell-else-change-eq-FEATURE : goal.invariant_of-cell-else-chang
 invariant_of-cell-else-change-eq-FEATURE c =
     let seen = c.cell.inside in
     let cell : CellValue = record { header = seen.header; vectors = seen.vectors; features = seen.features } in
-    vectors-changed cell c.args.change c.change_vectors_owned-done.new.vectors c.change_vectors_owned-done.result
+    vectors-after cell c.args.change c.change_vectors_owned-done.new.vectors c.change_vectors_owned-done.result
     (subst (λ change. change.target.rcnm ≢ 100) c.change.view_is c.if-change-eq-FEATURE.false)
     c.cell.invariant
     (subst IsChange c.change.view_is c.change.invariant)
