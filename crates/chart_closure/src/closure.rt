@@ -1,4 +1,7 @@
 //! The fault of a chart that isn't closed.
+//!
+//! Each record is looked at by itself, so that an update can have those alone looked at that it may
+//! have harmed.
 
 ghost use Rattle.std.specs.Prelude.{◌≡◌, ◌↔◌, ◌==◌, ◌&&◌, false, is_none, map, option_and_then, IsOk, IfErr};
 ghost use Rattle.std.specs.Result.{result_err};

@@ -1,4 +1,6 @@
 //! What holds of the definitions.
+//!
+//! The crates above cite these where they look at some records of a chart in place of all.
 
 ghost use Rattle.std.specs.Prelude.{◌≡◌, ◌⊎◌, Some, None, IsNone};
 ghost use Rattle.chart_model.specs.declared.name.Name.{Name};

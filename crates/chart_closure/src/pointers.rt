@@ -1,4 +1,7 @@
 //! Where records point to.
+//!
+//! What a record may point to depends on its kind alone; whether its target is there, on the whole
+//! chart.
 
 ghost use Rattle.std.specs.Prelude.{◌≡◌};
 ghost use Rattle.std.specs.List.{list_all};
