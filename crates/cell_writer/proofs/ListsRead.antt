@@ -23,7 +23,7 @@ use Rattle.s57_subfields.specs.Columns.{once_in}
 use Rattle.s57_fields.specs.Foid.{foid_of, foid_row}
 use Rattle.s57_subfields.specs.Number.{FOUR_BYTES, TWO_BYTES}
 use Rattle.s57_subfields.specs.RowValues.{fields_in}
-use Rattle.s57_records.specs.LayoutReadings.{subfields_of, widened}
+use Rattle.s57_records.specs.LayoutReadings.{subfields_of, or_dataset_fault}
 use Rattle.s57_records.specs.Subfields.{Subfields}
 use Rattle.cell_bytes.specs.FieldValues.{attribute_values, feature_pointer_values, point_values, related_values, sounding_values}
 use Rattle.cell_bytes.specs.FieldValues.{IsEntryInRange, IsPointerInRange, IsRelatedInRange, feature_identifier_values, object_values, vector_identifier_values, vector_pointer_values}
@@ -103,13 +103,13 @@ module _ (n : ℕ) (name : Name) (vector : Vector) (range : IsVectorInRange (nam
   pub attrs-read : (vector_subfields n name vector).attrs (codes "ATTV") ≡ Ok (settings_of vector.attrs)
   unfolding layouts
   attrs-read =
-      ap widened (list-read attribute-list (fields_in n (codes "ATTV") (vector_read name vector)) (finite.entries vector.attrs)
+      ap or_dataset_fault (list-read attribute-list (fields_in n (codes "ATTV") (vector_read name vector)) (finite.entries vector.attrs)
       (under-attv name vector ∙ attributes-fields vector.attrs range.attrs) range.attrs)
 
   pub pointers-read : (vector_subfields n name vector).pointers (codes "VRPT") ≡ Ok vector.pointers
   unfolding layouts
   pointers-read =
-      ap widened (list-read vector_pointer-list (fields_in n (codes "VRPT") (vector_read name vector)) vector.pointers
+      ap or_dataset_fault (list-read vector_pointer-list (fields_in n (codes "VRPT") (vector_read name vector)) vector.pointers
       (under-vrpt name vector
       ∙ values-items vector_pointer vector_pointer_values IsPointerInRange vector_pointer-spelled vector.pointers range.pointers) range.pointers)
       ∙ ap (λ (pointers : List Pointer). Ok pointers) (map-id vector.pointers)
@@ -175,9 +175,9 @@ module _ (n : ℕ) (name : Name) (vector : Vector) where
       record {
         points = vector.coords;
         soundings = [];
-        points_read = ap widened (list-read point-list (fields_in n (codes "SG2D") (vector_read name vector)) vector.coords under all)
+        points_read = ap or_dataset_fault (list-read point-list (fields_in n (codes "SG2D") (vector_read name vector)) vector.coords under all)
             ∙ ap (λ (coords : List Coord). Ok coords) (map-id vector.coords);
-        soundings_read = ap widened (sounding-list.fault.absent (Some layout.SG3D) (fields_in n (codes "SG3D") (vector_read name vector)) none);
+        soundings_read = ap or_dataset_fault (sounding-list.fault.absent (Some layout.SG3D) (fields_in n (codes "SG3D") (vector_read name vector)) none);
         whole = append-nil vector.coords;
         not_both = and_false _ (has-under (codes "SG3D") (vector_read name vector) ∙ ap is_there none);
       }
@@ -193,8 +193,8 @@ module _ (n : ℕ) (name : Name) (vector : Vector) where
       record {
         points = [];
         soundings = vector.coords;
-        points_read = ap widened (point-list.fault.absent (Some layout.SG2D) (fields_in n (codes "SG2D") (vector_read name vector)) none);
-        soundings_read = ap widened (list-read sounding-list (fields_in n (codes "SG3D") (vector_read name vector)) vector.coords under all)
+        points_read = ap or_dataset_fault (point-list.fault.absent (Some layout.SG2D) (fields_in n (codes "SG2D") (vector_read name vector)) none);
+        soundings_read = ap or_dataset_fault (list-read sounding-list (fields_in n (codes "SG3D") (vector_read name vector)) vector.coords under all)
             ∙ ap (λ (coords : List Coord). Ok coords) (map-id vector.coords);
         whole = refl;
         not_both = ap (λ (there : Bool). there && (vector_subfields n name vector).has (codes "SG3D"))
@@ -260,13 +260,13 @@ module _ (n : ℕ) (name : Name) (feature : Feature) (range : IsFeatureEntryInRa
   pub feature_attrs-read : (feature_subfields n name feature).attrs (codes "ATTF") ≡ Ok (settings_of feature.attrs)
   unfolding layouts
   feature_attrs-read =
-      ap widened (list-read attribute-list (fields_in n (codes "ATTF") (feature_read name feature)) (finite.entries feature.attrs)
+      ap or_dataset_fault (list-read attribute-list (fields_in n (codes "ATTF") (feature_read name feature)) (finite.entries feature.attrs)
       (under-attf name feature ∙ attributes-fields feature.attrs range.attrs) range.attrs)
 
   pub related-read : (feature_subfields n name feature).related (codes "FFPT") ≡ Ok feature.related
   unfolding layouts
   related-read =
-      ap widened (list-read related-list (fields_in n (codes "FFPT") (feature_read name feature)) feature.related
+      ap or_dataset_fault (list-read related-list (fields_in n (codes "FFPT") (feature_read name feature)) feature.related
       (under-ffpt name feature ∙ values-items related_object related_values IsRelatedInRange related-spelled feature.related range.related) range.related)
       ∙ ap (λ (related : List Related). Ok related) (map-id feature.related)
 
@@ -275,7 +275,7 @@ module _ (n : ℕ) (name : Name) (feature : Feature) (range : IsFeatureEntryInRa
   feature_pointers-read is =
       let all : AllByRecursion IsFeaturePointer feature.pointers =
       are_feature_pointers feature.pointers range.pointers (recursion_from_All (λ pointer. pointer.topi ≡ NULL) feature.pointers is.topi) in
-      ap widened (list-read feature_pointer-list (fields_in n (codes "FSPT") (feature_read name feature)) feature.pointers
+      ap or_dataset_fault (list-read feature_pointer-list (fields_in n (codes "FSPT") (feature_read name feature)) feature.pointers
       (under-fspt name feature
       ∙ values-items feature_pointer feature_pointer_values IsFeaturePointer feature_pointer-spelled feature.pointers all) all)
       ∙ ap (λ (pointers : List Pointer). Ok pointers) (map-id feature.pointers)
@@ -292,7 +292,7 @@ module _ (n : ℕ) (name : Name) (feature : Feature) (range : IsFeatureEntryInRa
   pub foid-read : (feature_subfields n name feature).foid ≡ Ok feature.foid
   unfolding layouts
   foid-read =
-      ap widened (ap (λ (fields : List (List Value)). foid_of (foid_row (Some layout.FOID)) (record { number = n; tag = codes "FOID"; fields = fields }))
+      ap or_dataset_fault (ap (λ (fields : List (List Value)). foid_of (foid_row (Some layout.FOID)) (record { number = n; tag = codes "FOID"; fields = fields }))
       (under-foid name feature) ∙ foid-once)
 
 -- ---- all of them

@@ -16,13 +16,9 @@ use Rattle.s57_fields.specs.Items.{related_faults, related_of, sounding_faults, 
 use Rattle.s57_fields.specs.Items.{vector_pointer_of}
 use Rattle.s57_subfields.specs.Labels as labels
 use Rattle.s57_fields.specs.Attributes.{attribute_row, attributes_in}
-use Rattle.s57_fields.specs.Sg2d.{coordinates_in}
-use Rattle.s57_fields.specs.Fspt.{feature_pointers_in, fspt_row}
-use Rattle.s57_fields.specs.Ffpt.{ffpt_row}
-use Rattle.s57_fields.specs.Ffpt.{related_in}
-use Rattle.s57_fields.specs.Sg2d.{sg2d_row}
-use Rattle.s57_fields.specs.Sg3d.{sg3d_row, soundings_in}
-use Rattle.s57_fields.specs.Vrpt.{vector_pointers_in, vrpt_row}
+use Rattle.s57_fields.specs.Coordinates.{coordinates_in, sg2d_row, sg3d_row}
+use Rattle.s57_fields.specs.Ffpt.{ffpt_row, related_in}
+use Rattle.s57_fields.specs.Pointers.{fspt_row, pointers_in, vrpt_row}
 use Rattle.s57_subfields.specs.Names.{object_name, record_name}
 use Rattle.s57_subfields.specs.Number.{ONE_BYTE, TWO_BYTES, number_up_to}
 use Rattle.s57_subfields.specs.Signed.{LATITUDE, LONGITUDE, depth_in, number_within}
@@ -88,7 +84,7 @@ module _ (pointer : Pointer) (range : IsPointerInRange pointer) where
   unfolding vector_pointer_of
   vector_pointer-read = rw (target-read, ornt-read, usag-read, topi-read, mask-read) refl
 
-pub vector_pointer-list : IsListOf vector_pointer_of vector_pointer_faults (λ layout. vector_pointers_in (vrpt_row layout)) layout.VRPT vector_pointer_values (λ pointer. pointer) IsPointerInRange
+pub vector_pointer-list : IsListOf vector_pointer_of vector_pointer_faults (λ layout. pointers_in (vrpt_row layout)) layout.VRPT vector_pointer_values (λ pointer. pointer) IsPointerInRange
 vector_pointer-list = record {
   items = vector_pointers-items;
   fault = vector_pointers-faults;
@@ -139,7 +135,7 @@ module _ (pointer : Pointer) (is : IsFeaturePointer pointer) where
       rw (target-read-of_feature, ornt-read-of_feature, usag-read-of_feature, mask-read-of_feature)
       (ap (λ (topi : ℕ). Some (record { target = pointer.target; ornt = pointer.ornt; usag = pointer.usag; topi = topi; mask = pointer.mask })) (sym is.topi))
 
-pub feature_pointer-list : IsListOf feature_pointer_of feature_pointer_faults (λ layout. feature_pointers_in (fspt_row layout)) layout.FSPT feature_pointer_values (λ pointer. pointer) IsFeaturePointer
+pub feature_pointer-list : IsListOf feature_pointer_of feature_pointer_faults (λ layout. pointers_in (fspt_row layout)) layout.FSPT feature_pointer_values (λ pointer. pointer) IsFeaturePointer
 feature_pointer-list = record {
   items = feature_pointers-items;
   fault = feature_pointers-faults;
@@ -258,7 +254,7 @@ module _ (coord : Coord) (is : IsSounding coord) where
       rw (latitude-read-of_sounding, longitude-read-of_sounding, depth-read-of_sounding)
       (ap (λ (z : Option ℤ). Some (record { x = coord.x; y = coord.y; z = z })) (sym is.deep))
 
-pub sounding-list : IsListOf sounding_of sounding_faults (λ layout. soundings_in (sg3d_row layout)) layout.SG3D sounding_values (λ coord. coord) IsSounding
+pub sounding-list : IsListOf sounding_of sounding_faults (λ layout. coordinates_in (sg3d_row layout)) layout.SG3D sounding_values (λ coord. coord) IsSounding
 sounding-list = record {
   items = soundings-items;
   fault = soundings-faults;

@@ -9,10 +9,8 @@ use Rattle.chart_model.specs.declared.record.Related.{Related}
 use Rattle.s57_subfields.specs.declared.fault.FieldFault.{FieldFault}
 use Rattle.s57_subfields.specs.Lists.{column_fault}
 use Rattle.s57_subfields.specs.RowValues.{RowValues}
-use Rattle.s57_fields.specs.Sg2d.{coordinate_in, coordinate_columns, sg2d_row}
-use Rattle.s57_fields.specs.Sg3d.{sounding_in, sounding_columns, sg3d_row}
-use Rattle.s57_fields.specs.Vrpt.{vector_pointer_in, vector_pointer_columns, vrpt_row}
-use Rattle.s57_fields.specs.Fspt.{feature_pointer_in, feature_pointer_columns, fspt_row}
+use Rattle.s57_fields.specs.Coordinates.{coordinate_in, coordinate_columns, sg2d_row, sg3d_row}
+use Rattle.s57_fields.specs.Pointers.{pointer_in, pointer_columns, fspt_row, vrpt_row}
 use Rattle.s57_fields.specs.Ffpt.{related_object_in, related_object_columns, ffpt_row}
 use Rattle.s57_fields.specs.Attributes.{attribute_in, attribute_columns, attribute_row}
 
@@ -27,18 +25,18 @@ attribute_faults layout row groups = map (column_fault row groups) (attribute_co
 -- ---- VRPT
 
 unfoldable pub vector_pointer_of : Layout → List Value → Option Pointer
-vector_pointer_of layout group = vector_pointer_in (vrpt_row (Some layout)) group
+vector_pointer_of layout group = pointer_in (vrpt_row (Some layout)) group
 
 abbrev pub vector_pointer_faults : Layout → RowValues → List (List Value) → List (Option FieldFault)
-vector_pointer_faults layout row groups = map (column_fault row groups) (vector_pointer_columns (vrpt_row (Some layout)))
+vector_pointer_faults layout row groups = map (column_fault row groups) (pointer_columns (vrpt_row (Some layout)))
 
 -- ---- FSPT
 
 unfoldable pub feature_pointer_of : Layout → List Value → Option Pointer
-feature_pointer_of layout group = feature_pointer_in (fspt_row (Some layout)) group
+feature_pointer_of layout group = pointer_in (fspt_row (Some layout)) group
 
 abbrev pub feature_pointer_faults : Layout → RowValues → List (List Value) → List (Option FieldFault)
-feature_pointer_faults layout row groups = map (column_fault row groups) (feature_pointer_columns (fspt_row (Some layout)))
+feature_pointer_faults layout row groups = map (column_fault row groups) (pointer_columns (fspt_row (Some layout)))
 
 -- ---- SG2D: degrees times 10,000,000
 
@@ -51,10 +49,10 @@ coordinate_faults layout row groups = map (column_fault row groups) (coordinate_
 -- ---- SG3D: degrees times 10,000,000, and depths in centimetres
 
 unfoldable pub sounding_of : Layout → List Value → Option Coord
-sounding_of layout group = sounding_in (sg3d_row (Some layout)) group
+sounding_of layout group = coordinate_in (sg3d_row (Some layout)) group
 
 abbrev pub sounding_faults : Layout → RowValues → List (List Value) → List (Option FieldFault)
-sounding_faults layout row groups = map (column_fault row groups) (sounding_columns (sg3d_row (Some layout)))
+sounding_faults layout row groups = map (column_fault row groups) (coordinate_columns (sg3d_row (Some layout)))
 
 -- ---- FFPT
 

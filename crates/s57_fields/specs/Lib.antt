@@ -1,5 +1,6 @@
 pub mod Attributes
 pub mod Control
+pub mod Coordinates
 pub mod Dsid
 pub mod Dspm
 pub mod Dssi
@@ -7,11 +8,8 @@ pub mod Ffpt
 pub mod Files
 pub mod Foid
 pub mod Frid
-pub mod Fspt
 pub mod Items
+pub mod Pointers
 pub mod Ruin
-pub mod Sg2d
-pub mod Sg3d
 pub mod Unread
 pub mod Vrid
-pub mod Vrpt

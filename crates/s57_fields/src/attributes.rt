@@ -1,4 +1,6 @@
 //! Attributes of vector records (ATTV) and of features (ATTF).
+//!
+//! The rows of the two are the same, under two tags.
 
 ghost use Rattle.std.specs.Option.{option_copied};
 ghost use Rattle.std.specs.Prelude.{◌≡◌, IfOk, All};
@@ -6,6 +8,7 @@ ghost use Rattle.chart_model.specs.Record.{IsPlainText};
 ghost use Rattle.s57_subfields.specs.Answers.{Gives};
 ghost use Rattle.s57_fields.specs.Attributes.{attv_at, attf_at};
 
+use crate::faults::first_fault;
 use crate::file::record_at;
 use chart_model::{Attr, AttrList};
 use iso8211_formats::Descriptor;
@@ -45,13 +48,10 @@ impl Group for AttributeRow {
     }
 
     fn first_fault(&self, groups: &Groups, values: &RowFields<'_>) -> Option<FieldFault> {
-        if let Some(fault) = self.attl.fault(groups, values, &TwoBytes) {
-            return Some(fault);
-        }
-        if let Some(fault) = self.atvl.fault(groups, values, &PlainText) {
-            return Some(fault);
-        }
-        None
+        first_fault!(
+            self.attl.fault(groups, values, &TwoBytes),
+            self.atvl.fault(groups, values, &PlainText),
+        )
     }
 
     ghost unread = { attribute-unread };

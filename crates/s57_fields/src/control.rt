@@ -1,4 +1,6 @@
 //! The control fields that edit lists: VRPC, SGCC, FFPC and FSPC.
+//!
+//! Their rows differ in the labels alone.
 
 ghost use Rattle.std.specs.Option.{option_copied};
 ghost use Rattle.std.specs.Prelude.{◌≡◌};

@@ -1,4 +1,6 @@
 //! Data set identification (DSID).
+//!
+//! It says which cell, edition and update the file is, and by its profile whether it is a base file.
 
 ghost use Rattle.std.specs.Option.{option_copied};
 ghost use Rattle.std.specs.Prelude.{◌≡◌, ◌≤◌, IfOk};

@@ -1,4 +1,6 @@
 //! Data set parameters (DSPM).
+//!
+//! The product specification fixes all but the scale; that it is so is tested in `s57_records`.
 
 ghost use Rattle.std.specs.Option.{option_copied};
 ghost use Rattle.std.specs.Prelude.{◌≡◌};

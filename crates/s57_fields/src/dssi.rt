@@ -1,4 +1,6 @@
 //! Data set structure information (DSSI).
+//!
+//! Of it the lexical level of ATTF alone is read, since that says in which characters attributes are written.
 
 ghost use Rattle.std.specs.Option.{option_copied};
 ghost use Rattle.std.specs.Prelude.{◌≡◌};

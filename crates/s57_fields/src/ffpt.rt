@@ -1,10 +1,13 @@
 //! Feature record to feature object pointers (FFPT).
+//!
+//! A feature points to others by their identifiers, which stay the same in all cells.
 
 ghost use Rattle.std.specs.Option.{option_copied};
 ghost use Rattle.std.specs.Prelude.{◌≡◌, IfOk};
 ghost use Rattle.s57_subfields.specs.Answers.{Gives};
 ghost use Rattle.s57_fields.specs.Ffpt.{ffpt_at};
 
+use crate::faults::first_fault;
 use crate::file::record_at;
 use chart_model::{Related, RelatedList};
 use iso8211_formats::Descriptor;
@@ -44,13 +47,10 @@ impl Group for RelatedRow {
     }
 
     fn first_fault(&self, groups: &Groups, values: &RowFields<'_>) -> Option<FieldFault> {
-        if let Some(fault) = self.lnam.fault(groups, values, &ObjectName) {
-            return Some(fault);
-        }
-        if let Some(fault) = self.rind.fault(groups, values, &OneByte) {
-            return Some(fault);
-        }
-        None
+        first_fault!(
+            self.lnam.fault(groups, values, &ObjectName),
+            self.rind.fault(groups, values, &OneByte),
+        )
     }
 
     ghost unread = { related_object-unread };

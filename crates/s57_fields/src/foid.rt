@@ -1,4 +1,6 @@
 //! Feature object identifier (FOID).
+//!
+//! It names a feature object beyond its cell; a record has its name in the cell beside it.
 
 ghost use Rattle.std.specs.Option.{option_copied};
 ghost use Rattle.std.specs.Prelude.{◌≡◌};

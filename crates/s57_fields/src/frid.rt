@@ -1,4 +1,6 @@
 //! Feature record identifier (FRID).
+//!
+//! In a base file every record inserts, so that its update instruction isn't looked at there.
 
 ghost use Rattle.std.specs.Option.{option_copied};
 ghost use Rattle.std.specs.Prelude.{◌≡◌};

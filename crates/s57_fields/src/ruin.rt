@@ -1,4 +1,6 @@
 //! The update instruction of a record.
+//!
+//! VRID and FRID have it alike.
 
 ghost use Rattle.s57_subfields.specs.Answers.{Gives};
 ghost use Rattle.s57_subfields.specs.Columns.{once_in};

@@ -1,4 +1,6 @@
 //! Vector record identifier (VRID).
+//!
+//! In a base file every record inserts, so that its update instruction isn't looked at there.
 
 ghost use Rattle.std.specs.Option.{option_copied};
 ghost use Rattle.std.specs.Prelude.{◌≡◌};

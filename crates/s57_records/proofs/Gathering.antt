@@ -19,7 +19,7 @@ use Rattle.s57_records.specs.Gathering.{with_change, with_scale, gathered_with, 
 use Rattle.chart_model.specs.Dataset.{IsDataset}
 use Rattle.iso8211_records.specs.Kinds.{layout_at}
 use Rattle.s57_records.specs.declared.reader.DataRecord.{DataRecord}
-use Rattle.s57_records.specs.RecordReading.{reading}
+use Rattle.s57_records.specs.RecordReading.{subfields_in}
 use Rattle.s57_records.specs.LayoutReadings.{all_subfields}
 use Rattle.s57_records.specs.Resolved.{Descriptors}
 use Rattle.iso8211_records.specs.declared.record.RawField.{RawField}
@@ -169,22 +169,22 @@ gathered_same g first rest =
 
 -- ---- the data set made of what was read
 
-reading_general : (r : DataRecord) (g : General) → IsKey g.key → general_of (reading r) ≡ Ok g → IsGeneral g
-reading_general r g keyed e =
-    general_is (reading r) g (subfields_within (layout_at r.rows.now) r.number r.fields.now) keyed e
+record_general : (r : DataRecord) (g : General) → IsKey g.key → general_of (subfields_in r) ≡ Ok g → IsGeneral g
+record_general r g keyed e =
+    general_is (subfields_in r) g (subfields_within (layout_at r.rows.now) r.number r.fields.now) keyed e
 
-pub cancelled_from : (r : DataRecord) (g : General) → IsKey g.key → general_of (reading r) ≡ Ok g → cancels g ≡ true → IsDataset (record { header = header_with g 0; base = false; cancels = true; changes = [] })
-cancelled_from r g keyed e cancel = cancelled g (reading_general r g keyed e) cancel
+pub cancelled_from : (r : DataRecord) (g : General) → IsKey g.key → general_of (subfields_in r) ≡ Ok g → cancels g ≡ true → IsDataset (record { header = header_with g 0; base = false; cancels = true; changes = [] })
+cancelled_from r g keyed e cancel = cancelled g (record_general r g keyed e) cancel
 
 both_ok : (g : General) (r : Result Gathered DatasetFault) (gathered : Gathered) (scale : ℕ) → r ≡ Ok gathered → needed_scale g.base gathered.scale ≡ Ok scale → (r >>= λ gathered. needed_scale g.base gathered.scale >>= λ scale. ends g scale gathered.changes) ≡ ends g scale gathered.changes
 both_ok g r gathered scale e scale_e = rw e (rw scale_e refl)
 
-pub made_from : (r : DataRecord) (g : General) (rest : List Subfields) (gathered : Gathered) (scale : ℕ) → IsKey g.key → general_of (reading r) ≡ Ok g → cancels g ≡ false → gather g.base 2 rest nothing_gathered ≡ Ok gathered → needed_scale g.base gathered.scale ≡ Ok scale → IsDataset (record { header = header_with g scale; base = g.base; cancels = false; changes = gathered.changes })
+pub made_from : (r : DataRecord) (g : General) (rest : List Subfields) (gathered : Gathered) (scale : ℕ) → IsKey g.key → general_of (subfields_in r) ≡ Ok g → cancels g ≡ false → gather g.base 2 rest nothing_gathered ≡ Ok gathered → needed_scale g.base gathered.scale ≡ Ok scale → IsDataset (record { header = header_with g scale; base = g.base; cancels = false; changes = gathered.changes })
 unfolding ends
 made_from r g rest gathered scale keyed general_e stands gather_e scale_e =
     bind_then (all_of (map (λ r. said_by g.base r.0 r.1 (kind_of r.1)) (looked_at false 2 rest))) _ (record { header = header_with g scale; base = g.base; cancels = false; changes = gathered.changes }) (sym (records_same g rest) ∙ both_ok g _ gathered scale gather_e scale_e) (λ said said_e after_said.
     bind_then (scale_among g.base said) _ _ after_said (λ scale scale_e made.
-    subst IsDataset (ok_is _ _ made) (dataset_made g scale said (reading_general r g keyed general_e) stands scale_e (base_plain g.base (looked_at false 2 rest) said said_e))))
+    subst IsDataset (ok_is _ _ made) (dataset_made g scale said (record_general r g keyed general_e) stands scale_e (base_plain g.base (looked_at false 2 rest) said said_e))))
 
 pub dataset_from : (first : Subfields) (rest : List Subfields) (g : General) (read : Result DatasetValue DatasetFault) → first.has (codes "DSID") ≡ true → general_of first ≡ Ok g → Gives read (dataset_gathered g first rest) → Gives read (dataset_of (first ∷ rest))
 unfolding dataset_of

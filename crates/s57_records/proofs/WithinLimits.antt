@@ -13,6 +13,7 @@ use Rattle.chart_model.specs.declared.record.Pointer.{Pointer}
 use Rattle.chart_model.specs.declared.record.Coord.{Coord}
 use Rattle.chart_model.specs.Key.{IsKey, is_key}
 use Rattle.chart_model.specs.Record.{IsCoord, IsDepth, IsWithin, IsPlainText}
+use Rattle.iso8211_formats.specs.Layout.{Layout}
 use Rattle.iso8211_records.specs.declared.record.RawField.{RawField}
 use Rattle.iso8211_records.specs.declared.value.Value.{Value}
 use Rattle.iso8211_records.specs.declared.value.Value.TheVariants.{Number, Text, Bits}
@@ -30,25 +31,21 @@ use Rattle.s57_subfields.specs.Signed.{number_within, whole_within, depth_in, LA
 use Rattle.s57_subfields.specs.Texts.{nine_digits, plain_text, is_plain, data_set_name, key_in}
 use Rattle.s57_records.specs.declared.fault.DatasetFault.{DatasetFault}
 use Rattle.s57_fields.specs.declared.attributes.AttributeRow.{AttributeRow}
-use Rattle.s57_fields.specs.declared.sg2d.CoordinateRow.{CoordinateRow}
-use Rattle.s57_fields.specs.declared.sg3d.SoundingRow.{SoundingRow}
-use Rattle.s57_fields.specs.declared.fspt.FeaturePointerRow.{FeaturePointerRow}
 use Rattle.s57_subfields.specs.Names.{record_name}
 use Rattle.s57_fields.specs.Attributes.{attribute_row, attribute_in, attribute_columns, attributes_in}
-use Rattle.s57_fields.specs.Fspt.{fspt_row, feature_pointer_in, feature_pointer_columns, feature_pointers_in}
-use Rattle.s57_fields.specs.Sg2d.{sg2d_row, coordinate_in, coordinate_columns, coordinates_in}
-use Rattle.s57_fields.specs.Sg3d.{sg3d_row, sounding_in, sounding_columns, soundings_in}
-use Rattle.s57_records.specs.LayoutReadings.{widened, mapped, under, Layouts, has_field, coords_in, subfields_of, all_subfields}
+use Rattle.s57_fields.specs.Coordinates.{coordinate_in, coordinate_columns, coordinates_in, sg2d_row, sg3d_row}
+use Rattle.s57_fields.specs.Pointers.{fspt_row, pointer_in, pointer_columns, pointers_in}
+use Rattle.s57_records.specs.LayoutReadings.{or_dataset_fault, under, Layouts, has_field, coords_in, subfields_of, all_subfields}
 use Rattle.s57_records.proofs.Changes.{AreWithinLimits, HasKeys, All-nil}
 
 -- ---- steps
 
-pub of_widened : {A : Type 0} (r : Result A FieldFault) (x : A) → widened r ≡ Ok x → r ≡ Ok x
-of_widened (Ok y) x e = let same : ◌≡◌ {A = Result _ DatasetFault} (Ok y) (Ok x) = e in ap (λ z. Ok z) (ok_value y x same)
+pub of_dataset_answer : {A : Type 0} (r : Result A FieldFault) (x : A) → or_dataset_fault r ≡ Ok x → r ≡ Ok x
+of_dataset_answer (Ok y) x e = let same : ◌≡◌ {A = Result _ DatasetFault} (Ok y) (Ok x) = e in ap (λ z. Ok z) (ok_value y x same)
   where
     ok_value : {B : Type 0} (a b : B) → ◌≡◌ {A = Result B DatasetFault} (Ok a) (Ok b) → a ≡ b
     ok_value a b h = cc
-of_widened (Err fault) x e = absurd cc
+of_dataset_answer (Err fault) x e = absurd cc
 
 field_then : {A B : Type 0} {P : Type 0} (r : Result A FieldFault) (f : A → Result B FieldFault) (y : B) → (r >>= f) ≡ Ok y → ((x : A) → r ≡ Ok x → f x ≡ Ok y → P) → P
 field_then (Ok x) f y e go = go x refl e
@@ -184,20 +181,38 @@ attrs_within : (row : AttributeRow) (values : RowValues) (attrs : List Attr) →
 attrs_within row values attrs e =
     list_read (λ attr. IsPlainText attr.value) (attribute_in row) (attribute_columns row) row.groups values attrs (attribute_within row) e
 
-coordinate_within : (row : CoordinateRow) (group : List Value) (coord : Coord) → coordinate_in row group ≡ Some coord → IsCoord coord × IsNone coord.z
-coordinate_within row group coord e =
+abbrev IsFlat : Coord → Type 0
+IsFlat coord = IsNone coord.z
+
+coordinate_within :
+    (layout : Option Layout) (group : List Value) (coord : Coord) →
+    coordinate_in (sg2d_row layout) group ≡ Some coord → IsCoord coord × IsFlat coord
+coordinate_within layout group coord e =
+    let row = sg2d_row layout in
     let y = then_some (value_in (number_within LATITUDE) row.ycoo group) _ coord e in
     let x = then_some (value_in (number_within LONGITUDE) row.xcoo group) _ coord y.2 in
     let latitude = value_read (number_within LATITUDE) row.ycoo group y.0 y.1 in
     let longitude = value_read (number_within LONGITUDE) row.xcoo group x.0 x.1 in
-    subst (λ (found : Coord). IsCoord found × IsNone found.z) (some_is _ coord x.2)
-    (record { longitude = within LONGITUDE longitude.0 x.0 longitude.1; latitude = within LATITUDE latitude.0 y.0 latitude.1; depth = tt }, refl)
+    subst (λ (found : Coord). IsCoord found × IsFlat found) (some_is _ coord x.2) (
+      record {
+        longitude = within LONGITUDE longitude.0 x.0 longitude.1;
+        latitude = within LATITUDE latitude.0 y.0 latitude.1;
+        depth = tt;
+      },
+      refl,
+    )
 
-coordinates_within : (row : CoordinateRow) (values : RowValues) (coords : List Coord) → coordinates_in row values ≡ Ok coords → All IsCoord coords × All (λ coord. IsNone coord.z) coords
-coordinates_within row values coords e = (
-  list_read IsCoord (coordinate_in row) (coordinate_columns row) row.groups values coords (λ group coord found. (coordinate_within row group coord found).0) e,
-  list_read (λ coord. IsNone coord.z) (coordinate_in row) (coordinate_columns row) row.groups values coords (λ group coord found. (coordinate_within row group coord found).1) e,
-)
+coordinates_within :
+    (layout : Option Layout) (values : RowValues) (coords : List Coord) →
+    coordinates_in (sg2d_row layout) values ≡ Ok coords → All IsCoord coords × All IsFlat coords
+coordinates_within layout values coords e =
+    let row = sg2d_row layout in
+    let each = coordinate_within layout in (
+      list_read IsCoord (coordinate_in row) (coordinate_columns row) row.groups values coords
+          (λ group coord found. (each group coord found).0) e,
+      list_read IsFlat (coordinate_in row) (coordinate_columns row) row.groups values coords
+          (λ group coord found. (each group coord found).1) e,
+    )
 
 depth_made : (read : Option ℤ) (z : ℤ) → ((decimetres : ℤ) → read ≡ Some decimetres → IsWithin 999999 decimetres) → option_map (λ decimetres. decimetres *ℤ pos 10) read ≡ Some z → IsDepth z
 depth_made (Some decimetres) z each e =
@@ -209,34 +224,60 @@ depth_is : (value : Value) (z : ℤ) → depth_in value ≡ Some z → IsDepth z
 unfolding depth_in
 depth_is value z e = depth_made (number_within 999999 value) z (within 999999 value) e
 
-sounding_within : (row : SoundingRow) (group : List Value) (coord : Coord) → sounding_in row group ≡ Some coord → IsCoord coord × IsSome coord.z
-sounding_within row group coord e =
+abbrev IsDeep : Coord → Type 0
+IsDeep coord = IsSome coord.z
+
+sounding_within :
+    (layout : Option Layout) (group : List Value) (coord : Coord) →
+    coordinate_in (sg3d_row layout) group ≡ Some coord → IsCoord coord × IsDeep coord
+sounding_within layout group coord e =
+    let row = sg3d_row layout in
+    let ve3d = subfield_of layout (codes "VE3D") in
     let y = then_some (value_in (number_within LATITUDE) row.ycoo group) _ coord e in
     let x = then_some (value_in (number_within LONGITUDE) row.xcoo group) _ coord y.2 in
-    let z = then_some (value_in depth_in row.ve3d group) _ coord x.2 in
+    let z = then_some (value_in depth_in ve3d group) _ coord x.2 in
     let latitude = value_read (number_within LATITUDE) row.ycoo group y.0 y.1 in
     let longitude = value_read (number_within LONGITUDE) row.xcoo group x.0 x.1 in
-    let depth = value_read depth_in row.ve3d group z.0 z.1 in
-    subst (λ (found : Coord). IsCoord found × IsSome found.z) (some_is _ coord z.2)
-    (record { longitude = within LONGITUDE longitude.0 x.0 longitude.1; latitude = within LATITUDE latitude.0 y.0 latitude.1; depth = depth_is depth.0 z.0 depth.1 }, refl)
+    let depth = value_read depth_in ve3d group z.0 z.1 in
+    subst (λ (found : Coord). IsCoord found × IsDeep found) (some_is _ coord z.2) (
+      record {
+        longitude = within LONGITUDE longitude.0 x.0 longitude.1;
+        latitude = within LATITUDE latitude.0 y.0 latitude.1;
+        depth = depth_is depth.0 z.0 depth.1;
+      },
+      refl,
+    )
 
-soundings_within : (row : SoundingRow) (values : RowValues) (coords : List Coord) → soundings_in row values ≡ Ok coords → All IsCoord coords × All (λ coord. IsSome coord.z) coords
-soundings_within row values coords e = (
-  list_read IsCoord (sounding_in row) (sounding_columns row) row.groups values coords (λ group coord found. (sounding_within row group coord found).0) e,
-  list_read (λ coord. IsSome coord.z) (sounding_in row) (sounding_columns row) row.groups values coords (λ group coord found. (sounding_within row group coord found).1) e,
-)
+soundings_within :
+    (layout : Option Layout) (values : RowValues) (coords : List Coord) →
+    coordinates_in (sg3d_row layout) values ≡ Ok coords → All IsCoord coords × All IsDeep coords
+soundings_within layout values coords e =
+    let row = sg3d_row layout in
+    let each = sounding_within layout in (
+      list_read IsCoord (coordinate_in row) (coordinate_columns row) row.groups values coords
+          (λ group coord found. (each group coord found).0) e,
+      list_read IsDeep (coordinate_in row) (coordinate_columns row) row.groups values coords
+          (λ group coord found. (each group coord found).1) e,
+    )
 
-no_topology : (row : FeaturePointerRow) (group : List Value) (pointer : Pointer) → feature_pointer_in row group ≡ Some pointer → pointer.topi ≡ 255
-no_topology row group pointer e =
+no_topology :
+    (layout : Option Layout) (group : List Value) (pointer : Pointer) →
+    pointer_in (fspt_row layout) group ≡ Some pointer → pointer.topi ≡ 255
+no_topology layout group pointer e =
+    let row = fspt_row layout in
     let target = then_some (value_in record_name row.name group) _ pointer e in
     let ornt = then_some (value_in (number_up_to 255) row.ornt group) _ pointer target.2 in
     let usag = then_some (value_in (number_up_to 255) row.usag group) _ pointer ornt.2 in
     let mask = then_some (value_in (number_up_to 255) row.mask group) _ pointer usag.2 in
     ap (λ (found : Pointer). found.topi) (sym (some_is _ pointer mask.2))
 
-topi_within : (row : FeaturePointerRow) (values : RowValues) (pointers : List Pointer) → feature_pointers_in row values ≡ Ok pointers → All (λ pointer. pointer.topi ≡ 255) pointers
-topi_within row values pointers e =
-    list_read (λ pointer. pointer.topi ≡ 255) (feature_pointer_in row) (feature_pointer_columns row) row.groups values pointers (no_topology row) e
+topi_within :
+    (layout : Option Layout) (values : RowValues) (pointers : List Pointer) →
+    pointers_in (fspt_row layout) values ≡ Ok pointers → All (λ pointer. pointer.topi ≡ 255) pointers
+topi_within layout values pointers e =
+    let row = fspt_row layout in
+    list_read (λ pointer. pointer.topi ≡ 255) (pointer_in row) (pointer_columns row) row.groups values pointers
+    (no_topology layout) e
 
 -- ---- a record
 
@@ -263,12 +304,12 @@ coords_absent layouts n fields tag coords absent e =
 
 pub subfields_within : (layouts : Layouts) (n : ℕ) (fields : List RawField) → AreWithinLimits (subfields_of layouts n fields)
 subfields_within layouts n fields = record {
-  attrs = λ tag attrs e. attrs_within (attribute_row (layouts tag)) (fields_in n tag fields) attrs (of_widened _ attrs e);
-  sg2d = λ coords e. coordinates_within (sg2d_row (layouts (codes "SG2D"))) (fields_in n (codes "SG2D") fields) coords (of_widened _ coords e);
-  sg3d = λ coords e. soundings_within (sg3d_row (layouts (codes "SG3D"))) (fields_in n (codes "SG3D") fields) coords (of_widened _ coords e);
-  absent = λ tag coords absent e. coords_absent layouts n fields tag coords absent (of_widened _ coords e);
-  digits = λ tag label number e. let r = once_read nine_digits (fields_in n tag fields) (subfield_of (layouts tag) label) number (of_widened _ number e) in digits_are_small r.0 number r.1;
-  topi = λ pointers e. topi_within (fspt_row (layouts (codes "FSPT"))) (fields_in n (codes "FSPT") fields) pointers (of_widened _ pointers e);
+  attrs = λ tag attrs e. attrs_within (attribute_row (layouts tag)) (fields_in n tag fields) attrs (of_dataset_answer _ attrs e);
+  sg2d = λ coords e. coordinates_within (layouts (codes "SG2D")) (fields_in n (codes "SG2D") fields) coords (of_dataset_answer _ coords e);
+  sg3d = λ coords e. soundings_within (layouts (codes "SG3D")) (fields_in n (codes "SG3D") fields) coords (of_dataset_answer _ coords e);
+  absent = λ tag coords absent e. coords_absent layouts n fields tag coords absent (of_dataset_answer _ coords e);
+  digits = λ tag label number e. let r = once_read nine_digits (fields_in n tag fields) (subfield_of (layouts tag) label) number (of_dataset_answer _ number e) in digits_are_small r.0 number r.1;
+  topi = λ pointers e. topi_within (layouts (codes "FSPT")) (fields_in n (codes "FSPT") fields) pointers (of_dataset_answer _ pointers e);
 }
 
 pub all_within : (layouts : Layouts) (n : ℕ) (records : List (List RawField)) → AllByRecursion AreWithinLimits (all_subfields layouts n records)
@@ -277,9 +318,11 @@ all_within layouts n (fields ∷ records) = (subfields_within layouts n fields, 
 
 -- ---- keys
 
-of_mapped : {A B : Type 0} (f : A → B) (r : Result A DatasetFault) (y : B) → mapped f r ≡ Ok y → (x : A) × (r ≡ Ok x) × (f x ≡ y)
-of_mapped f (Ok x) y e = (x, refl, cc)
-of_mapped f (Err fault) y e = absurd cc
+of_name :
+    {A B : Type 0} (f : A → B) (r : Result A DatasetFault) (y : B) → (r >>= λ x. Ok (f x)) ≡ Ok y →
+    (x : A) × (r ≡ Ok x) × (f x ≡ y)
+of_name f (Ok x) y e = (x, refl, cc)
+of_name f (Err fault) y e = absurd cc
 
 named : (value : Value) (name : List ℕ) → data_set_name value ≡ Some name → is_key (key_in name) ≡ true
 unfolding data_set_name
@@ -293,8 +336,8 @@ named (Bits bits) name e = absurd cc
 
 keyed : ((bytes : List ℕ) → (is_key bytes ≡ true) ↔ IsKey bytes) → (layouts : Layouts) (n : ℕ) (fields : List RawField) → HasKeys (subfields_of layouts n fields)
 keyed tests layouts n fields tag label key e =
-    let name = of_mapped key_in (under data_set_name layouts n fields tag label) key e in
-    let value = once_read data_set_name (fields_in n tag fields) (subfield_of (layouts tag) label) name.0 (of_widened _ name.0 name.1) in
+    let name = of_name key_in (under data_set_name layouts n fields tag label) key e in
+    let value = once_read data_set_name (fields_in n tag fields) (subfield_of (layouts tag) label) name.0 (of_dataset_answer _ name.0 name.1) in
     subst IsKey name.2 ((tests (key_in name.0)).0 (named value.0 name.0 value.1))
 
 pub all_keyed : ((bytes : List ℕ) → (is_key bytes ≡ true) ↔ IsKey bytes) → (layouts : Layouts) (n : ℕ) (records : List (List RawField)) → AllByRecursion HasKeys (all_subfields layouts n records)

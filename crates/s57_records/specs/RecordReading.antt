@@ -4,5 +4,5 @@ use Rattle.s57_records.specs.declared.reader.DataRecord.{DataRecord}
 use Rattle.s57_records.specs.Subfields.{Subfields}
 use Rattle.s57_records.specs.LayoutReadings.{subfields_of}
 
-abbrev pub reading : DataRecord → Subfields
-reading r = subfields_of (layout_at r.rows.now) r.number r.fields.now
+abbrev pub subfields_in : DataRecord → Subfields
+subfields_in r = subfields_of (layout_at r.rows.now) r.number r.fields.now

@@ -10,13 +10,10 @@ use Rattle.s57_fields.specs.Vrid.{vrid_row}
 use Rattle.s57_fields.specs.Frid.{frid_row}
 use Rattle.s57_fields.specs.Foid.{foid_row}
 use Rattle.s57_fields.specs.Attributes.{attribute_row}
-use Rattle.s57_fields.specs.Control.{vrpc_row, sgcc_row}
-use Rattle.s57_fields.specs.Vrpt.{vrpt_row}
-use Rattle.s57_fields.specs.Sg2d.{sg2d_row}
-use Rattle.s57_fields.specs.Sg3d.{sg3d_row}
-use Rattle.s57_fields.specs.Control.{ffpc_row, fspc_row}
+use Rattle.s57_fields.specs.Control.{vrpc_row, sgcc_row, ffpc_row, fspc_row}
+use Rattle.s57_fields.specs.Coordinates.{sg2d_row, sg3d_row}
 use Rattle.s57_fields.specs.Ffpt.{ffpt_row}
-use Rattle.s57_fields.specs.Fspt.{fspt_row}
+use Rattle.s57_fields.specs.Pointers.{fspt_row, vrpt_row}
 use Rattle.s57_subfields.specs.Places.{subfield_of}
 use Rattle.s57_fields.specs.declared.control.ControlRow.{ControlRow}
 use Rattle.s57_records.specs.declared.rows.GeneralRows.{GeneralRows}

@@ -1,9 +1,11 @@
 //! What a record's identifier and its control fields say.
+//!
+//! Vector records and features begin alike, and each control field has the same three numbers.
 
 ghost use Rattle.std.specs.Prelude.{◌≡◌};
 ghost use Rattle.s57_records.specs.Answers.{Gives};
 ghost use Rattle.s57_records.specs.Rows.{ruin_of, edit_of, vector_head, feature_head, checked_prim, foid_of};
-ghost use Rattle.s57_records.specs.RecordReading.{reading};
+ghost use Rattle.s57_records.specs.RecordReading.{subfields_in};
 ghost use Rattle.s57_records.specs.Resolved.{IsFound};
 ghost use Rattle.s57_subfields.specs.Places.{subfield_of};
 ghost use Rattle.iso8211_records.specs.Kinds.{layout_at};
@@ -56,7 +58,7 @@ fn read_ruin(
     instruction: &Single<OneByte>,
 ) -> Result<u8, DatasetFault>
     requires { instruction.now.subfield ≡ subfield_of (layout_at fields.now.rows.now tag) RUIN }
-    ensures { Gives result (ruin_of base fields.now.number (reading fields.now) tag) }
+    ensures { Gives result (ruin_of base fields.now.number (subfields_in fields.now) tag) }
 {
     if base {
         return Ok(INSERT);
@@ -82,7 +84,7 @@ pub(crate) fn read_edit(
 ) -> Result<Option<Control>, DatasetFault>
     requires { IsFound (layout_at fields.now.rows.now control.now.tag) control.now.row }
     ensures { let row = control.now.row in
-        Gives result (edit_of base ruin fields.now.number (reading fields.now) control.now.tag
+        Gives result (edit_of base ruin fields.now.number (subfields_in fields.now) control.now.tag
         row.instruction.subfield.label row.index.subfield.label row.count.subfield.label) }
 {
     if base || ruin != MODIFY || !fields.has(control.tag) {
@@ -114,7 +116,7 @@ pub(crate) fn read_vector_head(
     fields: &DataRecord<'_>,
     base: bool,
 ) -> Result<VectorHead, DatasetFault>
-    ensures { Gives result (vector_head base fields.now.number (reading fields.now)) }
+    ensures { Gives result (vector_head base fields.now.number (subfields_in fields.now)) }
 {
     let row = &fields.rows.vector().vrid;
     let values = fields.values(VRID);
@@ -139,7 +141,7 @@ fn check_prim(
     base: bool,
     prim: u8,
 ) -> Result<(), DatasetFault>
-    ensures { Gives result (checked_prim base fields.now.number (reading fields.now) prim) }
+    ensures { Gives result (checked_prim base fields.now.number (subfields_in fields.now) prim) }
 {
     if (prim >= POINT && prim <= AREA) || prim == NO_PRIMITIVE {
         return Ok(());
@@ -161,7 +163,7 @@ pub(crate) fn read_feature_head(
     fields: &DataRecord<'_>,
     base: bool,
 ) -> Result<FeatureHead, DatasetFault>
-    ensures { Gives result (feature_head base fields.now.number (reading fields.now)) }
+    ensures { Gives result (feature_head base fields.now.number (subfields_in fields.now)) }
 {
     let row = &fields.rows.feature().frid;
     let values = fields.values(FRID);
@@ -193,7 +195,7 @@ pub(crate) fn read_foid(
     fields: &DataRecord<'_>,
     ruin: u8,
 ) -> Result<Option<Foid>, DatasetFault>
-    ensures { Gives result (foid_of ruin fields.now.number (reading fields.now)) }
+    ensures { Gives result (foid_of ruin fields.now.number (subfields_in fields.now)) }
 {
     if fields.has(FOID) {
         let foid = fields.foid(alloc)?;

@@ -1,4 +1,7 @@
 //! The data set of a file.
+//!
+//! Records are read one by one, and the first fault ends it; an update that cancels its cell is read no further than
+//! its first record.
 
 ghost use Rattle.std.specs.Prelude.{◌≡◌, Ok};
 ghost use Rattle.chart_model.specs.Key.{IsKey};
@@ -7,7 +10,7 @@ ghost use Rattle.s57_records.specs.Answers.{Gives};
 ghost use Rattle.s57_records.specs.Dataset.{kind_of, header_with, cancels, dataset_of};
 ghost use Rattle.s57_records.specs.Gathering.{gathered_with, gather, nothing_gathered, needed_scale, dataset_gathered};
 ghost use Rattle.s57_records.specs.Rows.{general_of};
-ghost use Rattle.s57_records.specs.RecordReading.{reading};
+ghost use Rattle.s57_records.specs.RecordReading.{subfields_in};
 ghost use Rattle.s57_records.specs.LayoutReadings.{all_subfields};
 
 use crate::fault::DatasetFault;
@@ -37,7 +40,7 @@ fn gather_with(
     base: bool,
     gathered: Gathered,
 ) -> Result<Gathered, DatasetFault>
-    ensures { let read = reading fields.now in
+    ensures { let read = subfields_in fields.now in
         Gives result (gathered_with base fields.now.number read (kind_of read) gathered) }
 {
     if fields.has(DSID) {
@@ -132,9 +135,9 @@ fn read_after<'a>(
     first: &DataRecord<'a>,
     rest: &'a [RawRecord],
 ) -> Result<Dataset, DatasetFault>
-    requires read { general_of (reading first.now) ≡ Ok general.now }
+    requires read { general_of (subfields_in first.now) ≡ Ok general.now }
     requires key { IsKey general.now.key }
-    ensures { Gives result (dataset_gathered general.now (reading first.now)
+    ensures { Gives result (dataset_gathered general.now (subfields_in first.now)
         (all_subfields (layout_at first.now.rows.now) 2 rest.now)) }
 {
     if is_cancelling(general) {

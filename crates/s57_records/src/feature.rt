@@ -1,8 +1,10 @@
 //! The change that a feature stands for.
+//!
+//! Its fields are read in the order of the standard's table, which decides which fault is the first.
 
 ghost use Rattle.s57_records.specs.Answers.{Gives};
 ghost use Rattle.s57_records.specs.Rows.{feature_of};
-ghost use Rattle.s57_records.specs.RecordReading.{reading};
+ghost use Rattle.s57_records.specs.RecordReading.{subfields_in};
 
 use crate::change::{ControlField, read_edit, read_feature_head, read_foid};
 use crate::fault::DatasetFault;
@@ -18,7 +20,7 @@ pub(crate) fn read_feature(
     fields: &DataRecord<'_>,
     base: bool,
 ) -> Result<UpdateRecord, DatasetFault>
-    ensures { Gives result (feature_of base fields.now.number (reading fields.now)) }
+    ensures { Gives result (feature_of base fields.now.number (subfields_in fields.now)) }
 {
     let rows = fields.rows.feature();
     let head = read_feature_head(alloc, fields, base)?;

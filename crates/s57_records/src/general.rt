@@ -1,11 +1,13 @@
 //! The general information of a data set.
+//!
+//! It comes first, since it says how the other records are read: those of a base file insert.
 
 ghost use Rattle.std.specs.Prelude.{◌≡◌, IfOk};
 ghost use Rattle.chart_model.specs.Key.{IsKey};
 ghost use Rattle.s57_subfields.specs.Texts.{key_in};
 ghost use Rattle.s57_records.specs.Answers.{Gives};
 ghost use Rattle.s57_records.specs.Rows.{checked_edition, general_of, checked_structure, scale_of};
-ghost use Rattle.s57_records.specs.RecordReading.{reading};
+ghost use Rattle.s57_records.specs.RecordReading.{subfields_in};
 
 use crate::fault::DatasetFault;
 use crate::reader::{DataRecord, reads_as};
@@ -39,7 +41,7 @@ fn key_of(name: &Octets) -> Key
 
 /// Refuses an edition of 0 in a base file.
 fn check_edition(alloc: Global, fields: &DataRecord<'_>, edition: u32) -> Result<(), DatasetFault>
-    ensures { Gives result (checked_edition (reading fields.now) edition) }
+    ensures { Gives result (checked_edition (subfields_in fields.now) edition) }
 {
     if edition != 0 {
         return Ok(());
@@ -54,7 +56,7 @@ fn check_edition(alloc: Global, fields: &DataRecord<'_>, edition: u32) -> Result
 /// The general information: PROF is 1 for a base file, whose edition isn't 0, and 2 for an update.
 #[tactic(auto, unfolding(crate::specs::Rows::general_of))]
 pub(crate) fn read_general(alloc: Global, fields: &DataRecord<'_>) -> Result<General, DatasetFault>
-    ensures found { Gives result (general_of (reading fields.now)) }
+    ensures found { Gives result (general_of (subfields_in fields.now)) }
     ensures key { IfOk result (λ general. IsKey general.key) }
 {
     let row = &fields.rows.general().dsid;
@@ -83,7 +85,7 @@ pub(crate) fn read_general(alloc: Global, fields: &DataRecord<'_>) -> Result<Gen
 /// Tests AALL of DSSI, where it is there: it is 0 or 1.
 #[tactic(auto, unfolding(crate::specs::Rows::checked_structure))]
 pub(crate) fn check_structure(alloc: Global, fields: &DataRecord<'_>) -> Result<(), DatasetFault>
-    ensures { Gives result (checked_structure (reading fields.now)) }
+    ensures { Gives result (checked_structure (subfields_in fields.now)) }
 {
     if !fields.has(DSSI) {
         return Ok(());
@@ -100,7 +102,7 @@ pub(crate) fn check_structure(alloc: Global, fields: &DataRecord<'_>) -> Result<
 /// degrees times 10,000,000, and soundings in decimetres.
 #[tactic(auto, unfolding(crate::specs::Rows::scale_of))]
 pub(crate) fn read_scale(alloc: Global, fields: &DataRecord<'_>) -> Result<u32, DatasetFault>
-    ensures { Gives result (scale_of (reading fields.now)) }
+    ensures { Gives result (scale_of (subfields_in fields.now)) }
 {
     let row = &fields.rows.general().dspm;
     let values = fields.values(DSPM);

@@ -1,4 +1,6 @@
 //! Laws of the definitions.
+//!
+//! They hold of what records say, whatever reads them.
 
 ghost use Rattle.std.specs.Prelude.{◌≡◌, ℕ, Bool, true, false, List, All, Ok};
 ghost use Rattle.chart_model.specs.Change.{Change, IsChange};

@@ -5,7 +5,7 @@ ghost use Rattle.s57_subfields.specs.Columns.{once_in};
 ghost use Rattle.s57_subfields.specs.Number.{number_up_to, ONE_BYTE};
 ghost use Rattle.s57_subfields.specs.RowValues.{fields_in};
 ghost use Rattle.s57_records.specs.Answers.{Gives};
-ghost use Rattle.s57_records.specs.LayoutReadings.{widened, has_field};
+ghost use Rattle.s57_records.specs.LayoutReadings.{or_dataset_fault, has_field};
 ghost use Rattle.s57_records.specs.Rows.{reads_as, unless_deleted};
 
 use crate::fault::DatasetFault;
@@ -34,7 +34,7 @@ pub(crate) fn reads_as(
     number: u8,
 ) -> Result<bool, DatasetFault>
     ensures { MatchResult result
-        (λ is. is ≡ reads_as (widened (once_in (number_up_to ONE_BYTE) values.now single.now.subfield)) number)
+        (λ is. is ≡ reads_as (or_dataset_fault (once_in (number_up_to ONE_BYTE) values.now single.now.subfield)) number)
         (λ fault. fault ≡ DatasetFault.NoMemory) }
 {
     match single.read(alloc, values) {
@@ -64,7 +64,7 @@ macro_rules! read_list {
 }
 
 impl<'a> DataRecord<'a> {
-    ghost use Rattle.s57_records.specs.RecordReading.{reading};
+    ghost use Rattle.s57_records.specs.RecordReading.{subfields_in};
 
     /// Whether the record has a field of this tag.
     pub fn has(&self, tag: [u8; 4]) -> bool
@@ -82,49 +82,49 @@ impl<'a> DataRecord<'a> {
 
     /// The attributes in ATTV. None where the record deletes.
     pub fn vector_attrs(&self, alloc: Global, ruin: u8) -> Result<AttrList, DatasetFault>
-        ensures { Gives result (unless_deleted ruin ((reading self.now).attrs (codes "ATTV"))) }
+        ensures { Gives result (unless_deleted ruin ((subfields_in self.now).attrs (codes "ATTV"))) }
     {
         read_list!(self, alloc, ruin, self.rows.vector().attv, ATTV, AttrList)
     }
 
     /// The attributes in ATTF. None where the record deletes.
     pub fn feature_attrs(&self, alloc: Global, ruin: u8) -> Result<AttrList, DatasetFault>
-        ensures { Gives result (unless_deleted ruin ((reading self.now).attrs (codes "ATTF"))) }
+        ensures { Gives result (unless_deleted ruin ((subfields_in self.now).attrs (codes "ATTF"))) }
     {
         read_list!(self, alloc, ruin, self.rows.feature().attf, ATTF, AttrList)
     }
 
     /// The pointers in VRPT. None where the record deletes.
     pub fn vector_pointers(&self, alloc: Global, ruin: u8) -> Result<Pointers, DatasetFault>
-        ensures { Gives result (unless_deleted ruin ((reading self.now).pointers (codes "VRPT"))) }
+        ensures { Gives result (unless_deleted ruin ((subfields_in self.now).pointers (codes "VRPT"))) }
     {
         read_list!(self, alloc, ruin, self.rows.vector().vrpt, VRPT, Pointers)
     }
 
     /// The pointers in FSPT. None where the record deletes.
     pub fn feature_pointers(&self, alloc: Global, ruin: u8) -> Result<Pointers, DatasetFault>
-        ensures { Gives result (unless_deleted ruin ((reading self.now).pointers (codes "FSPT"))) }
+        ensures { Gives result (unless_deleted ruin ((subfields_in self.now).pointers (codes "FSPT"))) }
     {
         read_list!(self, alloc, ruin, self.rows.feature().fspt, FSPT, Pointers)
     }
 
     /// The coordinates in SG2D. None where the record deletes.
     pub fn coordinates(&self, alloc: Global, ruin: u8) -> Result<Coords, DatasetFault>
-        ensures { Gives result (unless_deleted ruin ((reading self.now).coords (codes "SG2D"))) }
+        ensures { Gives result (unless_deleted ruin ((subfields_in self.now).coords (codes "SG2D"))) }
     {
         read_list!(self, alloc, ruin, self.rows.vector().sg2d, SG2D, Coords)
     }
 
     /// The soundings in SG3D. None where the record deletes.
     pub fn soundings(&self, alloc: Global, ruin: u8) -> Result<Coords, DatasetFault>
-        ensures { Gives result (unless_deleted ruin ((reading self.now).coords (codes "SG3D"))) }
+        ensures { Gives result (unless_deleted ruin ((subfields_in self.now).coords (codes "SG3D"))) }
     {
         read_list!(self, alloc, ruin, self.rows.vector().sg3d, SG3D, Coords)
     }
 
     /// The related objects in FFPT. None where the record deletes.
     pub fn related(&self, alloc: Global, ruin: u8) -> Result<RelatedList, DatasetFault>
-        ensures { Gives result (unless_deleted ruin ((reading self.now).related (codes "FFPT"))) }
+        ensures { Gives result (unless_deleted ruin ((subfields_in self.now).related (codes "FFPT"))) }
     {
         read_list!(
             self,
@@ -138,7 +138,7 @@ impl<'a> DataRecord<'a> {
 
     /// The identifier in FOID.
     pub fn foid(&self, alloc: Global) -> Result<Foid, DatasetFault>
-        ensures { Gives result ((reading self.now).foid) }
+        ensures { Gives result ((subfields_in self.now).foid) }
     {
         let row = &self.rows.feature().foid;
         let read = row.read(alloc, &self.values(FOID))?;

@@ -5,8 +5,8 @@ ghost use Rattle.s57_records.specs.Resolved.{general_rows, vector_rows, feature_
 
 use iso8211_records::DescriptorMap;
 use s57_fields::{
-    AttributeRow, ControlRow, CoordinateRow, DsidRow, DspmRow, DssiRow, FeaturePointerRow, FoidRow,
-    FridRow, RelatedRow, SoundingRow, VectorPointerRow, VridRow,
+    AttributeRow, ControlRow, CoordinateRow, DsidRow, DspmRow, DssiRow, FoidRow, FridRow,
+    PointerRow, RelatedRow, VridRow,
 };
 use s57_subfields::tags::{
     ATTF, ATTV, DSID, DSPM, DSSI, FFPC, FFPT, FOID, FRID, FSPC, FSPT, SG2D, SG3D, SGCC, VRID, VRPC,
@@ -28,10 +28,10 @@ pub(crate) struct VectorRows {
     pub vrid: VridRow,
     pub attv: AttributeRow,
     pub vrpc: ControlRow,
-    pub vrpt: VectorPointerRow,
+    pub vrpt: PointerRow,
     pub sgcc: ControlRow,
     pub sg2d: CoordinateRow,
-    pub sg3d: SoundingRow,
+    pub sg3d: CoordinateRow,
 }
 
 /// The rows of a feature.
@@ -43,7 +43,7 @@ pub(crate) struct FeatureRows {
     pub ffpc: ControlRow,
     pub ffpt: RelatedRow,
     pub fspc: ControlRow,
-    pub fspt: FeaturePointerRow,
+    pub fspt: PointerRow,
 }
 
 /// The rows of a file: each subfield's place, found once for all of the file's records.
@@ -90,10 +90,10 @@ fn find_vector(descriptors: &DescriptorMap) -> VectorRows
         vrid: VridRow::find(descriptors.get(&VRID)),
         attv: AttributeRow::find(descriptors.get(&ATTV)),
         vrpc: ControlRow::find_vrpc(descriptors.get(&VRPC)),
-        vrpt: VectorPointerRow::find(descriptors.get(&VRPT)),
+        vrpt: PointerRow::find_vrpt(descriptors.get(&VRPT)),
         sgcc: ControlRow::find_sgcc(descriptors.get(&SGCC)),
-        sg2d: CoordinateRow::find(descriptors.get(&SG2D)),
-        sg3d: SoundingRow::find(descriptors.get(&SG3D)),
+        sg2d: CoordinateRow::find_sg2d(descriptors.get(&SG2D)),
+        sg3d: CoordinateRow::find_sg3d(descriptors.get(&SG3D)),
     }
 }
 
@@ -108,7 +108,7 @@ fn find_feature(descriptors: &DescriptorMap) -> FeatureRows
         ffpc: ControlRow::find_ffpc(descriptors.get(&FFPC)),
         ffpt: RelatedRow::find(descriptors.get(&FFPT)),
         fspc: ControlRow::find_fspc(descriptors.get(&FSPC)),
-        fspt: FeaturePointerRow::find(descriptors.get(&FSPT)),
+        fspt: PointerRow::find_fspt(descriptors.get(&FSPT)),
     }
 }
 

@@ -1,8 +1,10 @@
 //! The change that a vector record stands for.
+//!
+//! Its fields are read in the order of the standard's table, which decides which fault is the first.
 
 ghost use Rattle.s57_records.specs.Answers.{Gives};
 ghost use Rattle.s57_records.specs.Rows.{coords_of, vector_of};
-ghost use Rattle.s57_records.specs.RecordReading.{reading};
+ghost use Rattle.s57_records.specs.RecordReading.{subfields_in};
 
 use crate::change::{ControlField, read_edit, read_vector_head};
 use crate::fault::DatasetFault;
@@ -17,7 +19,7 @@ const ARCC: [u8; 4] = *b"ARCC";
 /// The coordinates, from SG2D or SG3D, of which a record has one at most.
 #[tactic(auto, unfolding(crate::specs::Rows::coords_of))]
 fn read_coords(alloc: Global, fields: &DataRecord<'_>, ruin: u8) -> Result<Coords, DatasetFault>
-    ensures { Gives result (coords_of ruin (reading fields.now)) }
+    ensures { Gives result (coords_of ruin (subfields_in fields.now)) }
 {
     let coordinates = fields.coordinates(alloc, ruin)?;
     if fields.has(SG2D) && fields.has(SG3D) {
@@ -39,7 +41,7 @@ pub(crate) fn read_vector(
     fields: &DataRecord<'_>,
     base: bool,
 ) -> Result<UpdateRecord, DatasetFault>
-    ensures { Gives result (vector_of base fields.now.number (reading fields.now)) }
+    ensures { Gives result (vector_of base fields.now.number (subfields_in fields.now)) }
 {
     let rows = fields.rows.vector();
     let head = read_vector_head(alloc, fields, base)?;

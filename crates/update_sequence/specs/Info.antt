@@ -11,7 +11,7 @@ use Rattle.s57_fields.specs.Files.{record_at}
 use Rattle.s57_fields.specs.Dsid.{dsid_at}
 use Rattle.s57_subfields.specs.Texts.{key_in}
 use Rattle.s57_fields.specs.declared.dsid.Dsid.{Dsid}
-use Rattle.s57_records.specs.LayoutReadings.{widened}
+use Rattle.s57_records.specs.LayoutReadings.{or_dataset_fault}
 use Rattle.s57_records.specs.declared.fault.DatasetFault.{DatasetFault}
 use Rattle.s57_records.specs.declared.fault.DatasetFault.TheVariants.{NoGeneral}
 use Rattle.update_sequence.specs.Reading.{fault_of_file, fault_of_records}
@@ -28,7 +28,7 @@ names_itself file = has_dsid (record_at file 1)
 
 -- the DSID field of the first data record
 abbrev pub dsid_of : FileValue → Result Dsid DatasetFault
-dsid_of file = if names_itself file then widened (dsid_at file 1) else Err NoGeneral
+dsid_of file = if names_itself file then or_dataset_fault (dsid_at file 1) else Err NoGeneral
 
 -- what a file of so many data records says of itself
 abbrev pub info_of : Dsid → ℕ → FileInfo
