@@ -19,12 +19,12 @@ shades_by Four settings depths =
     ∷ (is_deeper settings.deep depths, codes "DEPDW")
     ∷ []
 
--- a colour in the place of another, where the condition holds
-abbrev pub replaced : List ℕ → Bool × List ℕ → List ℕ
-replaced colour shade = if shade.0 then shade.1 else colour
+-- the colour of a shade in the place of another, where its condition holds
+abbrev pub colour_after : List ℕ → Bool × List ℕ → List ℕ
+colour_after colour shade = if shade.0 then shade.1 else colour
 
--- that of what dries, which each condition that holds replaces, one after the other
+-- that of what dries, in whose place each condition that holds puts its own, one after the other
 abbrev pub colour_of : Settings → Depths → List ℕ
 colour_of settings depths =
-    fold replaced (codes "DEPIT")
+    fold colour_after (codes "DEPIT")
     ((is_deeper (pos 0) depths, codes "DEPVS") ∷ shades_by settings.shades settings depths)

@@ -1,4 +1,6 @@
 //! The colour of a depth area.
+//!
+//! The colours step by the contours that the mariner has set, from what dries to what is deep.
 
 ghost use Rattle.std.specs.Prelude.{◌≡◌, pos};
 ghost use Rattle.depth_symbology.specs.Text.{colour_text};

@@ -1,4 +1,6 @@
 //! The procedure for depth contours.
+//!
+//! A contour that is charted is drawn as what its value makes it; the one between two areas is drawn by `depth_area`.
 
 ghost use Rattle.std.specs.Prelude.{◌≡◌, ◌++◌, OnOk, IfOk};
 ghost use Rattle.depth_symbology.specs.Contours.{is_safety_contour, contour_text, contour_on, depcnt02_of, depcnt02_at};

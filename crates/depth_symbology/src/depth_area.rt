@@ -1,4 +1,7 @@
 //! The procedure for depth areas.
+//!
+//! A chart needn't have a contour at the mariner's safety contour. So that is also drawn where a safe area meets an
+//! unsafe one.
 
 ghost use Rattle.std.specs.Prelude.{◌≡◌, ◌++◌, OnOk, IfOk};
 ghost use Rattle.std.specs.List.{list_any};

@@ -1,4 +1,6 @@
 //! The procedure for soundings.
+//!
+//! One feature has many soundings, each with a place of its own, so its digits are items at places.
 
 ghost use Rattle.std.specs.Prelude.{◌≡◌, ◌++◌, All, OnOk, IfOk};
 ghost use Rattle.chart_model.specs.Record.{IsCoord};

@@ -1,4 +1,6 @@
 //! Lines along edges.
+//!
+//! Their instructions are whole texts for each style, so that no text is put together at a drawing.
 
 ghost use Rattle.std.specs.Prelude.{◌≡◌, codes};
 ghost use Rattle.draw_items.specs.Style.{style_of};
