@@ -8,6 +8,7 @@ use chart_model::Key;
 use iso8211_records::FileFault;
 use s57_records::DatasetFault;
 use std::alloc::AllocError;
+use thiserror::Error;
 use update_apply::ChangeFault;
 
 /// Why bytes are no cell file.
@@ -50,11 +51,13 @@ impl From<DatasetFault> for ReadFault {
 }
 
 /// Why a file may not follow what is held of its cell (S-57 Appendix B.1, 5.7 and 8.3.1).
-#[derive(Clone, Copy, Debug, PartialEq, Eq)]
+#[derive(Clone, Copy, Debug, PartialEq, Eq, Error)]
 pub enum SequenceFault {
     /// An update of a cell that isn't held.
+    #[error("cell {} is not held, and an update needs its base file", .0.as_slice().escape_ascii())]
     NoBase(Key),
     /// A base file whose edition and update come before the held ones.
+    #[error("edition {edition}, update {update} comes before the held edition {held_edition}, update {held_update}")]
     StaleBase {
         held_edition: u32,
         held_update: u32,
@@ -62,27 +65,33 @@ pub enum SequenceFault {
         update: u32,
     },
     /// An update of another edition than the held one.
+    #[error("an update of edition {given} does not follow edition {held}")]
     Edition {
         held: u32,
         given: u32,
     },
     /// An update whose number isn't the held one plus 1.
+    #[error("update {given} does not follow: the next is update {wanted}")]
     Gap {
         wanted: u64,
         given: u32,
     },
     /// An update of a cell that is cancelled.
+    #[error("cell {} is cancelled, and no update follows", .0.as_slice().escape_ascii())]
     Cancelled(Key),
 }
 
 /// Why a data set builds no chart.
-#[derive(Clone, Copy, Debug, PartialEq, Eq)]
+#[derive(Clone, Copy, Debug, PartialEq, Eq, Error)]
 pub enum BuildFault {
     /// The first change that can't be made.
+    #[error(transparent)]
     Change(ChangeFault),
     /// The chart that the changes leave isn't closed.
+    #[error(transparent)]
     Closure(ClosureFault),
     /// There was no memory for the chart, or its changes would move more than 268,435,456 items of lists.
+    #[error("there was no memory for the chart, or its changes move too many items of lists")]
     NoMemory,
 }
 
