@@ -1,5 +1,6 @@
-//! Why a change was not made, in words.
+//! Why a change was not made, and why a chart isn't closed, in words.
 
+use chart_closure::ClosureFault;
 use chart_model::{Foid, Name};
 use sample_rows::name;
 use std::test::Fail;
@@ -71,6 +72,35 @@ static SENTENCES: [(ChangeFault, &'static str); 9] = [
 #[test]
 fn faults_are_told_in_words(rt: HostRuntime) -> Result<(), Fail> {
     for (fault, sentence) in &SENTENCES {
+        let told = format!(in rt.alloc(); "{fault}")?;
+        assert_eq!(rt; told.as_str(), *sentence);
+    }
+    Ok(())
+}
+
+/// Each fault of closure with its sentence.
+static CLOSURE_SENTENCES: [(ClosureFault, &'static str); 4] = [
+    (
+        ClosureFault::Dangling(NAME, name!(120, 5)),
+        "record 130/7 points to record 120/5, which the chart lacks",
+    ),
+    (
+        ClosureFault::EdgeNodes(NAME),
+        "edge 130/7 has no begin node and end node with a place",
+    ),
+    (
+        ClosureFault::RingOpen(name!(100, 9)),
+        "area 100/9: its edges make no rings",
+    ),
+    (
+        ClosureFault::WrongPointer(NAME),
+        "record 130/7 points to a record of a kind that it may not point to",
+    ),
+];
+
+#[test]
+fn faults_of_closure_are_told_in_words(rt: HostRuntime) -> Result<(), Fail> {
+    for (fault, sentence) in &CLOSURE_SENTENCES {
         let told = format!(in rt.alloc(); "{fault}")?;
         assert_eq!(rt; told.as_str(), *sentence);
     }

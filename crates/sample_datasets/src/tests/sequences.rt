@@ -4,3 +4,4 @@ mod charts;
 mod files;
 mod judged;
 mod lists;
+mod words;
