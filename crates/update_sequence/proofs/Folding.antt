@@ -3,7 +3,8 @@ use Rattle.std.proofs.Common.{◌≡◌, ℕ, ◌+◌, ◌<◌, List, [], ◌∷
 use Rattle.std.specs.Option.{option_map}
 use Rattle.chart_model.specs.Cell.{CellValue}
 use Rattle.chart_model.specs.Change.{Change}
-use Rattle.update_apply.specs.Fault.{fault_of, told}
+use Rattle.update_apply.specs.Fault.{fault_of, held_under, told}
+use Rattle.update_apply.specs.Moves.{cost_of}
 use Rattle.update_apply.specs.Changed.{cell_after}
 use Rattle.update_apply.specs.declared.fault.ChangeFault.{ChangeFault}
 use Rattle.update_apply.specs.declared.fault.ChangeFault.TheVariants as of_change
@@ -12,6 +13,7 @@ use Rattle.update_sequence.specs.declared.fault.BuildFault.TheVariants as of_bui
 use Rattle.update_sequence.specs.Answers.{GivesBuilt, fault_of_change}
 use Rattle.chart_model.specs.Answers.{unless, ◌>>=◌}
 use Rattle.update_sequence.specs.Built.{folded, folded_after}
+use Rattle.update_sequence.specs.Moves.{MOST_MOVES, moves_of}
 use Rattle.update_sequence.proofs.Places.{from_place}
 
 -- what a change and those after it make, by the fault of the change
@@ -73,3 +75,19 @@ pub folded-refused : (cell : CellValue) (changes : List Change) (i : ℕ) (chang
     told (Err fault) ≡ fault_of cell change → GivesBuilt {X = CellValue} (Err (fault_of_change fault)) (folded cell (drop i changes))
 folded-refused cell changes i change fault h e found =
     rw (from_place changes i change h e) (rw (folded-cons cell change (drop (i + 1) changes)) (refused_first fault (fault_of cell change) cell change (drop (i + 1) changes) found))
+
+-- ---- moves
+
+-- what all changes may move is what those from a place on may move and what is spent, and so at the next place
+pub moves_of-made : (cell after : CellValue) (changes : List Change) (i left next total : ℕ) (change : Change)
+    → i < length changes → change ≡ get_or changes i change → after ≡ cell_after cell change
+    → left ≡ next + cost_of (held_under cell change.target) change
+    → total + left ≡ moves_of cell (drop i changes) + MOST_MOVES
+    → total + next ≡ moves_of after (drop (i + 1) changes) + MOST_MOVES
+moves_of-made cell after changes i left next total change h e made spent before =
+    let cost : ℕ = cost_of (held_under cell change.target) change in
+    let here : moves_of cell (drop i changes) ≡ cost + moves_of (cell_after cell change) (drop (i + 1) changes) =
+    ap (moves_of cell) (from_place changes i change h e) in
+    let there : moves_of after (drop (i + 1) changes) ≡ moves_of (cell_after cell change) (drop (i + 1) changes) =
+    ap (λ (x : CellValue). moves_of x (drop (i + 1) changes)) made in
+    omega (arith, here, there, spent, before)

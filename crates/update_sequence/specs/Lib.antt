@@ -3,6 +3,7 @@ pub mod Reading
 pub mod Info
 pub mod Judged
 pub mod Built
+pub mod Moves
 pub mod Rebuilt
 pub mod Sequence
 pub mod Extended

@@ -1,6 +1,9 @@
 //! The chart that a data set builds.
+//!
+//! Changes that are given away become records, and are not copied; those of an update are lent,
+//! since the names that it changes are asked for later.
 
-ghost use Rattle.std.specs.Prelude.{◌≡◌, ◌↔◌, true, false, None, IfOk};
+ghost use Rattle.std.specs.Prelude.{◌≡◌, ◌↔◌, ◌≤◌, true, false, None, IfOk, OnOk};
 ghost use Rattle.std.specs.Option.{option_copied, option_map};
 ghost use Rattle.chart_closure.specs.Closed.{closure_fault};
 ghost use Rattle.chart_model.specs.Answers.{unless};
@@ -8,6 +11,7 @@ ghost use Rattle.chart_model.specs.Cell.{IsChartHeader};
 ghost use Rattle.update_sequence.specs.Answers.{GivesBuilt};
 ghost use Rattle.update_sequence.specs.declared.fault.BuildFault.TheVariants as of_build;
 ghost use Rattle.update_sequence.specs.Built.{begun, built, folded, header_after};
+ghost use Rattle.update_sequence.specs.Moves.{MOST_MOVES, moves_of};
 
 use crate::fault::BuildFault;
 use chart_closure::check;
@@ -49,7 +53,8 @@ pub(crate) fn make_all(
     cell: Cell,
     changes: &[UpdateRecord],
 ) -> Result<Cell, BuildFault>
-    ensures { GivesBuilt result (folded cell changes.now) }
+    ensures made { GivesBuilt result (folded cell changes.now) }
+    ensures within { OnOk result (moves_of cell changes.now ≤ MOST_MOVES) }
 {
     let mut cell = cell;
     let mut moves = Moves::of_file();
@@ -66,7 +71,8 @@ pub(crate) fn make_all_owned(
     cell: Cell,
     changes: ChangeList,
 ) -> Result<Cell, BuildFault>
-    ensures { GivesBuilt result (folded cell changes) }
+    ensures made { GivesBuilt result (folded cell changes) }
+    ensures within { OnOk result (moves_of cell changes ≤ MOST_MOVES) }
 {
     let mut cell = cell;
     let mut moves = Moves::of_file();
@@ -105,7 +111,11 @@ fn copy_of(alloc: Global, chart: Option<&Cell>) -> Result<Option<Cell>, AllocErr
 pub fn build(alloc: Global, chart: Option<&Cell>, dataset: &Dataset) -> Result<Cell, BuildFault>
     requires stands { dataset.now.cancels ≡ false }
     requires held { (option_copied chart ≡ None) ↔ (dataset.now.base ≡ true) }
-    ensures { GivesBuilt result (built (option_copied chart.entry) dataset.now) }
+    ensures built { GivesBuilt result (built (option_copied chart.entry) dataset.now) }
+
+    // A chart is built of no file whose changes may move more items of lists, all together, than the budget has.
+    ensures within { OnOk result
+        (moves_of (begun (option_copied chart.entry) dataset.now.header) dataset.now.changes ≤ MOST_MOVES) }
 {
     let chart = copy_of(alloc, chart)?;
     let cell = begin(alloc, chart, &dataset.header);
@@ -122,7 +132,8 @@ pub fn build(alloc: Global, chart: Option<&Cell>, dataset: &Dataset) -> Result<C
 pub fn build_owned(alloc: Global, dataset: Dataset) -> Result<Cell, BuildFault>
     requires stands { dataset.cancels ≡ false }
     requires base { dataset.base ≡ true }
-    ensures { GivesBuilt result (built None dataset) }
+    ensures built { GivesBuilt result (built None dataset) }
+    ensures within { OnOk result (moves_of (begun None dataset.header) dataset.changes ≤ MOST_MOVES) }
 {
     let cell = begin(alloc, None, &dataset.header);
     closed(make_all_owned(alloc, cell, dataset.changes)?)

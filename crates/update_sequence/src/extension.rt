@@ -1,14 +1,18 @@
 //! A chart that is extended by an update.
+//!
+//! A chart has many records and an update few: what no change can touch is neither copied nor
+//! looked at again.
 
-ghost use Rattle.std.specs.Prelude.{◌≡◌, ◌↔◌, true, false, Contains, is_none, IfOk, OnErr, Some};
+ghost use Rattle.std.specs.Prelude.{◌≡◌, ◌↔◌, ◌≤◌, true, false, Contains, is_none, IfOk, OnOk, OnErr, Some};
 ghost use Rattle.std.specs.List.{filter_map, list_all};
 ghost use Rattle.std.specs.Option.{option_map};
 ghost use Rattle.chart_closure.specs.Closed.{closure_fault, fault_at, IsClosed};
 ghost use Rattle.chart_model.specs.Answers.{unless};
 ghost use Rattle.update_sequence.specs.declared.fault.BuildFault.TheVariants as of_build;
 ghost use Rattle.update_sequence.specs.Answers.{GivesBuilt};
-ghost use Rattle.update_sequence.specs.Built.{built};
+ghost use Rattle.update_sequence.specs.Built.{begun, built};
 ghost use Rattle.update_sequence.specs.Extended.{GivesExtended, are_local, have_no_closure_fault, asked_target};
+ghost use Rattle.update_sequence.specs.Moves.{MOST_MOVES, moves_of};
 
 use crate::chart::{begin, make_all};
 use crate::fault::BuildFault;
@@ -83,7 +87,8 @@ fn check_changed(alloc: Global, chart: &Cell, changes: &[UpdateRecord]) -> Resul
 pub fn extend(alloc: Global, chart: &Cell, dataset: &Dataset) -> Result<Cell, BuildFault>
     requires stands { dataset.now.cancels ≡ false }
     requires closed { IsClosed chart.now }
-    ensures { GivesBuilt result (built (Some chart.now) dataset.now) }
+    ensures built { GivesBuilt result (built (Some chart.now) dataset.now) }
+    ensures within { OnOk result (moves_of (begun (Some chart.now) dataset.now.header) dataset.now.changes ≤ MOST_MOVES) }
 {
     closed_charts_stay_closed();
     let copy = chart.copy(alloc)?;

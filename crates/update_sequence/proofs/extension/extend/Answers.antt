@@ -9,4 +9,4 @@ check_changed-requires c =
     let first : c.begin-first.result ≡ begun (Some c.args.chart.now) c.dataset.inside.header = c.begin-first.ensures ∙ ap (λ (chart : CellValue). begun (Some chart) c.dataset.inside.header) c.in_ok-copy.ensures in
     let same : c.as_slice.result.now ≡ c.as_slice-2.result.now = c.as_slice.ensures ∙ sym c.as_slice-2.ensures in
     stays-closed c.closed_charts_stay_closed.ensures c.args.chart.now c.in_ok-after.after c.dataset.inside.header c.as_slice-2.result.now c.requires.closed
-    ((λ i. folded (sym first i) (sym same i)) ∙ c.in_ok-after.ensures)
+    ((λ i. folded (sym first i) (sym same i)) ∙ c.in_ok-after.ensures.made)
