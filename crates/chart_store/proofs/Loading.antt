@@ -15,7 +15,7 @@ use Rattle.chart_model.specs.declared.dataset.Header.{Header}
 use Rattle.update_sequence.specs.Reading.{data_set_in}
 use Rattle.update_sequence.specs.Judged.{judged}
 use Rattle.update_sequence.specs.Built.{built}
-use Rattle.update_sequence.specs.Rebuilt.{numbers_of, cancelled, held_by, rebuilt}
+use Rattle.update_sequence.specs.Rebuilt.{numbers_of, cancelled_numbers, held_by, rebuilt}
 use Rattle.update_sequence.specs.Sequence.{IsUpdateSequence, IsFileOf, Leaves}
 use Rattle.update_sequence.specs.declared.effect.Effect.{Effect}
 use Rattle.update_sequence.specs.declared.effect.Effect.TheVariants.{Replace, Extend, Cancel}
@@ -59,7 +59,7 @@ AcceptedFilesFollow = record {
   cancels : (key : List ℕ) (files : List (List ℕ)) (file : List ℕ) (dataset : DatasetValue) →
       IsUpdateSequence key files → IsFileOf key file dataset →
       judged (held_by files) dataset ≡ Ok Cancel →
-      Leaves key (files ++ file ∷ []) (option_map cancelled (held_by files)) None;
+      Leaves key (files ++ file ∷ []) (option_map cancelled_numbers (held_by files)) None;
 }
 
 -- the laws of whole files
@@ -124,7 +124,11 @@ module _ (laws : Laws) where
   live-cancel (Some here) dataset file h reads short judges =
       let l = laws.follow.cancels dataset.header.key here.files file dataset h.sequence (file_of file dataset reads short)
       (ap (λ (n : Option Held). judged n dataset) h.numbers ∙ judges) in
-      record { sequence = l.sequence; numbers = l.numbers ∙ ap (option_map cancelled) h.numbers; builds = l.builds }
+      record {
+        sequence = l.sequence;
+        numbers = l.numbers ∙ ap (option_map cancelled_numbers) h.numbers;
+        builds = l.builds;
+      }
 
   -- ---- the step by what is held is the step by whole files
 

@@ -12,7 +12,7 @@ use Rattle.chart_model.specs.declared.state.Held.{Held}
 use Rattle.chart_model.specs.declared.state.Holding.{Holding}
 use Rattle.update_sequence.specs.Judged.{judged}
 use Rattle.update_sequence.specs.Built.{built}
-use Rattle.update_sequence.specs.Rebuilt.{numbers_of, cancelled}
+use Rattle.update_sequence.specs.Rebuilt.{numbers_of, cancelled_numbers}
 use Rattle.update_sequence.specs.declared.effect.Effect.{Effect}
 use Rattle.update_sequence.specs.declared.effect.Effect.TheVariants.{Replace, Extend, Cancel}
 use Rattle.chart_store.specs.declared.refusal.Refusal.{Refusal}
@@ -31,7 +31,7 @@ chart_of before = option_and_then (λ (here : Holding). here.chart) before
 abbrev pub held_after : Option Holding → Effect → Header → Held
 held_after before Replace header = numbers_of header
 held_after before Extend header = numbers_of header
-held_after before Cancel header = cancelled (unwrap_or (held_of before) (numbers_of header))
+held_after before Cancel header = cancelled_numbers (unwrap_or (held_of before) (numbers_of header))
 
 -- the chart that a data set builds
 abbrev pub chart_built : Option CellValue → DatasetValue → Result (Option CellValue) Refusal

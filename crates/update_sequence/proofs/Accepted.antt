@@ -14,7 +14,8 @@ use Rattle.update_sequence.specs.declared.fault.SequenceFault.{SequenceFault}
 use Rattle.update_sequence.specs.Reading.{data_set_in}
 use Rattle.update_sequence.specs.Judged.{judged, judged_base, judged_update, is_older}
 use Rattle.update_sequence.specs.Built.{built}
-use Rattle.update_sequence.specs.Rebuilt.{chart_with, chart_after, rebuilt, numbers_of, cancelled, held_with, held_after, held_by}
+use Rattle.update_sequence.specs.Rebuilt.{chart_with, chart_after, rebuilt, numbers_of, cancelled_numbers, held_with}
+use Rattle.update_sequence.specs.Rebuilt.{held_after, held_by}
 use Rattle.update_sequence.specs.Sequence.{Follows, IsUpdateSequence, IsFileOf, Leaves}
 use Rattle.update_sequence.proofs.DataSets.{ok_is}
 
@@ -87,8 +88,10 @@ held-read held file dataset reads = ap (λ (r : Result DatasetValue ReadFault). 
 chart-read : (chart : Option CellValue) (file : List ℕ) (dataset : DatasetValue) → data_set_in file ≡ Ok dataset → chart_after chart file ≡ chart_with chart dataset
 chart-read chart file dataset reads = ap (λ (r : Result DatasetValue ReadFault). option_and_then (chart_with chart) (result_ok r)) reads
 
-held-is : (held : Option Held) (dataset : DatasetValue) (so : Bool) → dataset.cancels ≡ so → held_with held dataset ≡ cond so (option_map cancelled held) (Some (numbers_of dataset.header))
-held-is held dataset so is = ap (λ (b : Bool). cond b (option_map cancelled held) (Some (numbers_of dataset.header))) is
+held-is : (held : Option Held) (dataset : DatasetValue) (so : Bool) → dataset.cancels ≡ so
+    → held_with held dataset ≡ cond so (option_map cancelled_numbers held) (Some (numbers_of dataset.header))
+held-is held dataset so is =
+    ap (λ (b : Bool). cond b (option_map cancelled_numbers held) (Some (numbers_of dataset.header))) is
 
 chart-is : (chart : Option CellValue) (dataset : DatasetValue) (so : Bool) → dataset.cancels ≡ so → chart_with chart dataset ≡ cond so None (result_ok (built chart dataset))
 chart-is chart dataset so is = ap (λ (b : Bool). cond b None (result_ok (built chart dataset))) is
@@ -158,7 +161,7 @@ module _
         }
 
     pub cancelled_with : (key : List ℕ) (files : List (List ℕ)) (file : List ℕ) (dataset : DatasetValue) → IsUpdateSequence key files → IsFileOf key file dataset → judged (held_by files) dataset ≡ Ok Cancel
-        → Leaves key (files ++ file ∷ []) (option_map cancelled (held_by files)) None
+        → Leaves key (files ++ file ∷ []) (option_map cancelled_numbers (held_by files)) None
     cancelled_with key files file dataset sequence is so =
         let kind = cancels (held_by files) dataset so in
         record {

@@ -16,7 +16,8 @@ use Rattle.update_sequence.specs.declared.fault.BuildFault.{BuildFault}
 use Rattle.update_sequence.specs.declared.fault.ReadFault.{ReadFault}
 use Rattle.update_sequence.specs.Reading.{data_set_in}
 use Rattle.update_sequence.specs.Built.{header_after, built}
-use Rattle.update_sequence.specs.Rebuilt.{chart_with, chart_after, rebuilt, numbers_of, cancelled, held_with, held_after, held_by}
+use Rattle.update_sequence.specs.Rebuilt.{chart_with, chart_after, rebuilt, numbers_of, cancelled_numbers, held_with}
+use Rattle.update_sequence.specs.Rebuilt.{held_after, held_by}
 use Rattle.update_sequence.specs.Sequence.{Follows, IsUpdateSequence}
 use Rattle.update_sequence.proofs.Charts.{begun-header}
 use Rattle.update_sequence.proofs.Lists.{moved}
@@ -77,10 +78,11 @@ module _
     before_left key held (Some chart) h = (h.cell, h.keyed)
 
     -- a data set that cancels
-    cancel_left : (key : List ℕ) (numbers : Option Held) (chart : Option CellValue) → IsLeft key numbers chart → IsLeft key (option_map cancelled numbers) None
+    cancel_left : (key : List ℕ) (numbers : Option Held) (chart : Option CellValue) → IsLeft key numbers chart
+        → IsLeft key (option_map cancelled_numbers numbers) None
     cancel_left key numbers chart left = record {
-      held = cancelled left.held;
-      held_is = ap (option_map cancelled) left.held_is;
+      held = cancelled_numbers left.held;
+      held_is = ap (option_map cancelled_numbers) left.held_is;
       is_held = record { edition = left.is_held.edition; update = left.is_held.update };
       none = (λ _. refl, λ _. refl);
       chart = tt;
@@ -94,7 +96,9 @@ module _
         elim (cases_Bool dataset.cancels) [
           | inl cancels ↦
               let l = cancel_left key numbers chart (left (is.base_stands cancels)) in
-              subst (λ (b : Bool). IsLeft key (cond b (option_map cancelled numbers) (Some (numbers_of dataset.header))) (cond b None (result_ok (built chart dataset)))) (sym cancels) l
+              subst (λ (b : Bool).
+              IsLeft key (cond b (option_map cancelled_numbers numbers) (Some (numbers_of dataset.header)))
+              (cond b None (result_ok (built chart dataset)))) (sym cancels) l
           | inr stands ↦
               let made = ok_value (built chart dataset) (builds stands) in
               let before : IfSome chart (IsBefore key) =
@@ -103,7 +107,9 @@ module _
                 | inr update ↦ before_left key (left update).held chart (left update).chart
               ] in
               let l = built_left key chart dataset made.0 is each keyed stands before made.1 in
-              subst (λ (b : Bool). IsLeft key (cond b (option_map cancelled numbers) (Some (numbers_of dataset.header))) (cond b None (result_ok (built chart dataset)))) (sym stands)
+              subst (λ (b : Bool).
+              IsLeft key (cond b (option_map cancelled_numbers numbers) (Some (numbers_of dataset.header)))
+              (cond b None (result_ok (built chart dataset)))) (sym stands)
               (subst (λ (r : Result CellValue BuildFault). IsLeft key (Some (numbers_of dataset.header)) (result_ok r)) (sym made.1) l)
         ]
 

@@ -26,12 +26,12 @@ rebuilt files = fold chart_after None files
 abbrev pub numbers_of : Header → Held
 numbers_of header = record { edition = header.edition; update = header.update; cancelled = false }
 
-abbrev pub cancelled : Held → Held
-cancelled held = record held { cancelled = true }
+abbrev pub cancelled_numbers : Held → Held
+cancelled_numbers held = record held { cancelled = true }
 
 -- the held numbers after one more data set: one that cancels leaves edition and update as they were
 abbrev pub held_with : Option Held → DatasetValue → Option Held
-held_with held dataset = if dataset.cancels then option_map cancelled held else Some (numbers_of dataset.header)
+held_with held dataset = if dataset.cancels then option_map cancelled_numbers held else Some (numbers_of dataset.header)
 
 -- the held numbers after one more file
 abbrev pub held_after : Option Held → List ℕ → Option Held

@@ -1,4 +1,6 @@
 //! Whether a file may follow what is held of its cell.
+//!
+//! Numbers alone are compared, so a file that may not follow costs no chart.
 
 ghost use Rattle.std.specs.Prelude.{◌≡◌};
 ghost use Rattle.std.specs.Option.{option_copied};

@@ -1,4 +1,6 @@
 //! The chart that a list of whole files builds.
+//!
+//! The files were accepted before, so no fault of theirs is left to be told.
 
 ghost use Rattle.std.specs.Prelude.{◌≡◌, ◌+◌, ◌≤◌, false, List, ℕ, IfOk, OnOk, IsOk};
 ghost use Rattle.update_sequence.specs.Built.{built};

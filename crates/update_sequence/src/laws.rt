@@ -1,4 +1,6 @@
 //! Laws of the definitions.
+//!
+//! The crates above cite these of charts and of files, and no lemma of this crate.
 
 ghost use Rattle.std.specs.Prelude.{◌≡◌, ◌≢◌, ◌⊎◌, ◌↔◌, ℕ, true, false, List, [], ◌∷◌};
 ghost use Rattle.std.specs.Prelude.{◌++◌, Option, Some, None, Ok, All, Contains, map, IfSome};
@@ -20,7 +22,8 @@ ghost use Rattle.update_sequence.specs.declared.fault.BuildFault.TheVariants as 
 ghost use Rattle.update_sequence.specs.Built.{built, folded, folded_after, header_after};
 ghost use Rattle.update_sequence.specs.Judged.{judged};
 ghost use Rattle.update_sequence.specs.declared.effect.Effect.TheVariants.{Replace, Extend, Cancel};
-ghost use Rattle.update_sequence.specs.Rebuilt.{chart_after, held_after, held_by, rebuilt, numbers_of, cancelled};
+ghost use Rattle.update_sequence.specs.Rebuilt.{cancelled_numbers, chart_after, held_after, held_by, numbers_of};
+ghost use Rattle.update_sequence.specs.Rebuilt.{rebuilt};
 ghost use Rattle.update_sequence.specs.Sequence.{Follows, IsUpdateSequence, IsFileOf, Leaves, is_update_sequence};
 
 use chart_closure::first_is_least;
@@ -102,7 +105,8 @@ pub fn accepted_files_follow()
         Leaves key (files ++ file ∷ []) (Some (numbers_of dataset.header)) (result_ok (built (rebuilt files) dataset)) }
     ensures cancels { (key : List ℕ) (files : List (List ℕ)) (file : List ℕ) (dataset : DatasetValue) →
         IsUpdateSequence key files → IsFileOf key file dataset →
-        judged (held_by files) dataset ≡ Ok Cancel → Leaves key (files ++ file ∷ []) (option_map cancelled (held_by files)) None }
+        judged (held_by files) dataset ≡ Ok Cancel →
+        Leaves key (files ++ file ∷ []) (option_map cancelled_numbers (held_by files)) None }
 {
     files_are_data_sets();
     one_file_more();

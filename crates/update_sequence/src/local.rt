@@ -1,4 +1,6 @@
 //! What changes can do to the closure of a chart.
+//!
+//! Most changes can harm no record but their own, and then the others need not be looked at.
 
 ghost use Rattle.std.specs.Prelude.{◌≡◌};
 ghost use Rattle.update_sequence.specs.Extended.{asked_target, keeps_coords, is_local, are_local};

@@ -1,4 +1,6 @@
 //! Cell files as data sets.
+//!
+//! Of a file those fields alone are decoded that a data set is made of.
 
 ghost use Rattle.std.specs.Prelude.{◌≡◌, ◌≢◌, ◌+◌, ◌≤◌};
 ghost use Rattle.iso8211_records.specs.RecordFile.{data_records_in};

@@ -4,7 +4,7 @@ use Rattle.std.specs.Result.{is_ok, result_ok}
 use Rattle.chart_model.specs.Cell.{CellValue}
 use Rattle.chart_model.specs.Dataset.{DatasetValue}
 use Rattle.update_sequence.specs.Built.{built}
-use Rattle.update_sequence.specs.Rebuilt.{numbers_of, cancelled, rebuilt}
+use Rattle.update_sequence.specs.Rebuilt.{numbers_of, cancelled_numbers, rebuilt}
 use Rattle.update_sequence.proofs.Accepted.{leaves-as}
 use Rattle.sample_datasets.proofs.Files.{put_behind}
 use Rattle.sample_datasets.proofs.tests.sequences.lists.next.Goals as goal
@@ -25,4 +25,4 @@ returns-in-Cancel g c =
     c.in_ok-dataset.ensures.exact (c.is_of.ensures c.if-not-is_of.false) c.in_ok-effect.ensures c.in_ok-push.ensures.ok (c.in_ok-of.ensures ∙ c.from_vec.ensures) in
     leaves-as c.args.key (c.args.taken.files ++ c.args.bytes.items ∷ []) _ _ _ _ _
     (c.accepted_files_follow.ensures.cancels _ _ _ _ put.sequence put.is (put.effect_is ∙ ap Ok c.in-Cancel.is)) put.all
-    (sym (ap (option_map cancelled) c.requires.numbers)) refl
+    (sym (ap (option_map cancelled_numbers) c.requires.numbers)) refl
