@@ -30,9 +30,10 @@ use Rattle.chart_store.specs.Loaded.{HoldingsByKey, files_of, files_after, build
 use Rattle.chart_store.specs.Loaded.{FILE_LIMIT, STORE_LIMIT, live_bytes, store_within, within_limit, cells_within, come_to}
 use Rattle.chart_store.specs.Loaded.{Outcome, held_with, accepted_file, loaded}
 use Rattle.chart_store.specs.Live.{IsLive, AreLive}
-use Rattle.chart_store.specs.Taken.{held_of, chart_of, held_after, chart_after, cell_after, placed, taken}
+use Rattle.chart_store.specs.Taken.{held_of, chart_of, held_after, chart_after, cell_after, state_by_effect}
+use Rattle.chart_store.specs.Taken.{outcome_of_data_set}
 use Rattle.chart_store.proofs.Holdings.{AreLive-insert}
-use Rattle.chart_store.proofs.Loading.{Laws, WasLive, live-replace, live-extend, live-cancel, accepted-taken}
+use Rattle.chart_store.proofs.Loading.{Laws, WasLive, live-replace, live-extend, live-cancel, accepted-data_set}
 
 -- ---- steps
 
@@ -208,13 +209,13 @@ module _ (laws : Laws) where
       (held_after before Cancel dataset.header) c file)) (ok_is e)
       (live-cancel laws before dataset file h reads short judges)
 
-  taken-live : (state : StateValue) (dataset : DatasetValue) (file : List ℕ) (before : Option Holding)
+  data_set-live : (state : StateValue) (dataset : DatasetValue) (file : List ℕ) (before : Option Holding)
       (done : Outcome) → AreLive state.cells → WasLive dataset.header.key before → data_set_in file ≡ Ok dataset →
-      IsFileLength (length file) → taken state dataset file before ≡ Ok done → AreLive done.state.cells
-  taken-live state dataset file before done live h reads short e =
+      IsFileLength (length file) → outcome_of_data_set state dataset file before ≡ Ok done → AreLive done.state.cells
+  data_set-live state dataset file before done live h reads short e =
       let j = bound_is (or_fault_as refusal_of_sequence (judged (held_of before) dataset)) _ done e in
       let w = bound_is (cells_within state.cells dataset.header.key) _ done j.2 in
-      let p = bound_is (placed state dataset file before j.0) _ done w.2 in
+      let p = bound_is (state_by_effect state dataset file before j.0) _ done w.2 in
       let c = bound_is (chart_after (chart_of before) j.0 dataset) _ p.0 p.1 in
       subst AreLive
       (ap (λ (s : StateValue). s.cells) (store_within-is _ p.0 c.2) ∙ ap (λ (d : Outcome). d.state.cells) (ok_is p.2))
@@ -228,16 +229,16 @@ module _ (laws : Laws) where
   loaded-live state file done live e =
       let l = loaded-is state file done e in
       let before = map.get state.cells l.dataset.header.key in
-      taken-live state l.dataset file before done live (live l.dataset.header.key) l.reads l.short
-      (sym (accepted-taken laws state l.dataset file before (live l.dataset.header.key) l.reads l.short) ∙ l.accepts)
+      data_set-live state l.dataset file before done live (live l.dataset.header.key) l.reads l.short
+      (sym (accepted-data_set laws state l.dataset file before (live l.dataset.header.key) l.reads l.short) ∙ l.accepts)
 
   -- by what is held of the cell
-  pub loaded-taken : (state : StateValue) (file : List ℕ) (dataset : DatasetValue) → AreLive state.cells →
+  pub loaded-data_set : (state : StateValue) (file : List ℕ) (dataset : DatasetValue) → AreLive state.cells →
       length file ≤ FILE_LIMIT → data_set_in file ≡ Ok dataset →
-      loaded state file ≡ taken state dataset file (map.get state.cells dataset.header.key)
-  loaded-taken state file dataset live short reads =
+      loaded state file ≡ outcome_of_data_set state dataset file (map.get state.cells dataset.header.key)
+  loaded-data_set state file dataset live short reads =
       loaded-reads state file dataset short reads
-      ∙ accepted-taken laws state dataset file (map.get state.cells dataset.header.key) (live dataset.header.key)
+      ∙ accepted-data_set laws state dataset file (map.get state.cells dataset.header.key) (live dataset.header.key)
       reads short
 
 -- ---- the data records that are come to

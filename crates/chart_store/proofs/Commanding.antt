@@ -18,7 +18,8 @@ use Rattle.chart_store.specs.Live.{IsLive, AreLive, state_or, state_after, state
 use Rattle.chart_store.specs.Loaded.{Outcome, HoldingsByKey, nothing_held}
 use Rattle.chart_store.specs.Next.{cells_with, outcome_by}
 use Rattle.chart_store.specs.declared.next.Next.{Next}
-use Rattle.chart_store.specs.Outcome.{left_by, rolled_back, dropped, outcome, state_with, after, charts, IsKeyOf}
+use Rattle.chart_store.specs.Outcome.{left_by, outcome_of_rollback, outcome_of_drop, outcome, state_with, after, charts}
+use Rattle.chart_store.specs.Outcome.{IsKeyOf}
 use Rattle.chart_store.specs.Taken.{chart_of}
 use Rattle.chart_model.proofs.Keys.{key_cmp-total}
 use Rattle.chart_store.proofs.Accepting.{loaded-is, accepted-is, loaded-alone, loaded-live, apart}
@@ -43,9 +44,9 @@ pub record IsRolledBack (state : StateValue) (key : List ℕ) (number : ℕ) (do
     state = record { cells = map.insert state.cells key (left_by here.held kept) };
   } ≡ done
 
-pub rolled_back-is : (state : StateValue) (key : List ℕ) (number : ℕ) (done : Outcome) →
-    rolled_back state key number ≡ Ok done → IsRolledBack state key number done
-rolled_back-is state key number done e = held (map.get state.cells key) refl e
+pub outcome_of_rollback-is : (state : StateValue) (key : List ℕ) (number : ℕ) (done : Outcome) →
+    outcome_of_rollback state key number ≡ Ok done → IsRolledBack state key number done
+outcome_of_rollback-is state key number done e = held (map.get state.cells key) refl e
   where
     left : Holding → List (List ℕ) → Outcome
     left here kept = record {
@@ -73,7 +74,7 @@ pub rolled-by : (state : StateValue) (key : List ℕ) (number : ℕ) (here : Hol
     (next : Next) → map.get state.cells key ≡ Some here → kept_by key number here.files ≡ Some kept →
     held_by kept ≡ Some held → next.key ≡ key → next.held ≡ held →
     next.holding ≡ Some (record { held = held; files = kept; chart = rebuilt kept }) →
-    rolled_back state key number ≡ Ok (outcome_by state next)
+    outcome_of_rollback state key number ≡ Ok (outcome_by state next)
 rolled-by state key number here kept held next there keeps numbers keyed holds is =
     ap (λ (o : Option Holding). or_fault (NoCell key) o >>= λ h. or_fault (NoUpdate key number)
     (kept_by key number h.files) >>= λ k. Ok (left h k)) there
@@ -108,9 +109,9 @@ pub record IsDropped (state : StateValue) (key : List ℕ) (done : Outcome) : Ty
     state = record { cells = map.remove state.cells key };
   } ≡ done
 
-pub dropped-is : (state : StateValue) (key : List ℕ) (done : Outcome) → dropped state key ≡ Ok done →
+pub outcome_of_drop-is : (state : StateValue) (key : List ℕ) (done : Outcome) → outcome_of_drop state key ≡ Ok done →
     IsDropped state key done
-dropped-is state key done e = held (map.get state.cells key) refl e
+outcome_of_drop-is state key done e = held (map.get state.cells key) refl e
   where
     held : (o : Option Holding) → map.get state.cells key ≡ o →
         (or_fault (NoCell key) o >>= λ here. Ok (record {
@@ -141,12 +142,12 @@ module _ (laws : Laws) (sequences : Sequences) (holds : Holds) where
   unfolding outcome
   outcome-live state (Load file) done live e = loaded-live laws state file done live e
   outcome-live state (Rollback key number) done live e =
-      let r = rolled_back-is state key number done e in
+      let r = outcome_of_rollback-is state key number done e in
       subst (λ (d : Outcome). AreLive d.state.cells) r.leaves
       (AreLive-with state.cells key (Some (left_by r.here.held r.kept)) live
       (left-live sequences holds key number r.here.held r.here.files r.kept r.keeps))
   outcome-live state (Drop key) done live e =
-      let d = dropped-is state key done e in
+      let d = outcome_of_drop-is state key done e in
       subst (λ (d : Outcome). AreLive d.state.cells) d.leaves (AreLive-with state.cells key None live tt)
 
   pub state_with-live : (state : StateValue) (command : Command) → AreLive state.cells →
@@ -219,8 +220,8 @@ outcome-keyed state (Load file) done e =
     let p = accepted-is state l.dataset file _ done l.accepts in
     (l.dataset, l.reads, p.keyed)
 outcome-keyed state (Rollback key number) done e =
-    ap (λ (d : Outcome). d.key) (rolled_back-is state key number done e).leaves
-outcome-keyed state (Drop key) done e = ap (λ (d : Outcome). d.key) (dropped-is state key done e).leaves
+    ap (λ (d : Outcome). d.key) (outcome_of_rollback-is state key number done e).leaves
+outcome-keyed state (Drop key) done e = ap (λ (d : Outcome). d.key) (outcome_of_drop-is state key done e).leaves
 
 get-apart : (cells : HoldingsByKey) (key other : List ℕ) (holding : Option Holding) → other ≢ key →
     map.get (cells_with cells key holding) other ≡ map.get cells other
@@ -236,11 +237,11 @@ pub outcome-alone : (state : StateValue) (command : Command) (done : Outcome) (k
 unfolding outcome
 outcome-alone state (Load file) done key e other = loaded-alone state file done key e other
 outcome-alone state (Rollback own number) done key e other =
-    let r = rolled_back-is state own number done e in
+    let r = outcome_of_rollback-is state own number done e in
     ap (λ (d : Outcome). map.get d.state.cells key) (sym r.leaves)
     ∙ get-apart state.cells own key (Some (left_by r.here.held r.kept))
     (λ same. other (same ∙ ap (λ (d : Outcome). d.key) r.leaves))
 outcome-alone state (Drop own) done key e other =
-    let d = dropped-is state own done e in
+    let d = outcome_of_drop-is state own done e in
     ap (λ (d : Outcome). map.get d.state.cells key) (sym d.leaves)
     ∙ get-apart state.cells own key None (λ same. other (same ∙ ap (λ (d : Outcome). d.key) d.leaves))

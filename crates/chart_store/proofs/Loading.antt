@@ -27,8 +27,8 @@ use Rattle.chart_store.specs.Fault.{or_refused}
 use Rattle.chart_store.specs.Loaded.{files_of, files_after, buildable, holding_of}
 use Rattle.chart_store.specs.Loaded.{cells_within, store_within, Outcome, held_with, accepted_file}
 use Rattle.chart_store.specs.Live.{IsLive}
-use Rattle.chart_store.specs.Taken.{held_of, chart_of, held_after, cell_after, placed}
-use Rattle.chart_store.specs.Taken.{taken}
+use Rattle.chart_store.specs.Taken.{held_of, chart_of, held_after, cell_after, state_by_effect}
+use Rattle.chart_store.specs.Taken.{outcome_of_data_set}
 use Rattle.chart_store.proofs.Judging.{effect_says}
 
 -- what is held of the cell before, if anything, is what its files leave
@@ -132,14 +132,14 @@ module _ (laws : Laws) where
 
   -- ---- the step by what is held is the step by whole files
 
-  built-taken : (state : StateValue) (dataset : DatasetValue) (file : List ℕ) (before : Option Holding)
+  built-data_set : (state : StateValue) (dataset : DatasetValue) (file : List ℕ) (before : Option Holding)
       (effect : Effect) → WasLive dataset.header.key before → data_set_in file ≡ Ok dataset →
       IsFileLength (length file) → judged (held_of before) dataset ≡ Ok effect →
       (or_refused refusal_of_build (buildable (files_of before) effect dataset) >>= λ _. held_with state dataset.header.key
       (holding_of (files_after (files_of before) effect file) dataset.header))
-      ≡ (placed state dataset file before effect >>= λ after. Ok (record
+      ≡ (state_by_effect state dataset file before effect >>= λ after. Ok (record
       { key = dataset.header.key; held = held_after before effect dataset.header; state = after }))
-  built-taken state dataset file before Replace h reads short judges = go (built None dataset) refl
+  built-data_set state dataset file before Replace h reads short judges = go (built None dataset) refl
     where
       go : (r : Result CellValue BuildFault) → built None dataset ≡ r →
           (or_refused refusal_of_build (r >>= λ chart. Ok (tt {0})) >>= λ _. held_with state dataset.header.key
@@ -153,7 +153,7 @@ module _ (laws : Laws) where
           (live-holding dataset.header.key _ dataset.header (live-replace before dataset file cell reads short judges
           builds))
       go (Err fault) builds = refl
-  built-taken state dataset file before Extend h reads short judges =
+  built-data_set state dataset file before Extend h reads short judges =
       ap (λ (c : Option CellValue). or_refused refusal_of_build (built c dataset >>= λ chart. Ok (tt {0})) >>= λ _.
       held_with state dataset.header.key (holding_of (files_after (files_of before) Extend file) dataset.header))
       (chart-before dataset.header.key before h)
@@ -170,14 +170,15 @@ module _ (laws : Laws) where
           ap (held_with state dataset.header.key) (live-holding dataset.header.key _ dataset.header
           (live-extend before dataset file cell h reads short judges builds))
       go (Err fault) builds = refl
-  built-taken state dataset file before Cancel h reads short judges =
+  built-data_set state dataset file before Cancel h reads short judges =
       ap (held_with state dataset.header.key) (live-holding dataset.header.key _ dataset.header
       (live-cancel before dataset file h reads short judges))
 
-  pub accepted-taken : (state : StateValue) (dataset : DatasetValue) (file : List ℕ) (before : Option Holding) →
+  pub accepted-data_set : (state : StateValue) (dataset : DatasetValue) (file : List ℕ) (before : Option Holding) →
       WasLive dataset.header.key before → data_set_in file ≡ Ok dataset →
-      IsFileLength (length file) → accepted_file state dataset file (files_of before) ≡ taken state dataset file before
-  accepted-taken state dataset file before h reads short =
+      IsFileLength (length file)
+      → accepted_file state dataset file (files_of before) ≡ outcome_of_data_set state dataset file before
+  accepted-data_set state dataset file before h reads short =
       ap (λ (n : Option Held). or_fault_as refusal_of_sequence (judged n dataset) >>= λ effect. cells_within
       state.cells dataset.header.key >>= λ _.
       or_refused refusal_of_build (buildable (files_of before) effect dataset) >>= λ _. held_with state dataset.header.key
@@ -193,8 +194,8 @@ module _ (laws : Laws) where
           or_refused refusal_of_build (buildable (files_of before) effect dataset) >>= λ _. held_with state
           dataset.header.key (holding_of (files_after (files_of before) effect file) dataset.header))
           ≡ (or_fault_as refusal_of_sequence r >>= λ effect. cells_within state.cells dataset.header.key >>= λ _.
-          placed state dataset file before effect >>= λ after. Ok (record
+          state_by_effect state dataset file before effect >>= λ after. Ok (record
           { key = dataset.header.key; held = held_after before effect dataset.header; state = after }))
       go (Ok effect) judges = room (cells_within state.cells dataset.header.key) _ _
-          (built-taken state dataset file before effect h reads short judges)
+          (built-data_set state dataset file before effect h reads short judges)
       go (Err fault) judges = refl

@@ -24,7 +24,7 @@ use Rattle.chart_store.specs.declared.next.Next.{Next}
 use Rattle.chart_store.specs.Next.{GivesNextState}
 use Rattle.chart_store.specs.Loaded.{HoldingsByKey, store_within}
 use Rattle.chart_store.specs.Live.{IsLive}
-use Rattle.chart_store.specs.Taken.{held_of, chart_of, held_after, chart_after, cell_after, placed, MayBuild}
+use Rattle.chart_store.specs.Taken.{held_of, chart_of, held_after, chart_after, cell_after, state_by_effect, MayBuild}
 use Rattle.chart_store.proofs.Judging.{effect_says, stands_by_base}
 use Rattle.chart_store.proofs.Accepting.{next-live}
 use Rattle.chart_store.proofs.Loading.{Laws, WasLive}
@@ -104,12 +104,12 @@ may-build holds key before dataset Cancel is live judges = record {
 }
 
 -- what is put in, where the chart is built
-pub placed-by : (state : StateValue) (dataset : DatasetValue) (file : List ℕ) (effect : Effect) (held : Held)
+pub state_by_effect-by : (state : StateValue) (dataset : DatasetValue) (file : List ℕ) (effect : Effect) (held : Held)
     (chart : Option CellValue) → chart_after (chart_of (map.get state.cells dataset.header.key)) effect dataset ≡ Ok chart
     → held ≡ held_after (map.get state.cells dataset.header.key) effect dataset.header
-    → placed state dataset file (map.get state.cells dataset.header.key) effect ≡ store_within
+    → state_by_effect state dataset file (map.get state.cells dataset.header.key) effect ≡ store_within
     (map.insert state.cells dataset.header.key (cell_after (map.get state.cells dataset.header.key) effect held chart file))
-placed-by state dataset file effect held chart builds numbers =
+state_by_effect-by state dataset file effect held chart builds numbers =
     ap (λ (r : Result (Option CellValue) Refusal). r >>= (λ c. store_within (map.insert state.cells dataset.header.key
     (cell_after (map.get state.cells dataset.header.key) effect
     (held_after (map.get state.cells dataset.header.key) effect dataset.header) c file)))) builds
@@ -138,14 +138,15 @@ module _ (state : StateValue) (dataset : DatasetValue) (file : List ℕ) (effect
       (cell_after (map.get state.cells dataset.header.key) effect h chart file)) (sym numbers)
       (next-live laws (map.get state.cells dataset.header.key) dataset file effect chart live reads short judges builds))
 
-  pub placed-in : (r : Result Next TakeFault) → GivesNextState r state (store_within (map.insert state.cells key
+  pub state_by_effect-in : (r : Result Next TakeFault)
+      → GivesNextState r state (store_within (map.insert state.cells key
       (cell_after (map.get state.cells key) effect held chart file))) →
-      GivesNextState r state (placed state dataset file (map.get state.cells dataset.header.key) effect)
-  placed-in r gives =
+      GivesNextState r state (state_by_effect state dataset file (map.get state.cells dataset.header.key) effect)
+  state_by_effect-in r gives =
       subst (GivesNextState r state)
       (ap (λ (k : List ℕ). store_within (map.insert state.cells k
       (cell_after (map.get state.cells k) effect held chart file))) keyed
-      ∙ sym (placed-by state dataset file effect held chart builds numbers)) gives
+      ∙ sym (state_by_effect-by state dataset file effect held chart builds numbers)) gives
 
 -- the names that are told
 pub changed-in : (r : Result Next TakeFault) (before chart : Option CellValue) (changed : List Name) →

@@ -25,10 +25,10 @@ use Rattle.chart_store.specs.Fault.{or_refused}
 use Rattle.chart_store.specs.Loaded.{HoldingsByKey, CELLS_LIMIT, Outcome, cells_within, held_with, loaded}
 use Rattle.chart_store.specs.Live.{AreLive, IsLive}
 use Rattle.chart_store.specs.Reissued.{IsReissueOf, held_by_file}
-use Rattle.chart_store.specs.Taken.{held_of, chart_of, chart_after, held_after, placed, taken}
-use Rattle.chart_store.proofs.Accepting.{loaded-taken}
+use Rattle.chart_store.specs.Taken.{held_of, chart_of, chart_after, held_after, state_by_effect, outcome_of_data_set}
+use Rattle.chart_store.proofs.Accepting.{loaded-data_set}
 use Rattle.chart_store.proofs.Loading.{Laws}
-use Rattle.chart_store.proofs.Placing.{Holds, live-held, placed-by}
+use Rattle.chart_store.proofs.Placing.{Holds, live-held, state_by_effect-by}
 
 -- the numbers of a chart that is held are those of its header
 numbers_kept : (key : List ℕ) (here : Holding) (chart : CellValue) → IsHolding key here → here.chart ≡ Some chart →
@@ -84,17 +84,18 @@ room_for cells key here found =
 same_taken : (state : StateValue) (dataset : DatasetValue) (file : List ℕ) (here : Holding) (chart : CellValue) →
     map.get state.cells dataset.header.key ≡ Some here → here.chart ≡ Some chart → dataset.base ≡ true →
     numbers_of dataset.header ≡ here.held → built None dataset ≡ Ok chart →
-    taken state dataset file (map.get state.cells dataset.header.key)
+    outcome_of_data_set state dataset file (map.get state.cells dataset.header.key)
     ≡ held_with state dataset.header.key (held_by_file here file)
 same_taken state dataset file here chart found has base same builds =
     ap (λ (r : Result Effect SequenceFault). or_fault_as refusal_of_sequence r >>= λ effect. cells_within state.cells key
-    >>= λ _. placed state dataset file (map.get state.cells key) effect >>= λ after. Ok (record
+    >>= λ _. state_by_effect state dataset file (map.get state.cells key) effect >>= λ after. Ok (record
     { key = key; held = held_after (map.get state.cells key) effect dataset.header; state = after }))
     (ap (λ (before : Option Holding). judged (held_of before) dataset) found ∙ replaces dataset here.held base same)
-    ∙ ap (λ (r : Result (Unit {0}) Refusal). r >>= λ _. placed state dataset file (map.get state.cells key) Replace
+    ∙ ap (λ (r : Result (Unit {0}) Refusal).
+    r >>= λ _. state_by_effect state dataset file (map.get state.cells key) Replace
     >>= λ after. Ok (done after)) (room_for state.cells key here found)
     ∙ ap (λ (r : Result StateValue Refusal). r >>= λ after. Ok (done after))
-    (placed-by state dataset file Replace (numbers_of dataset.header) (Some chart) builds_chart refl)
+    (state_by_effect-by state dataset file Replace (numbers_of dataset.header) (Some chart) builds_chart refl)
     ∙ ap (λ (held : Held). held_with state key (record { held = held; files = file ∷ []; chart = Some chart })) same
     ∙ ap (λ (c : Option CellValue). held_with state key (record { held = here.held; files = file ∷ []; chart = c }))
     (sym has)
@@ -120,6 +121,6 @@ module _ (laws : Laws) (holds : Holds) where
       ap (λ (h : Header). h.key) is.header ∙ (numbers_kept key here chart stands has).keyed in
       let numbers : numbers_of is.dataset.header ≡ here.held =
       ap numbers_of is.header ∙ held_numbers key here chart stands has in
-      loaded-taken laws state file is.dataset live is.short is.reads
+      loaded-data_set laws state file is.dataset live is.short is.reads
       ∙ same_taken state is.dataset file here chart (ap (map.get state.cells) keyed ∙ found) has is.base numbers is.builds
       ∙ ap (λ (k : List ℕ). held_with state k (held_by_file here file)) keyed

@@ -9,7 +9,7 @@ use Rattle.chart_store.specs.declared.store.Store.{Store}
 use Rattle.chart_store.specs.Images.{read_of}
 use Rattle.chart_store.specs.Loaded.{nothing_held}
 use Rattle.chart_store.specs.Store.{IsKept, state_of, used_of}
-use Rattle.chart_store.proofs.Reading.{SpelledLaw, content_behind, replayed-accepted, state_in}
+use Rattle.chart_store.proofs.Reading.{SpelledLaw, content_behind, records-accepted, state_in}
 
 module _ (contents : ℕ → List ℕ) (may_leave : ℕ → List ℕ → Type 0) (store : Store)
     (kept : IsKept contents may_leave store) where
@@ -19,7 +19,7 @@ module _ (contents : ℕ → List ℕ) (may_leave : ℕ → List ℕ → Type 0)
       state_in images kept.content (state_of store)
       (content_behind images.head images.bank1 kept.content (kept.settled images.head (left 0) ∙ kept.head)
       (ap bank_of (kept.bank.settled images.bank1 (left 1)) ∙ kept.bank.reads)) kept.has.first
-      (replayed-accepted law nothing_held 8 kept.content.bodies kept.has.commands (state_of store) kept.has.spelled
+      (records-accepted law nothing_held 8 kept.content.bodies kept.has.commands (state_of store) kept.has.spelled
       kept.has.accepted)
       ∙ ap (λ (gate : ℕ). Ok (record { state = state_of store; used = gate + 1 })) (sym kept.bank.gate)
 

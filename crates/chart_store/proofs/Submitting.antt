@@ -31,7 +31,7 @@ use Rattle.chart_store.specs.declared.submit_fault.SubmitFault.{SubmitFault}
 use Rattle.chart_store.specs.declared.submit_fault.SubmitFault.TheVariants.{Refused, DeskFault, NoMemory}
 use Rattle.chart_store.specs.Images.{AreAccepted, AreSpelled, HasCommands, StandFor}
 use Rattle.chart_store.specs.Loaded.{Outcome, nothing_held, come_to, loaded, accepted_file, files_of}
-use Rattle.chart_store.specs.Outcome.{Room, BANK_LIMIT, accepted, need, outcome, room_within}
+use Rattle.chart_store.specs.Outcome.{Room, BANK_LIMIT, accepted, record_size, outcome, room_within}
 use Rattle.chart_store.specs.Store.{IsKept, StandsForEither, state_of}
 use Rattle.chart_store.specs.Live.{state_or}
 use Rattle.chart_store.specs.Submitted.{told, fault_of_taking, fault_of_appending, GivesAccepted, IsTooLong, RefusedHas}
@@ -59,36 +59,40 @@ record_is_refused state command (file, is, long) =
 
 module _ (state : StateValue) (command : Command) (used : ℕ) where
   with_room : Result Outcome Refusal → Result Outcome Refusal
-  with_room r = r >>= λ done. room_within (room_with used) (need command) >>= λ none. Ok done
+  with_room r = r >>= λ done. room_within (room_with used) (record_size command) >>= λ none. Ok done
 
   is_with_room : accepted state (room_with used) command ≡ with_room (outcome state command)
   unfolding accepted with_room
   is_with_room = refl
 
-  room_is : (full : Bool) (done : Outcome) → ltb BANK_LIMIT (used + need command) ≡ full →
-      with_room (Ok done) ≡ cond full (Err (BankFull used (need command))) (Ok done)
+  room_is : (full : Bool) (done : Outcome) → ltb BANK_LIMIT (used + record_size command) ≡ full →
+      with_room (Ok done) ≡ cond full (Err (BankFull used (record_size command))) (Ok done)
   unfolding with_room
   room_is true done e =
-      ap (λ (b : Bool). (cond b (Err (BankFull used (need command))) (Ok tt) >>= λ none. Ok tt) >>= λ none. Ok done) e
+      ap (λ (b : Bool).
+      (cond b (Err (BankFull used (record_size command))) (Ok tt) >>= λ none. Ok tt) >>= λ none. Ok done) e
   room_is false done e =
-      ap (λ (b : Bool). (cond b (Err (BankFull used (need command))) (Ok tt) >>= λ none. Ok tt) >>= λ none. Ok done) e
+      ap (λ (b : Bool).
+      (cond b (Err (BankFull used (record_size command))) (Ok tt) >>= λ none. Ok tt) >>= λ none. Ok done) e
 
   pub refused-as : (refusal : Refusal) → outcome state command ≡ Err refusal →
       accepted state (room_with used) command ≡ Err refusal
   unfolding with_room
   refused-as refusal e = is_with_room ∙ ap with_room e
 
-  pub full-as : (done : Outcome) → outcome state command ≡ Ok done → BANK_LIMIT < used + need command →
-      accepted state (room_with used) command ≡ Err (BankFull used (need command))
+  pub full-as : (done : Outcome) → outcome state command ≡ Ok done → BANK_LIMIT < used + record_size command →
+      accepted state (room_with used) command ≡ Err (BankFull used (record_size command))
   full-as done e over =
       is_with_room ∙ ap with_room e
-      ∙ room_is true done (let passes : ltb BANK_LIMIT (used + need command) ≡ true = grind (arith, nat_tests) in passes)
+      ∙ room_is true done
+      (let passes : ltb BANK_LIMIT (used + record_size command) ≡ true = grind (arith, nat_tests) in passes)
 
-  pub accepted-as : (done : Outcome) → outcome state command ≡ Ok done → ¬ (BANK_LIMIT < used + need command) →
+  pub accepted-as : (done : Outcome) → outcome state command ≡ Ok done → ¬ (BANK_LIMIT < used + record_size command) →
       accepted state (room_with used) command ≡ Ok done
   accepted-as done e within =
       is_with_room ∙ ap with_room e
-      ∙ room_is false done (let fits : ltb BANK_LIMIT (used + need command) ≡ false = grind (arith, nat_tests) in fits)
+      ∙ room_is false done
+      (let fits : ltb BANK_LIMIT (used + record_size command) ≡ false = grind (arith, nat_tests) in fits)
 
   pub record-fails : (fault : SubmitFault) →
       RefusedHas (λ refusal. (refusal ≡ FileLong 8388608) × IsTooLong command) fault →
@@ -104,7 +108,7 @@ module _ (state : StateValue) (command : Command) (used : ℕ) where
   taking-fails takes.NoMemory e = tt
 
   pub appending-fails : (done : Outcome) (more : ℕ) (fault : AppendFault) (result : Result (Unit {0}) AppendFault) →
-      outcome state command ≡ Ok done → more ≡ need command → result ≡ Err fault →
+      outcome state command ≡ Ok done → more ≡ record_size command → result ≡ Err fault →
       IfErr result (FullHas (λ length_now wants. (length_now ≡ used) × (wants ≡ more))) →
       ((result ≡ Err (appends.Full used more)) ↔ (BANK_LIMIT < used + more)) →
       FailsBy told (fault_of_appending fault) (accepted state (room_with used) command)
@@ -280,7 +284,7 @@ module _ {D : Type 0} (clock : D → ℕ) (might : D → ℕ → Images → List
   -- the same by what the bank answers
   pub append-moments : (command : Command) (done : Outcome) (used more : ℕ) (fault : AppendFault)
       (result : Result (Unit {0}) AppendFault) (new : D) →
-      outcome (state_of store) command ≡ Ok done → Spells (spelling command) command → more ≡ need command →
+      outcome (state_of store) command ≡ Ok done → Spells (spelling command) command → more ≡ record_size command →
       result ≡ Err fault → IfErr result (FullHas (λ length_now wants. (length_now ≡ used) × (wants ≡ more))) →
       ((result ≡ Err (appends.Full used more)) ↔ (BANK_LIMIT < used + more)) →
       (BANK_LIMIT < used + more → new ≡ desk) →

@@ -27,24 +27,24 @@ left_by_outcome (Ok done) = Some done.state
 left_by_outcome (Err refusal) = None
 
 -- what is held after a record: its body spells a command that is accepted, but for the room in the bank
-abbrev pub recorded : StateValue → List ℕ → Option StateValue
-recorded state body = option_and_then (λ command. left_by_outcome (outcome state command)) (command_in body)
+abbrev pub state_after_record : StateValue → List ℕ → Option StateValue
+state_after_record state body = option_and_then (λ command. left_by_outcome (outcome state command)) (command_in body)
 
 -- what is held after the records the first of which has its gate at a place, or the gate of the first that is none
-abbrev pub replayed : StateValue → ℕ → List (List ℕ) → Result StateValue ℕ
-replayed state gate [] = Ok state
-replayed state gate (body ∷ bodies) =
-    or_fault gate (recorded state body) >>= λ next. replayed next (gate + (5 + length body)) bodies
+abbrev pub state_after_records : StateValue → ℕ → List (List ℕ) → Result StateValue ℕ
+state_after_records state gate [] = Ok state
+state_after_records state gate (body ∷ bodies) =
+    or_fault gate (state_after_record state body) >>= λ next. state_after_records next (gate + (5 + length body)) bodies
 
 -- the head is empty, and names bank 1
-abbrev pub headed : List ℕ → Result (Unit {0}) Place
-headed [] = Ok tt
-headed (byte ∷ bytes) = Err (record { bank = 0; at = 0 })
+abbrev pub empty_head : List ℕ → Result (Unit {0}) Place
+empty_head [] = Ok tt
+empty_head (byte ∷ bytes) = Err (record { bank = 0; at = 0 })
 
 -- the checkpoint is that of the empty store
-abbrev pub begun : List ℕ → Result (Unit {0}) Place
-begun [] = Ok tt
-begun (byte ∷ bytes) = Err (record { bank = 1; at = 8 })
+abbrev pub empty_checkpoint : List ℕ → Result (Unit {0}) Place
+empty_checkpoint [] = Ok tt
+empty_checkpoint (byte ∷ bytes) = Err (record { bank = 1; at = 8 })
 
 abbrev pub in_bank : ℕ → Place
 in_bank at = record { bank = 1; at = at }
@@ -57,15 +57,15 @@ pub record Reading : Type 0 where
 
 -- the content of the bank that the head names, or the first place where head or bank are none
 abbrev pub content_in : List ℕ → List ℕ → Result BankContent Place
-content_in head bank1 = headed head >>= λ none. or_fault_as in_bank (bank_of bank1)
+content_in head bank1 = empty_head head >>= λ none. or_fault_as in_bank (bank_of bank1)
 
 -- what is read of them, or the first place where they are no store's: the bank as a whole comes first, then its
 -- checkpoint, then the records
 unfoldable pub read_of : Images → Result Reading Place
 read_of images = do
   content ← content_in images.head images.bank1
-  first ← begun content.checkpoint
-  state ← or_fault_as in_bank (replayed nothing_held 8 content.bodies)
+  first ← empty_checkpoint content.checkpoint
+  state ← or_fault_as in_bank (state_after_records nothing_held 8 content.bodies)
   Ok (record { state = state; used = gate_of content + 1 })
 
 -- ---- what they stand for
@@ -112,7 +112,7 @@ state_or_same state (Some next) = next
 abbrev pub most_steps_by : StateValue → List (List ℕ) → ℕ
 most_steps_by state [] = 0
 most_steps_by state (body ∷ bodies) =
-    most_steps_of state (command_in body) + most_steps_by (state_or_same state (recorded state body)) bodies
+    most_steps_of state (command_in body) + most_steps_by (state_or_same state (state_after_record state body)) bodies
 
 abbrev pub most_steps_in : Result BankContent ℕ → ℕ
 most_steps_in (Ok content) = most_steps_by nothing_held content.bodies

@@ -26,8 +26,8 @@ abbrev pub left_by : Held → List (List ℕ) → Holding
 left_by before files = record { held = unwrap_or (held_by files) before; files = files; chart = rebuilt files }
 
 -- the first files are kept, up to the one with this update number
-abbrev pub rolled_back : StateValue → List ℕ → ℕ → Result Outcome Refusal
-rolled_back state key number = do
+abbrev pub outcome_of_rollback : StateValue → List ℕ → ℕ → Result Outcome Refusal
+outcome_of_rollback state key number = do
   here ← or_fault (NoCell key) (map.get state.cells key)
   kept ← or_fault (NoUpdate key number) (kept_by key number here.files)
   Ok (record {
@@ -37,8 +37,8 @@ rolled_back state key number = do
   })
 
 -- the cell is taken away: the numbers are those that were held of it
-abbrev pub dropped : StateValue → List ℕ → Result Outcome Refusal
-dropped state key = do
+abbrev pub outcome_of_drop : StateValue → List ℕ → Result Outcome Refusal
+outcome_of_drop state key = do
   here ← or_fault (NoCell key) (map.get state.cells key)
   Ok (record { key = key; held = here.held; state = record { cells = map.remove state.cells key } })
 
@@ -47,8 +47,8 @@ dropped state key = do
 -- what is held once the command is accepted, or its first refusal, but for the room in the bank
 unfoldable pub outcome : StateValue → Command → Result Outcome Refusal
 outcome state (Load file) = loaded state file
-outcome state (Rollback key number) = rolled_back state key number
-outcome state (Drop key) = dropped state key
+outcome state (Rollback key number) = outcome_of_rollback state key number
+outcome state (Drop key) = outcome_of_drop state key
 
 -- the cell that a command speaks of
 abbrev pub IsKeyOf : Command → List ℕ → Type 0
@@ -76,8 +76,8 @@ pub record Room : Type 0 where
   pub other : Option ℕ
 
 -- what a command takes of it: its spelling, the length of that in four bytes, and a gate
-abbrev pub need : Command → ℕ
-need command = length (spelling command) + 5
+abbrev pub record_size : Command → ℕ
+record_size command = length (spelling command) + 5
 
 abbrev pub bank_within : ℕ → ℕ → Result (Unit {0}) Refusal
 bank_within used more = if nat_lt BANK_LIMIT (used + more) then Err (BankFull used more) else Ok tt
@@ -96,7 +96,7 @@ room_within room more = do
 unfoldable pub accepted : StateValue → Room → Command → Result Outcome Refusal
 accepted state room command = do
   done ← outcome state command
-  _ ← room_within room (need command)
+  _ ← room_within room (record_size command)
   Ok done
 
 -- ---- commands, one after the other

@@ -9,14 +9,14 @@ use Rattle.chart_store.specs.Next.{cells_with, CanStand}
 use Rattle.chart_store.specs.Taken.{chart_of}
 
 -- what is held once it is put in place
-abbrev pub finished : StateValue → Prepared → StateValue
-finished state (New key bytes) = state
-finished state (Known key holding bytes) = record { cells = cells_with state.cells key holding }
+abbrev pub with_prepared : StateValue → Prepared → StateValue
+with_prepared state (New key bytes) = state
+with_prepared state (Known key holding bytes) = record { cells = cells_with state.cells key holding }
 
 -- what is held once it is given up
-abbrev pub withdrawn : StateValue → Prepared → StateValue
-withdrawn state (New key bytes) = record { cells = map.remove state.cells key }
-withdrawn state (Known key holding bytes) = state
+abbrev pub without_prepared : StateValue → Prepared → StateValue
+without_prepared state (New key bytes) = record { cells = map.remove state.cells key }
+without_prepared state (Known key holding bytes) = state
 
 -- it can be put in place, and given up, without memory
 abbrev pub IsPrepared : StateValue → Prepared → Type 0

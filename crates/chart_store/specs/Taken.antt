@@ -54,17 +54,17 @@ abbrev pub cell_by : Option Holding → Effect → Header → Option CellValue �
 cell_by before effect header chart file = cell_after before effect (held_after before effect header) chart file
 
 -- what is held once a data set and its file are put in, as they were judged
-abbrev pub placed : StateValue → DatasetValue → List ℕ → Option Holding → Effect → Result StateValue Refusal
-placed state dataset file before effect = do
+abbrev pub state_by_effect : StateValue → DatasetValue → List ℕ → Option Holding → Effect → Result StateValue Refusal
+state_by_effect state dataset file before effect = do
   chart ← chart_after (chart_of before) effect dataset
   store_within (map.insert state.cells dataset.header.key (cell_by before effect dataset.header chart file))
 
 -- a data set and its file
-abbrev pub taken : StateValue → DatasetValue → List ℕ → Option Holding → Result Outcome Refusal
-taken state dataset file before = do
+abbrev pub outcome_of_data_set : StateValue → DatasetValue → List ℕ → Option Holding → Result Outcome Refusal
+outcome_of_data_set state dataset file before = do
   effect ← or_fault_as refusal_of_sequence (judged (held_of before) dataset)
   _ ← cells_within state.cells dataset.header.key
-  after ← placed state dataset file before effect
+  after ← state_by_effect state dataset file before effect
   Ok (record { key = dataset.header.key; held = held_after before effect dataset.header; state = after })
 
 -- the bytes of the live files that a file replaces

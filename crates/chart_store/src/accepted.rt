@@ -1,4 +1,6 @@
 //! What an accepted command did to a store.
+//!
+//! It is told once the command is on the disk, and names what has to be drawn anew.
 
 use chart_model::{Cell, Held, Key, NameList};
 

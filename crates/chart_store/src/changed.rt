@@ -1,4 +1,6 @@
 //! The names whose records a file changes.
+//!
+//! For an update they are found among its changes, without a look at the rest of the chart.
 
 ghost use Rattle.std.specs.Prelude.{◌≡◌, Ok, Some, map, IfOk};
 ghost use Rattle.std.specs.Option.{option_copied};

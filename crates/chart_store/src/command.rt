@@ -1,4 +1,6 @@
 //! Commands that are given.
+//!
+//! Each is worked out aside, and put in place in one step that cannot be refused.
 
 ghost use Rattle.std.specs.Prelude.{◌≡◌, ◌≢◌, ◌+◌, ◌≤◌, List, ℕ, Err, IfOk, OnErr};
 ghost use Rattle.std.specs.FinMap as map;
@@ -6,7 +8,7 @@ ghost use Rattle.chart_model.specs.declared.command.Command.TheVariants.{Load};
 ghost use Rattle.chart_difference.specs.Difference.{AreChanged};
 ghost use Rattle.chart_store.specs.Loaded.{loaded, GivesLoaded, come_to};
 ghost use Rattle.chart_store.specs.Next.{IsNext, GivesNext};
-ghost use Rattle.chart_store.specs.Outcome.{outcome, dropped, most_steps};
+ghost use Rattle.chart_store.specs.Outcome.{most_steps, outcome, outcome_of_drop};
 ghost use Rattle.chart_store.specs.Taken.{chart_of};
 ghost use Rattle.chart_store.specs.declared.next.Naming.TheVariants as Naming;
 
@@ -30,7 +32,7 @@ fn next_of_drop(
     key: Key,
     naming: Naming,
 ) -> Result<Next, TakeFault>
-    ensures after { GivesNext result live.now (dropped live.now key) }
+    ensures after { GivesNext result live.now (outcome_of_drop live.now key) }
     ensures stands { IfOk result (IsNext live.now) }
     ensures changed { naming ≡ Naming.Named → IfOk result (λ next.
         AreChanged (chart_of (map.get live.now.cells next.key)) (chart_of next.holding) next.changed) }

@@ -1,4 +1,6 @@
 //! What is held of one cell.
+//!
+//! A cell that is not held has no numbers, no chart and no files, and is asked in the same way.
 
 ghost use Rattle.std.specs.Prelude.{◌≡◌, IfOk, IsSome, IsOk, OnOk, OnErr};
 ghost use Rattle.std.specs.Option.{option_copied};

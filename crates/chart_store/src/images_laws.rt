@@ -1,4 +1,6 @@
 //! What holds of a store's files.
+//!
+//! What the session says of a crash is made of these.
 
 ghost use Rattle.std.specs.Prelude.{◌≡◌, ℕ, Ok};
 ghost use Rattle.chart_model.specs.State.{StateValue};

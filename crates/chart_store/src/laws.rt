@@ -1,4 +1,7 @@
 //! Laws of the definitions.
+//!
+//! What is held follows from the live files alone, so that a chart can be trusted without a look at
+//! how it came to be.
 
 ghost use Rattle.std.specs.Prelude.{◌≡◌, ◌≢◌, ℕ, List, [], ◌∷◌, ◌++◌, Some, None, Ok, Err};
 ghost use Rattle.std.specs.FinMap as map;

@@ -1,4 +1,7 @@
 //! Files that are loaded.
+//!
+//! Refusals are found in the order in which they are told: the cheap ones, by length and numbers,
+//! before a chart is built.
 
 ghost use Rattle.std.specs.Prelude.{◌≡◌, ◌≢◌, ◌+◌, ◌-◌, ◌≤◌, Ok, Err, length, IfOk, IfSome};
 ghost use Rattle.std.specs.Option.{option_copied};
@@ -10,7 +13,8 @@ ghost use Rattle.chart_difference.specs.Difference.{AreChanged};
 ghost use Rattle.chart_store.specs.Loaded.{loaded, bytes_of, files_of, live_bytes, store_within, come_to};
 ghost use Rattle.chart_store.specs.Live.{IsLive, AreLive};
 ghost use Rattle.chart_store.specs.Next.{IsNext, GivesNext, GivesNextState};
-ghost use Rattle.chart_store.specs.Taken.{held_of, chart_of, held_after, cell_after, replaced_bytes, placed, taken};
+ghost use Rattle.chart_store.specs.Taken.{held_of, chart_of, held_after, cell_after, outcome_of_data_set};
+ghost use Rattle.chart_store.specs.Taken.{replaced_bytes, state_by_effect};
 ghost use Rattle.chart_store.specs.declared.next.Naming.TheVariants as Naming;
 
 use crate::fault::TakeFault;
@@ -118,7 +122,7 @@ fn with_file(
 
 /// What is held once a data set and its file are taken over, as they were judged: by the effect and the numbers that
 /// are held then.
-fn placed(
+fn next_by_effect(
     alloc: Global,
     live: &LiveCells,
     dataset: Dataset,
@@ -133,7 +137,7 @@ fn placed(
     requires judged { judged (held_of (map.get live.now.cells dataset.header.key)) dataset ≡ Ok effect }
     requires held { held ≡ held_after (map.get live.now.cells dataset.header.key) effect dataset.header }
     ensures after { GivesNextState result live.now
-        (placed live.now dataset file (map.get live.now.cells dataset.header.key) effect) }
+        (state_by_effect live.now dataset file (map.get live.now.cells dataset.header.key) effect) }
     ensures stands { IfOk result (IsNext live.now) }
     ensures key { IfOk result (λ next. next.key ≡ dataset.header.key) }
     ensures held { IfOk result (λ next. next.held ≡ held) }
@@ -161,7 +165,7 @@ fn next_of_data_set(
     requires reads { data_set_in file ≡ Ok dataset }
     requires short { IsFileLength (length file) }
     ensures after { GivesNext result live.now
-        (taken live.now dataset file (map.get live.now.cells dataset.header.key)) }
+        (outcome_of_data_set live.now dataset file (map.get live.now.cells dataset.header.key)) }
     ensures stands { IfOk result (IsNext live.now) }
     ensures changed { naming ≡ Naming.Named → IfOk result (λ next.
         AreChanged (chart_of (map.get live.now.cells next.key)) (chart_of next.holding) next.changed) }
@@ -174,7 +178,7 @@ fn next_of_data_set(
     if live.is_full_for(key) {
         return Err(TakeFault::Refused(Refusal::CellsFull(CELLS_LIMIT)));
     }
-    placed(alloc, live, dataset, file, effect, held, naming)
+    next_by_effect(alloc, live, dataset, file, effect, held, naming)
 }
 
 /// What is held once a file is loaded. Each data record that is come to is a step.

@@ -1,4 +1,6 @@
 //! What a data set makes of its cell.
+//!
+//! A base file is used up for its chart, and an update is not: so each has its own way.
 
 ghost use Rattle.std.specs.Prelude.{◌≡◌, Ok, None, IfOk};
 ghost use Rattle.std.specs.Option.{option_copied};

@@ -1,4 +1,7 @@
 //! A store opened.
+//!
+//! Its files are brought to the disk before they are read, so that a crash cannot leave other files
+//! than those that were read.
 
 ghost use Rattle.std.specs.Prelude.{◌≡◌, ◌<◌, ◌≤◌, ◌+◌, ℕ, [], true, Ok};
 ghost use Rattle.std.specs.Prelude.{Err, IfOk, IfErr, IsErrOf, IsTrue, OnOk, length};
@@ -11,7 +14,7 @@ ghost use Rattle.chart_ports.specs.Count.{HasCause};
 ghost use Rattle.chart_ports.specs.Disk.{LeavesNoMoreOfOthers, LeavesNoMore, Only, SameFiles, SameOthers};
 ghost use Rattle.chart_ports.specs.Moments.{LeavesOnly, images_of};
 ghost use Rattle.chart_store.specs.declared.open_fault.OpenFault.TheVariants.{DeskFault};
-ghost use Rattle.chart_store.specs.Images.{begun, content_in, headed, most_steps_in, read_of};
+ghost use Rattle.chart_store.specs.Images.{content_in, empty_checkpoint, empty_head, most_steps_in, read_of};
 ghost use Rattle.chart_store.specs.Opened.{ForeignHas};
 ghost use Rattle.chart_store.specs.Store.{IsKept, LeavesBefore, LeavesReading, count_of, is_sound, state_of, used_of};
 
@@ -51,7 +54,8 @@ fn sync_files<D: Desk>(desk: &mut D) -> Result<(), Failed>
 /// Brings each file to the disk, and sees that the head is empty.
 fn open_head<D: Desk>(desk: &mut D) -> Result<(), OpenFault>
     ensures head { IsTrue D.tells → OnOk result (D.contents desk.old 0 ≡ []) }
-    ensures foreign { IsTrue D.tells → IfErr result (ForeignHas (λ place. headed (D.contents desk.old 0) ≡ Err place)) }
+    ensures foreign { IsTrue D.tells → IfErr result (ForeignHas (λ place.
+        empty_head (D.contents desk.old 0) ≡ Err place)) }
     ensures settled { IsTrue D.tells → OnOk result ((file : ℕ) → file ≤ 2 →
         Only (D.contents desk.new file) (D.may_leave desk.new file)) }
     ensures files { IsTrue D.tells → OnOk result (SameFiles (D.contents desk.old) (D.contents desk.new)) }
@@ -103,7 +107,7 @@ fn open_current<D: Desk>(alloc: Global, desk: &mut D) -> Result<(Bank, BankConte
 /// Sees that a checkpoint is that of the empty store.
 fn open_checkpoint(checkpoint: &Octets) -> Result<(), OpenFault>
     ensures first { OnOk result (checkpoint.now ≡ []) }
-    ensures foreign { IfErr result (ForeignHas (λ place. begun checkpoint.now ≡ Err place)) }
+    ensures foreign { IfErr result (ForeignHas (λ place. empty_checkpoint checkpoint.now ≡ Err place)) }
     ensures no_desk { ¬ IsErrOf result DeskFault }
 {
     if !checkpoint.as_slice().is_empty() {

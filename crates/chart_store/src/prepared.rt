@@ -6,7 +6,7 @@
 ghost use Rattle.std.specs.Prelude.{◌≡◌, IfOk, IsSome, OnErr};
 ghost use Rattle.std.specs.FinMap as map;
 ghost use Rattle.chart_store.specs.Next.{cells_with, CanStand};
-ghost use Rattle.chart_store.specs.Prepared.{chart_before, finished, withdrawn, IsPrepared};
+ghost use Rattle.chart_store.specs.Prepared.{IsPrepared, chart_before, with_prepared, without_prepared};
 ghost use Rattle.chart_store.specs.Taken.{chart_of};
 
 use crate::live::LiveCells;
@@ -33,8 +33,8 @@ impl LiveCells {
         requires { CanStand self.old.cells key holding bytes }
         ensures prepared { IfOk result (IsPrepared self.new) }
         ensures finished { IfOk result (λ prepared.
-            finished self.new prepared ≡ record { cells = cells_with self.old.cells key holding }) }
-        ensures withdrawn { IfOk result (λ prepared. withdrawn self.new prepared ≡ self.old) }
+            with_prepared self.new prepared ≡ record { cells = cells_with self.old.cells key holding }) }
+        ensures withdrawn { IfOk result (λ prepared. without_prepared self.new prepared ≡ self.old) }
         ensures chart { IfOk result (λ prepared. chart_before self.new prepared
             ≡ chart_of (map.get self.old.cells key)) }
         ensures err { OnErr result (self.new ≡ self.old) }
@@ -50,7 +50,7 @@ impl LiveCells {
     /// Puts a cell in place, and gives the chart before.
     pub(crate) fn finish(&mut self, prepared: Prepared) -> Option<Cell>
         requires { IsPrepared self.old prepared }
-        ensures state { self.new ≡ finished self.old prepared }
+        ensures state { self.new ≡ with_prepared self.old prepared }
         ensures before { result ≡ chart_before self.old prepared }
     {
         match prepared {
@@ -62,7 +62,7 @@ impl LiveCells {
     /// Gives up to put a cell in place.
     pub(crate) fn withdraw(&mut self, prepared: Prepared)
         requires { IsPrepared self.old prepared }
-        ensures { self.new ≡ withdrawn self.old prepared }
+        ensures { self.new ≡ without_prepared self.old prepared }
     {
         if let Prepared::New(key, bytes) = prepared {
             self.replace(key, None, bytes);

@@ -1,11 +1,13 @@
 //! The record that a command is kept as.
+//!
+//! It is made before the disk is touched, so that nothing but the desk can fail from then on.
 
 ghost use Rattle.std.specs.Prelude.{◌≡◌, IfOk, IfErr, IsErrOf, OnOk, length};
 ghost use Rattle.bank_journal.specs.Bank.{frame_of, IsBodyLength};
 ghost use Rattle.command_codec.specs.Spelling.{spelling, Spells};
 ghost use Rattle.chart_store.specs.declared.submit_fault.SubmitFault.TheVariants.{DeskFault};
 ghost use Rattle.chart_store.specs.declared.refusal.Refusal.TheVariants.{FileLong};
-ghost use Rattle.chart_store.specs.Outcome.{need};
+ghost use Rattle.chart_store.specs.Outcome.{record_size};
 ghost use Rattle.chart_store.specs.Submitted.{IsTooLong, RefusedHas};
 
 use crate::load::FILE_LIMIT;
@@ -23,7 +25,7 @@ use std::alloc::Global;
 /// The command is refused where it loads a file that has too many bytes to be kept; `NoMemory`.
 pub(crate) fn record_of(alloc: Global, command: &Command) -> Result<Framed, SubmitFault>
     ensures framed { IfOk result (λ framed. framed ≡ frame_of (spelling command.now)) }
-    ensures need { IfOk result (λ framed. length framed ≡ need command.now) }
+    ensures need { IfOk result (λ framed. length framed ≡ record_size command.now) }
     ensures spelled { OnOk result (Spells (spelling command.now) command.now) }
     ensures length { OnOk result (IsBodyLength (length (spelling command.now))) }
     ensures refused { IfErr result (RefusedHas (λ refusal.

@@ -1,11 +1,15 @@
 //! The commands of a bank, carried out again.
+//!
+//! A command that was accepted once is accepted again: one that is not shows that the bytes are
+//! foreign.
 
 ghost use Rattle.std.specs.Prelude.{◌≡◌, ◌+◌, ◌<◌, ◌≤◌, Ok, Err, Some, None, IfOk, IfErr, IsErrOf, OnOk, length};
 ghost use Rattle.std.specs.List.{sum_by};
 ghost use Rattle.chart_model.specs.Answers.{or_fault_as};
 ghost use Rattle.command_codec.specs.Reading.{command_in};
 ghost use Rattle.chart_store.specs.declared.open_fault.OpenFault.TheVariants.{DeskFault};
-ghost use Rattle.chart_store.specs.Images.{in_bank, most_steps_by, most_steps_of, recorded, replayed};
+ghost use Rattle.chart_store.specs.Images.{in_bank, most_steps_by, most_steps_of};
+ghost use Rattle.chart_store.specs.Images.{state_after_record, state_after_records};
 ghost use Rattle.chart_store.specs.Loaded.{nothing_held};
 ghost use Rattle.chart_store.specs.Opened.{ForeignHas};
 
@@ -37,9 +41,9 @@ fn replay_one<C: Ledger>(
     body: &[u8],
     steps: &mut Steps<C>,
 ) -> Result<(), OpenFault>
-    ensures recorded { OnOk result (recorded live.old body.now ≡ Some live.new) }
+    ensures recorded { OnOk result (state_after_record live.old body.now ≡ Some live.new) }
     ensures foreign { IfErr result (ForeignHas (λ place.
-        (place ≡ in_bank gate) × (recorded live.old body.now ≡ None))) }
+        (place ≡ in_bank gate) × (state_after_record live.old body.now ≡ None))) }
     ensures no_desk { ¬ IsErrOf result DeskFault }
     ensures at_most { steps.new ≤ steps.old + most_steps_of live.old (command_in body.now) }
 {
@@ -63,9 +67,9 @@ pub(crate) fn replay<C: Ledger>(
     steps: &mut Steps<C>,
 ) -> Result<LiveCells, OpenFault>
     requires { 8 + sum_by (λ body. 5 + length body) bodies.now < 9223372036854775808 }
-    ensures state { IfOk result (λ live. replayed nothing_held 8 bodies.now ≡ Ok live) }
+    ensures state { IfOk result (λ live. state_after_records nothing_held 8 bodies.now ≡ Ok live) }
     ensures foreign { IfErr result (ForeignHas (λ place.
-        or_fault_as in_bank (replayed nothing_held 8 bodies.now) ≡ Err place)) }
+        or_fault_as in_bank (state_after_records nothing_held 8 bodies.now) ≡ Err place)) }
     ensures no_desk { ¬ IsErrOf result DeskFault }
     ensures at_most { steps.new ≤ steps.old + most_steps_by nothing_held bodies.now }
 {

@@ -1,4 +1,6 @@
 //! Cells that are rolled back.
+//!
+//! The chart is built anew of the files that are kept, so that it is the one that they leave.
 
 ghost use Rattle.std.specs.Prelude.{◌≡◌, ◌+◌, ◌*◌, ◌≤◌, List, ℕ, Some, None, IfOk, IfSome, IfNone};
 ghost use Rattle.std.specs.FinMap as map;
@@ -8,7 +10,7 @@ ghost use Rattle.chart_difference.specs.Difference.{AreChanged};
 ghost use Rattle.chart_store.specs.KeptFiles.{kept_by};
 ghost use Rattle.chart_store.specs.Loaded.{files_of};
 ghost use Rattle.chart_store.specs.Next.{IsNext, GivesNext};
-ghost use Rattle.chart_store.specs.Outcome.{rolled_back};
+ghost use Rattle.chart_store.specs.Outcome.{outcome_of_rollback};
 ghost use Rattle.chart_store.specs.Taken.{chart_of};
 ghost use Rattle.chart_store.specs.declared.next.Naming.TheVariants as Naming;
 
@@ -115,7 +117,7 @@ pub(crate) fn next_of_rollback<C: Ledger>(
     naming: Naming,
     steps: &mut Steps<C>,
 ) -> Result<Next, TakeFault>
-    ensures after { GivesNext result live.now (rolled_back live.now key number) }
+    ensures after { GivesNext result live.now (outcome_of_rollback live.now key number) }
     ensures stands { IfOk result (IsNext live.now) }
     ensures changed { naming ≡ Naming.Named → IfOk result (λ next.
         AreChanged (chart_of (map.get live.now.cells next.key)) (chart_of next.holding) next.changed) }

@@ -41,7 +41,7 @@ impl Store {
     ghost use Rattle.chart_store.specs.Images.{StandFor};
     ghost use Rattle.chart_store.specs.Live.{AreLive, state_or};
     ghost use Rattle.chart_store.specs.Loaded.{come_to};
-    ghost use Rattle.chart_store.specs.Outcome.{accepted, most_steps, need};
+    ghost use Rattle.chart_store.specs.Outcome.{accepted, most_steps, record_size};
     ghost use Rattle.chart_store.specs.Store.{IsKept, StandsForEither, bank_in, count_of};
     ghost use Rattle.chart_store.specs.Store.{is_sound, room_of, state_of, used_of};
     ghost use Rattle.chart_store.specs.Submitted.{GivesAccepted};
@@ -109,7 +109,7 @@ impl Store {
             (chart_of (map.get (state_of self.new).cells done.key)) done.changed) }
         ensures old { IfOk result (λ done. done.old ≡ chart_of (map.get (state_of self.old).cells done.key)) }
         ensures count { IfOk result (λ done. (done.count ≡ count_of self.old + 1) × (count_of self.new ≡ done.count)) }
-        ensures used { OnOk result (used_of self.new ≡ used_of self.old + need command) }
+        ensures used { OnOk result (used_of self.new ≡ used_of self.old + record_size command) }
 
         // A refusal and want of memory change nothing; a fault of the desk leaves what is held, and ends the store.
         ensures unchanged { result ≢ Err DeskFault → OnErr result ((self.new ≡ self.old) × (desk.new ≡ desk.old)) }

@@ -1,4 +1,6 @@
 //! What an accepted command did.
+//!
+//! It is what `LiveCells` tells by itself; a store tells it with its count of commands.
 
 use chart_model::{Cell, Held, Key, NameList};
 

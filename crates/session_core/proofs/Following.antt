@@ -11,7 +11,7 @@ use Rattle.chart_store.specs.declared.refusal.Refusal as of_store
 use Rattle.chart_store.specs.declared.refusal.Refusal.TheVariants as refuses
 use Rattle.chart_store.specs.Live.{AreLive, state_or}
 use Rattle.chart_store.specs.Loaded.{FILE_LIMIT, Outcome}
-use Rattle.chart_store.specs.Outcome.{Room, accepted, need, outcome, room_within, state_with}
+use Rattle.chart_store.specs.Outcome.{Room, accepted, record_size, outcome, room_within, state_with}
 use Rattle.chart_store.specs.Fault.{or_refused}
 use Rattle.chart_store.specs.Refusal.{refusal_of_read}
 use Rattle.script_reader.specs.declared.event.Event.{Event}
@@ -61,7 +61,7 @@ accepted-leaves : (state : StateValue) (room : Room) (command : Command) (done :
     → done.state ≡ state_with state command
 unfolding accepted
 accepted-leaves state room command done e =
-    sym (ap (state_or state) (by_outcome (outcome state command) (room_within room (need command)) done e))
+    sym (ap (state_or state) (by_outcome (outcome state command) (room_within room (record_size command)) done e))
 
 module _ (model : Model) (own : Command) (reply : Outcome → Reply) where
   decided-none : (r : Result Outcome of_store.Refusal) → (decision_turn model own reply r).command ≡ None

@@ -4,7 +4,7 @@ use Rattle.std.specs.Option.{option_map}
 use Rattle.chart_model.specs.State.{StateValue}
 use Rattle.chart_model.specs.declared.command.Command.{Command}
 use Rattle.chart_model.specs.declared.settings.Settings.{Settings}
-use Rattle.chart_store.specs.Outcome.{Room, need}
+use Rattle.chart_store.specs.Outcome.{Room, record_size}
 use Rattle.lookup_table.specs.declared.line.TableLine.{TableLine}
 
 -- by what cells are drawn: the lines of the lookup table, and what the mariner set
@@ -23,8 +23,10 @@ pub record Model : Type 0 where
 
 -- the room once a command is in the journal
 abbrev pub room_with : Room → Command → Room
-room_with room command =
-    record { used = room.used + need command; other = option_map (λ used. used + need command) room.other }
+room_with room command = record {
+  used = room.used + record_size command;
+  other = option_map (λ used. used + record_size command) room.other;
+}
 
 -- the model once a command has left this behind
 abbrev pub model_with : Model → Command → StateValue → Model

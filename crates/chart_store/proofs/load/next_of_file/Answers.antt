@@ -4,7 +4,7 @@ use Rattle.update_sequence.specs.Reading.{data_set_in}
 use Rattle.chart_store.specs.Loaded.{Outcome, FILE_LIMIT}
 use Rattle.chart_store.specs.Next.{GivesNext}
 use Rattle.chart_store.specs.declared.refusal.Refusal.{Refusal}
-use Rattle.chart_store.proofs.Accepting.{loaded-taken}
+use Rattle.chart_store.proofs.Accepting.{loaded-data_set}
 use Rattle.chart_store.proofs.Loading.{Laws}
 use Rattle.chart_store.proofs.load.next_of_file.Goals as goal
 
@@ -16,5 +16,6 @@ returns-clause-after g c =
     let reads : data_set_in c.args.file ≡ Ok c.in_ok-dataset.dataset =
     ap data_set_in (sym c.as_slice-2.ensures) ∙ c.in_ok-dataset.ensures.exact in
     subst (λ (wanted : Result Outcome Refusal). GivesNext c.next_of_data_set.result c.args.live.now wanted) (sym
-    (loaded-taken laws c.args.live.now c.args.file c.in_ok-dataset.dataset c.next_of_data_set.ensures.live short reads))
+    (loaded-data_set laws c.args.live.now c.args.file c.in_ok-dataset.dataset
+    c.next_of_data_set.ensures.live short reads))
     c.next_of_data_set.ensures.after

@@ -5,7 +5,7 @@ use Rattle.chart_ports.specs.Moments.{images_of}
 use Rattle.bank_journal.specs.declared.bank.Bank.{Bank}
 use Rattle.bank_journal.specs.Handle.{file_of, place_of}
 use Rattle.bank_journal.specs.Moments.{IsInStep}
-use Rattle.chart_store.specs.Images.{begun, content_in, in_bank, read_of, replayed}
+use Rattle.chart_store.specs.Images.{empty_checkpoint, content_in, in_bank, read_of, state_after_records}
 use Rattle.chart_store.specs.Loaded.{nothing_held}
 use Rattle.chart_store.specs.Store.{state_of}
 use Rattle.chart_store.proofs.FilesLeft.{content_left}
@@ -27,7 +27,7 @@ returns-in_err-open_checkpoint-clause-foreign g c = λ tells.
     let content = c.in_ok-bank.content in
     let exit = c.from_residual-in_err-open_checkpoint in
     let p = err_from_is_err_and exit.result exit.ensures.1 in
-    rw (p.1, p.2) (foreign_leads (λ place. begun content.checkpoint ≡ Err place)
+    rw (p.1, p.2) (foreign_leads (λ place. empty_checkpoint content.checkpoint ≡ Err place)
     (λ place. read_of (images_of contents) ≡ Err place)
     (λ place. not_begun (images_of contents) content place
     (content_behind (contents 0) (contents 1) content (c.in_ok-bank.ensures.head tells)
@@ -40,7 +40,7 @@ returns-in_err-live-clause-foreign g c = λ tells.
     let content = c.in_ok-bank.content in
     let p = err_from_is_err_and c.from_residual-in_err-live.result c.from_residual-in_err-live.ensures.1 in
     rw (p.1, p.2) (foreign_leads
-    (λ place. or_fault_as in_bank (replayed nothing_held 8 content.bodies) ≡ Err place)
+    (λ place. or_fault_as in_bank (state_after_records nothing_held 8 content.bodies) ≡ Err place)
     (λ place. read_of (images_of contents) ≡ Err place)
     (λ place. not_carried (images_of contents) content place
     (content_behind (contents 0) (contents 1) content (c.in_ok-bank.ensures.head tells)

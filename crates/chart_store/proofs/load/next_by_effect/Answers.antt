@@ -5,8 +5,8 @@ use Rattle.chart_difference.specs.Difference.{AreChanged}
 use Rattle.chart_model.specs.Cell.{CellValue}
 use Rattle.chart_store.specs.Taken.{chart_after, MayBuild}
 use Rattle.chart_store.proofs.Loading.{Laws}
-use Rattle.chart_store.proofs.Placing.{Holds, may-build, chart-found, live-by, placed-in, changed-in}
-use Rattle.chart_store.proofs.load.placed.Goals as goal
+use Rattle.chart_store.proofs.Placing.{Holds, may-build, chart-found, live-by, state_by_effect-in, changed-in}
+use Rattle.chart_store.proofs.load.next_by_effect.Goals as goal
 
 pub made_by-requires : goal.made_by-requires
 made_by-requires c =
@@ -28,7 +28,8 @@ with_file-requires-clause-live c =
     let builds = ap (λ (chart : Option CellValue). chart_after chart c.args.effect c.args.dataset) (sym found)
     ∙ c.in_ok-made.ensures.chart in
     let laws : Laws = record { none = c.one_file_more.ensures.none; follow = c.accepted_files_follow.ensures } in
-    live-by c.args.live.now c.args.dataset c.args.file c.args.effect c.in_ok-made.made.held c.in_ok-made.made.chart
+    live-by c.args.live.now c.args.dataset c.args.file c.args.effect c.in_ok-made.made.held
+    c.in_ok-made.made.chart
     c.key_of-key.result keyed (c.in_ok-made.ensures.held ∙ c.requires.held) builds laws c.requires.live c.requires.reads c.requires.short
     c.requires.judged
 
@@ -38,7 +39,8 @@ returns-clause-after c =
     let found = chart-found c.args.live.now.cells _ _ _ _ _ c.chart_of-before.ensures c.get.ensures c.cells.ensures.cells keyed in
     let builds = ap (λ (chart : Option CellValue). chart_after chart c.args.effect c.args.dataset) (sym found)
     ∙ c.in_ok-made.ensures.chart in
-    placed-in c.args.live.now c.args.dataset c.args.file c.args.effect c.in_ok-made.made.held c.in_ok-made.made.chart
+    state_by_effect-in c.args.live.now c.args.dataset c.args.file c.args.effect c.in_ok-made.made.held
+    c.in_ok-made.made.chart
     c.key_of-key.result keyed (c.in_ok-made.ensures.held ∙ c.requires.held) builds c.with_file.result c.with_file.ensures.after
 
 pub returns-clause-changed : goal.returns-clause-changed
