@@ -16,14 +16,14 @@ use Rattle.depth_symbology.specs.Soundings.{soundg02_of}
 use Rattle.hazard_symbology.specs.Hazard.{hazard_items}
 
 -- what a procedure draws of a feature
-abbrev pub called : CellValue → Settings → Feature → Procedure → List Item
-called cell settings feature Depare01 = depare01_of cell settings feature
-called cell settings feature Depcnt02 = depcnt02_of cell settings feature
-called cell settings feature Soundg02 = soundg02_of cell settings feature
-called cell settings feature Obstrn04 = hazard_items cell settings feature
-called cell settings feature Wrecks02 = hazard_items cell settings feature
+abbrev pub procedure_items : CellValue → Settings → Feature → Procedure → List Item
+procedure_items cell settings feature Depare01 = depare01_of cell settings feature
+procedure_items cell settings feature Depcnt02 = depcnt02_of cell settings feature
+procedure_items cell settings feature Soundg02 = soundg02_of cell settings feature
+procedure_items cell settings feature Obstrn04 = hazard_items cell settings feature
+procedure_items cell settings feature Wrecks02 = hazard_items cell settings feature
 
 -- what an instruction draws of it: itself, on the whole feature, or what its procedure makes of the feature
 abbrev pub items_by : CellValue → Settings → Feature → Instruction → List Item
 items_by cell settings feature (Draw text) = whole text ∷ []
-items_by cell settings feature (Call procedure) = called cell settings feature procedure
+items_by cell settings feature (Call procedure) = procedure_items cell settings feature procedure

@@ -1,4 +1,7 @@
 //! What is drawn of one feature.
+//!
+//! A block goes by the cell, the table, the settings and its feature alone, so it can be asked for without the rest of
+//! the drawing.
 
 ghost use Rattle.std.specs.Prelude.{◌≡◌, ◌↔◌, IfOk, IsSome};
 ghost use Rattle.std.specs.Option.{option_copied};

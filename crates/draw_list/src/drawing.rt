@@ -1,4 +1,6 @@
 //! The drawing of a cell.
+//!
+//! The blocks are made in the order of names and sorted once; the order is total, so there is one drawing.
 
 ghost use Rattle.std.specs.Prelude.{◌≡◌, ◌++◌, IfOk, OnOk};
 ghost use Rattle.chart_model.specs.Cell.{IsCell};

@@ -1,10 +1,12 @@
 //! What the instructions of a table draw of a feature.
+//!
+//! The depth areas of the cell are made for the first hazard and kept for the others: they take a walk over all areas.
 
 ghost use Rattle.std.specs.Prelude.{◌≡◌, ◌++◌, OnOk, IfOk};
 ghost use Rattle.std.specs.List.{flat_map};
 ghost use Rattle.depth_values.specs.Under.{areas_of};
 ghost use Rattle.hazard_symbology.specs.Hazard.{hazard_items};
-ghost use Rattle.draw_list.specs.Items.{called, items_by};
+ghost use Rattle.draw_list.specs.Items.{procedure_items, items_by};
 ghost use Rattle.draw_list.specs.Known.{AreKnown};
 
 use crate::sources::Sources;
@@ -67,7 +69,7 @@ fn push_called(
 ) -> Result<(), AllocError>
     requires { AreKnown from.now.cell.now known.old }
     ensures items { OnOk result
-        (items.new ≡ items.old ++ called from.now.cell.now from.now.settings.now feature.now procedure) }
+        (items.new ≡ items.old ++ procedure_items from.now.cell.now from.now.settings.now feature.now procedure) }
     ensures known { AreKnown from.now.cell.now known.new }
 {
     let Sources {

@@ -1,4 +1,6 @@
 //! What holds of drawings.
+//!
+//! A drawing is defined by its blocks and their order. That exactly one list is so is what makes that a definition.
 
 ghost use Rattle.std.specs.Prelude.{◌≡◌, List};
 ghost use Rattle.chart_model.specs.Cell.{CellValue, IsCell};

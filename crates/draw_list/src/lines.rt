@@ -1,4 +1,6 @@
 //! The lines of a whole drawing.
+//!
+//! They are counted on the way, since the reply that they follow has to say their number first.
 
 ghost use Rattle.std.specs.Prelude.{◌≡◌, ◌++◌, ◌+◌, ◌≤◌, OnOk, IfOk, length};
 ghost use Rattle.draw_list.specs.Lines.{items_in, block_lines, lines_of};
@@ -28,7 +30,8 @@ pub fn print_drawing(alloc: Global, drawing: &DrawList) -> Result<(u64, Octets),
     let mut lines = Octets::from_vec(Vec::new(alloc));
     for drawn in drawing.as_slice() {
         push_block(alloc, &mut lines, drawn)?;
-        // Each item has a byte at least among the lines, so the count can't pass their length.
+        // The length of a vector is known where it is read: each item has a byte at least among the lines, so the count
+        // can't overflow.
         let _ = lines.as_slice();
         count += drawn.block.items.as_slice().len() as u64;
     }

@@ -1,8 +1,10 @@
 //! The lines of a drawing.
+//!
+//! One item is one line, so that two drawings can be compared line by line.
 
 ghost use Rattle.std.specs.Prelude.{◌≡◌, ◌++◌, ◌∷◌, [], OnOk, OnErr, IfOk};
 ghost use Rattle.chart_model.specs.declared.drawing.Target.TheVariants.{Edge, At};
-ghost use Rattle.draw_list.specs.Print.{letter_of, target_text, printed};
+ghost use Rattle.draw_list.specs.Print.{letter_of, target_text, item_line};
 
 use chart_model::{Block, Geom, Item, Octets, Target};
 use std::alloc::{AllocError, Global};
@@ -59,7 +61,7 @@ pub(crate) fn push_line(
     item: &Item,
 ) -> Result<(), AllocError>
     ensures { OnOk result
-        (out.new ≡ out.old ++ printed block.now.priority block.now.geom rcid item.now) }
+        (out.new ≡ out.old ++ item_line block.now.priority block.now.geom rcid item.now) }
 {
     out.extend_from_slice(b"item ")?;
     write_number(alloc, out, block.priority as i128)?;
@@ -82,7 +84,7 @@ pub fn print_item(
     item: &Item,
 ) -> Result<(), AllocError>
     ensures ok { OnOk result
-        (out.new ≡ out.old ++ printed block.now.priority block.now.geom rcid item.now) }
+        (out.new ≡ out.old ++ item_line block.now.priority block.now.geom rcid item.now) }
     ensures err { OnErr result (out.new ≡ out.old) }
 {
     let mut line = Octets::from_vec(Vec::new(alloc));

@@ -1,4 +1,6 @@
 //! What a drawing is made from.
+//!
+//! They are lent together, with the fact that the users are those of the cell, which no function need ask again.
 
 ghost use Rattle.topology_cache.specs.Users.{AreUsersOf};
 
