@@ -10,11 +10,11 @@ use Rattle.common_lemmas.proofs.Choices.{chosen, some_is}
 use Rattle.iso8211_formats.specs.declared.fault.DescriptorFault.TheVariants.{Bad}
 use Rattle.iso8211_formats.specs.declared.format.Format.{Format}
 use Rattle.iso8211_formats.specs.Layout.{Layout, IsLayout, IsFormat}
-use Rattle.iso8211_formats.specs.Grammar.{Spells, Item, IsItem, item_text, expanded, format_controls, array_descriptor}
-use Rattle.iso8211_formats.specs.Reading.{guarded, cut_at, before_end, items_text, formats_of, labels_of, layout_with, parts_of, descriptor_of}
+use Rattle.iso8211_formats.specs.Grammar.{Spells, Item, IsItem, item_text, item_formats, format_controls, array_descriptor}
+use Rattle.iso8211_formats.specs.Reading.{when, cut_at, before_end, items_text, formats_of, labels_of, layout_with, parts_of, descriptor_of}
 use Rattle.iso8211_formats.proofs.GivenValues.{bind_some, guarded_some}
 use Rattle.iso8211_formats.proofs.Cuts.{Lacks, cut_at_found, cut_at_again, before_end_found, before_end_again}
-use Rattle.iso8211_formats.proofs.Items.{items_of_found, items_of_again, slice_split-items, formats_expanded}
+use Rattle.iso8211_formats.proofs.Items.{items_of_found, items_of_again, slice_split-items, formats_of_items}
 use Rattle.iso8211_formats.proofs.LabelTexts.{IsArray, labels_of_found, labels_of_again, AreLabels-from_array, Lacks-array, AreFour-from_labels}
 
 -- ---- format controls
@@ -23,7 +23,7 @@ pub record AreControls (text : List ℕ) (formats : List Format) : Type 0 where
   pub items : List Item
   pub has_items : 1 ≤ length items
   pub each_item : AllByRecursion IsItem items
-  pub formats_are : formats ≡ expanded items
+  pub formats_are : formats ≡ item_formats items
   pub whole : text ≡ format_controls items ++ 30 ∷ []
 
 items_text_found : (text items : List ℕ) → items_text text ≡ Some items → text ≡ 40 ∷ (items ++ 41 ∷ 30 ∷ [])
@@ -55,7 +55,7 @@ formats_of_found text formats e =
       whole = items_text_found text b.0 b.1 ∙ ap (λ (t : List ℕ). 40 ∷ (t ++ 41 ∷ 30 ∷ [])) (sym joined) ∙ ap (λ (t : List ℕ). 40 ∷ t) (sym (append_assoc (join_with_byte 44 (map item_text f.0)) (41 ∷ []) (30 ∷ [])));
     }
 
-pub formats_of_again : (items : List Item) → 1 ≤ length items → AllByRecursion IsItem items → length (expanded items) ≤ 99999 → formats_of (format_controls items ++ 30 ∷ []) ≡ Some (expanded items)
+pub formats_of_again : (items : List Item) → 1 ≤ length items → AllByRecursion IsItem items → length (item_formats items) ≤ 99999 → formats_of (format_controls items ++ 30 ∷ []) ≡ Some (item_formats items)
 unfolding formats_of
 formats_of_again [] present each few = absurd (omega arith)
 formats_of_again (item ∷ items) present each few =
@@ -76,7 +76,7 @@ parts_spell field name rest array tail labels group formats layout long named na
       present = is_array.present;
       few = leb-true (length labels) 64 tests.0;
       as_many = eqb-true (length formats) (length labels) tests.1;
-      each = subst (λ (fs : List Format). AllByRecursion IsFormat fs) (sym are_controls.formats_are) (formats_expanded are_controls.items are_controls.each_item);
+      each = subst (λ (fs : List Format). AllByRecursion IsFormat fs) (sym are_controls.formats_are) (formats_of_items are_controls.items are_controls.each_item);
       begins = is_array.begins;
     } in
     let whole : field ≡ take 9 field ++ (name ++ 31 ∷ (array_descriptor group labels ++ 31 ∷ (format_controls are_controls.items ++ 30 ∷ []))) =
@@ -102,7 +102,7 @@ pub descriptor_of_found : (field : List ℕ) (layout : Layout) → descriptor_of
 unfolding descriptor_of parts_of
 descriptor_of_found field layout e =
     let a = bind_some (parts_of field) _ layout e in
-    let c = bind_some (guarded (leb 9 (length field)) (drop 9 field)) _ a.0 a.1 in
+    let c = bind_some (when (leb 9 (length field)) (drop 9 field)) _ a.0 a.1 in
     let checked = guarded_some (leb 9 (length field)) (drop 9 field) c.0 c.1 in
     let n = bind_some (cut_at 31 c.0) _ a.0 c.2 in
     let name = cut_at_found 31 c.0 n.0 n.1 in

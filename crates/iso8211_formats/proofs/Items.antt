@@ -11,8 +11,8 @@ use Rattle.common_lemmas.proofs.Digits.{test_from_AllDigits}
 use Rattle.iso8211_formats.specs.declared.format.Format.{Format}
 use Rattle.iso8211_formats.specs.declared.format.Format.TheVariants.{TextOpen, Text, Unsigned, Signed, Bits}
 use Rattle.iso8211_formats.specs.Layout.{IsFormat, IsWidth, IsBinarySize}
-use Rattle.iso8211_formats.specs.Grammar.{IsTextLetter, HasWidth, SpellsFormat, Item, IsItem, item_text, expanded}
-use Rattle.iso8211_formats.specs.Reading.{◌>>=◌, guarded, is_empty, cut_at, counting_number_of, count_of, digits_and_rest, is_text_letter, open_format, binary_format, format_with, sized_format, format_of, item_of, items_of}
+use Rattle.iso8211_formats.specs.Grammar.{IsTextLetter, HasWidth, SpellsFormat, Item, IsItem, item_text, item_formats}
+use Rattle.iso8211_formats.specs.Reading.{◌>>=◌, when, is_empty, cut_at, counting_number_of, count_of, digits_and_rest, is_text_letter, open_format, binary_format, format_with, sized_format, format_of, item_of, items_of}
 use Rattle.iso8211_formats.proofs.GivenValues.{bind_some, guarded_some}
 use Rattle.iso8211_formats.proofs.Cuts.{Lacks, Lacks-append, cut_at_found, cut_at_again}
 use Rattle.iso8211_formats.proofs.Numbers.{counting_number_of_found, counting_number_of_again, digits_and_rest_found, digits_and_rest_again, count_of_found, count_of_again, SpellsCount-digits, Lacks-digits}
@@ -62,10 +62,10 @@ size_found digit size test value =
 binary_format_found : (sign digit : ℕ) (format : Format) → binary_format sign digit ≡ Some format → IsSpelled (98 ∷ sign ∷ digit ∷ []) format
 unfolding binary_format
 binary_format_found sign digit format e =
-    let b = bind_some (guarded (eqb digit 49 || (eqb digit 50 || eqb digit 52)) (digit - 48)) _ format e in
+    let b = bind_some (when (eqb digit 49 || (eqb digit 50 || eqb digit 52)) (digit - 48)) _ format e in
     let g = guarded_some (eqb digit 49 || (eqb digit 50 || eqb digit 52)) (digit - 48) b.0 b.1 in
     let size = size_found digit b.0 g.0 g.1 in
-    elim (chosen (eqb sign 49) (Some (Unsigned b.0)) (guarded (eqb sign 50) (Signed b.0)) (Some format) b.2) [
+    elim (chosen (eqb sign 49) (Some (Unsigned b.0)) (when (eqb sign 50) (Signed b.0)) (Some format) b.2) [
       | inl h ↦
           let text_is : 98 ∷ sign ∷ digit ∷ [] ≡ codes "b1" ++ (48 + b.0) ∷ [] = ap (λ (s : ℕ). 98 ∷ s ∷ digit ∷ []) (eqb-true sign 49 h.0) ∙ ap (λ (d : ℕ). 98 ∷ 49 ∷ d ∷ []) size.1 in
           subst (λ (f : Format). IsSpelled (98 ∷ sign ∷ digit ∷ []) f) (some_is (Unsigned b.0) format h.1) (text_is, size.0)
@@ -81,7 +81,7 @@ format_with_found letter width inner digits format numbered whole e =
     let n = counting_number_of_found digits width numbered in
     let text_is : letter ∷ 40 ∷ inner ≡ letter ∷ 40 ∷ (digits ++ 41 ∷ []) = ap (λ (t : List ℕ). letter ∷ 40 ∷ t) whole in
     let has : HasWidth (letter ∷ 40 ∷ inner) letter width = record { digits = digits; numeral = n.0; value = n.1; whole = text_is } in
-    elim (chosen (is_text_letter letter) (Some (Text width)) (guarded (eqb letter 66 && eqb (width % 8) 0) (Bits width)) (Some format) e) [
+    elim (chosen (is_text_letter letter) (Some (Text width)) (when (eqb letter 66 && eqb (width % 8) 0) (Bits width)) (Some format) e) [
       | inl h ↦ subst (λ (f : Format). IsSpelled (letter ∷ 40 ∷ inner) f) (some_is (Text width) format h.1) ((letter, IsTextLetter-from_test letter h.0, has), (n.2, n.3))
       | inr h ↦
           let g = guarded_some (eqb letter 66 && eqb (width % 8) 0) (Bits width) format h.1 in
@@ -101,12 +101,12 @@ sized_format_found letter inner format e =
     let cut = bind_some (cut_at 41 inner) _ format e in
     let parts = cut.0 in
     let f = cut_at_found 41 inner parts cut.1 in
-    let g = bind_some (guarded (is_empty parts.1) parts.0) _ format cut.2 in
+    let g = bind_some (when (is_empty parts.1) parts.0) _ format cut.2 in
     let closed = guarded_some (is_empty parts.1) parts.0 g.0 g.1 in
     let whole : inner ≡ g.0 ++ 41 ∷ [] =
     f.0 ∙ ap (λ (t : List ℕ). parts.0 ++ 41 ∷ t) (is_empty_found parts.1 closed.0) ∙ ap (λ (t : List ℕ). t ++ 41 ∷ []) closed.1
     in
-    elim (chosen (is_empty g.0) (guarded (eqb letter 65) TextOpen) (counting_number_of g.0 >>= format_with letter) (Some format) g.2) [
+    elim (chosen (is_empty g.0) (when (eqb letter 65) TextOpen) (counting_number_of g.0 >>= format_with letter) (Some format) g.2) [
       | inl h ↦
           let t = guarded_some (eqb letter 65) TextOpen format h.1 in
           let a : letter ≡ 65 = eqb-true letter 65 t.0 in
@@ -124,10 +124,10 @@ format_of_found [] format e = absurd cc
 format_of_found (letter ∷ []) format e = open_format_found letter format e
 format_of_found (letter ∷ second ∷ []) format e = absurd cc
 format_of_found (letter ∷ second ∷ third ∷ rest) format e =
-    elim (chosen (eqb second 40) (sized_format letter (third ∷ rest)) (guarded (eqb letter 98 && is_empty rest) third >>= binary_format second) (Some format) e) [
+    elim (chosen (eqb second 40) (sized_format letter (third ∷ rest)) (when (eqb letter 98 && is_empty rest) third >>= binary_format second) (Some format) e) [
       | inl h ↦ rw (eqb-true second 40 h.0) (sized_format_found letter (third ∷ rest) format h.1)
       | inr h ↦
-          let b = bind_some (guarded (eqb letter 98 && is_empty rest) third) (binary_format second) format h.1 in
+          let b = bind_some (when (eqb letter 98 && is_empty rest) third) (binary_format second) format h.1 in
           let g = guarded_some (eqb letter 98 && is_empty rest) third b.0 b.1 in
           let tests = and_parts (eqb letter 98) (is_empty rest) g.0 in
           rw (eqb-true letter 98 tests.0, is_empty_found rest tests.1, g.1) (binary_format_found second b.0 format b.2)
@@ -234,7 +234,7 @@ pub item_text_lacks : (item : Item) → IsItem item → Lacks 44 (item_text item
 item_text_lacks item is =
     Lacks-append 44 item.count_text item.format_text (Lacks-digits 44 item.count_text refl (SpellsCount-digits item.count_text item.count is.counted)) (format_text_lacks item.format_text item.format is.spelled is.is_format)
 
-pub items_of_found : (texts : List (List ℕ)) (formats : List Format) → items_of texts ≡ Some formats → (items : List Item) × AllByRecursion IsItem items × (map item_text items ≡ texts) × (formats ≡ expanded items)
+pub items_of_found : (texts : List (List ℕ)) (formats : List Format) → items_of texts ≡ Some formats → (items : List Item) × AllByRecursion IsItem items × (map item_text items ≡ texts) × (formats ≡ item_formats items)
 unfolding items_of
 items_of_found [] formats e = ([], tt, refl, sym (some_is [] formats e))
 items_of_found (text ∷ texts) formats e =
@@ -244,11 +244,11 @@ items_of_found (text ∷ texts) formats e =
     let r = items_of_found texts rest.0 rest.1 in
     (f.0 ∷ r.0, (f.1, r.1), ap (λ (t : List ℕ). t ∷ map item_text r.0) f.2 ∙ ap (λ (ts : List (List ℕ)). text ∷ ts) r.2, sym (some_is (first.0 ++ rest.0) formats rest.2) ∙ ap (λ (fs : List Format). fs ++ rest.0) f.3 ∙ ap (λ (fs : List Format). replicate f.0.count f.0.format ++ fs) r.3)
 
-pub items_of_again : (items : List Item) → AllByRecursion IsItem items → length (expanded items) ≤ 99999 → items_of (map item_text items) ≡ Some (expanded items)
+pub items_of_again : (items : List Item) → AllByRecursion IsItem items → length (item_formats items) ≤ 99999 → items_of (map item_text items) ≡ Some (item_formats items)
 unfolding items_of
 items_of_again [] each few = refl
 items_of_again (item ∷ items) each few =
-    let parts : item.count + length (expanded items) ≤ 99999 = omega (arith, few, length-append (replicate item.count item.format) (expanded items), length-replicate item.count item.format) in
+    let parts : item.count + length (item_formats items) ≤ 99999 = omega (arith, few, length-append (replicate item.count item.format) (item_formats items), length-replicate item.count item.format) in
     rw (item_of_again item each.0 (omega arith), items_of_again items each.1 (omega arith)) refl
 
 -- the formats that stand in items are formats with their widths
@@ -260,9 +260,9 @@ formats_append : (xs ys : List Format) → AllByRecursion IsFormat xs → AllByR
 formats_append [] ys p q = q
 formats_append (x ∷ xs) ys p q = (p.0, formats_append xs ys p.1 q)
 
-pub formats_expanded : (items : List Item) → AllByRecursion IsItem items → AllByRecursion IsFormat (expanded items)
-formats_expanded [] each = tt
-formats_expanded (item ∷ items) each = formats_append (replicate item.count item.format) (expanded items) (formats_replicate item.count item.format each.0.is_format) (formats_expanded items each.1)
+pub formats_of_items : (items : List Item) → AllByRecursion IsItem items → AllByRecursion IsFormat (item_formats items)
+formats_of_items [] each = tt
+formats_of_items (item ∷ items) each = formats_append (replicate item.count item.format) (item_formats items) (formats_replicate item.count item.format each.0.is_format) (formats_of_items items each.1)
 
 -- ---- the texts of items, cut at their commas
 

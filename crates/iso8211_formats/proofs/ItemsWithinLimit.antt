@@ -5,7 +5,7 @@ use Rattle.std.specs.Prelude.{option_map}
 use Rattle.std.specs.List.{slice_split}
 use Rattle.common_lemmas.proofs.Choices.{chosen}
 use Rattle.iso8211_formats.specs.declared.format.Format.{Format}
-use Rattle.iso8211_formats.specs.Reading.{◌>>=◌, guarded, cut_at, item_of, items_of, at_most, behind}
+use Rattle.iso8211_formats.specs.Reading.{◌>>=◌, when, cut_at, item_of, items_of, at_most, behind}
 use Rattle.iso8211_formats.proofs.GivenValues.{guarded_some}
 use Rattle.iso8211_formats.proofs.Cuts.{Lacks, cut_at_found}
 use Rattle.iso8211_formats.proofs.Items.{onto_front, whole_part}
@@ -17,10 +17,10 @@ pub at_most-some : (most : ℕ) (formats : List Format) → length formats ≤ m
 unfolding at_most
 at_most-some most formats few = rw (le-leb (length formats) most few) refl
 
-over : (most : ℕ) (formats more : List Format) → guarded (leb (length formats) most) formats ≡ None → guarded (leb (length (formats ++ more)) most) (formats ++ more) ≡ None
+over : (most : ℕ) (formats more : List Format) → when (leb (length formats) most) formats ≡ None → when (leb (length (formats ++ more)) most) (formats ++ more) ≡ None
 over most formats more e =
     elim (cases_Bool (leb (length formats) most)) [
-      | inl h ↦ absurd (let e' : guarded true formats ≡ None = ap (λ (b : Bool). guarded b formats) (sym h) ∙ e in cc)
+      | inl h ↦ absurd (let e' : when true formats ≡ None = ap (λ (b : Bool). when b formats) (sym h) ∙ e in cc)
       | inr h ↦
           let long : leb (length (formats ++ more)) most ≡ false = lt-leb _ _ (omega (arith, leb-false _ _ h, length-append formats more)) in
           rw long refl
@@ -32,14 +32,14 @@ more_ok most formats new None rest e = absurd cc
 more_ok most formats new (Some f) None e = refl
 more_ok most formats new (Some f) (Some g) e =
     let made = guarded_some (leb (length (formats ++ f)) most) (formats ++ f) new e in
-    ap (λ (fs : List Format). guarded (leb (length fs) most) fs) (sym (append_assoc formats f g) ∙ ap (λ (fs : List Format). fs ++ g) made.1)
+    ap (λ (fs : List Format). when (leb (length fs) most) fs) (sym (append_assoc formats f g) ∙ ap (λ (fs : List Format). fs ++ g) made.1)
 
 more_bad : (most : ℕ) (formats : List Format) (first rest : Option (List Format)) → at_most most (behind formats first) ≡ None → at_most most (behind formats (both first rest)) ≡ None
 unfolding at_most behind
 more_bad most formats None rest e = refl
 more_bad most formats (Some f) None e = refl
 more_bad most formats (Some f) (Some g) e =
-    ap (λ (fs : List Format). guarded (leb (length fs) most) fs) (sym (append_assoc formats f g)) ∙ over most (formats ++ f) g e
+    ap (λ (fs : List Format). when (leb (length fs) most) fs) (sym (append_assoc formats f g)) ∙ over most (formats ++ f) g e
 
 slice_split-cut : (rest : List ℕ) (parts : List ℕ × List ℕ) → cut_at 44 rest ≡ Some parts → slice_split (λ b. eqb b 44) rest ≡ parts.0 ∷ slice_split (λ b. eqb b 44) parts.1
 slice_split-cut rest parts e =

@@ -3,7 +3,7 @@ use Rattle.std.proofs.Common.{◌≡◌, ℕ, suc, ◌+◌, ◌≤◌, Bool, tru
 use Rattle.std.specs.Prelude.{option_map}
 use Rattle.std.proofs.lemmas.Bool.{cases_Bool, eqb-true, eq-eqb, ne_eqb}
 use Rattle.common_lemmas.proofs.Choices.{chosen, map_some}
-use Rattle.iso8211_formats.specs.Reading.{guarded, plain_labels, grouped_labels, closed_label}
+use Rattle.iso8211_formats.specs.Reading.{when, plain_labels, grouped_labels, closed_label}
 
 pub plain_labels-more : (text : List ℕ) (parts : List ℕ × List ℕ) → closed_label text ≡ Some parts → plain_labels text ≡ option_map (λ labels. parts.0 ∷ labels) (plain_labels parts.1)
 unfolding closed_label plain_labels
@@ -20,7 +20,7 @@ plain_labels-more (a ∷ b ∷ c ∷ d ∷ x ∷ rest) parts e =
       | inr h ↦ absurd (let none = h.1 in cc)
     ]
 
-pub plain_labels-last : (text : List ℕ) → closed_label text ≡ None → plain_labels text ≡ guarded (eqb (length text) 4) (text ∷ [])
+pub plain_labels-last : (text : List ℕ) → closed_label text ≡ None → plain_labels text ≡ when (eqb (length text) 4) (text ∷ [])
 unfolding closed_label plain_labels
 plain_labels-last [] e = refl
 plain_labels-last (a ∷ []) e = refl
@@ -135,7 +135,7 @@ is_some-map f (Some x) = refl
 pub is_plain_next : (rest : List ℕ) (parts : List ℕ × List ℕ) → closed_label rest ≡ Some parts → is_some (plain_labels rest) ≡ is_some (plain_labels parts.1)
 is_plain_next rest parts e = ap is_some (plain_labels-more rest parts e) ∙ is_some-map (λ ls. parts.0 ∷ ls) (plain_labels parts.1)
 
-is_some-guarded : {A : Type 0} (b : Bool) (x : A) → is_some (guarded b x) ≡ b
+is_some-guarded : {A : Type 0} (b : Bool) (x : A) → is_some (when b x) ≡ b
 is_some-guarded true x = refl
 is_some-guarded false x = refl
 
@@ -144,4 +144,4 @@ is_plain_last rest e = ap is_some (plain_labels-last rest e) ∙ is_some-guarded
 
 pub plain_last : (labels : List (List ℕ)) (rest : List ℕ) (whole : Option (List (List ℕ))) → closed_label rest ≡ None → length rest ≡ 4 → pushed labels (plain_labels rest) ≡ whole → whole ≡ Some (labels ++ rest ∷ [])
 plain_last labels rest whole e four same =
-    sym same ∙ ap (pushed labels) (plain_labels-last rest e) ∙ ap (λ (b : Bool). pushed labels (guarded b (rest ∷ []))) (eq-eqb (length rest) 4 four)
+    sym same ∙ ap (pushed labels) (plain_labels-last rest e) ∙ ap (λ (b : Bool). pushed labels (when b (rest ∷ []))) (eq-eqb (length rest) 4 four)

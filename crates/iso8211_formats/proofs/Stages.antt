@@ -2,7 +2,7 @@
 use Rattle.std.proofs.Common.{◌≡◌, ℕ, ◌<◌, ◌≤◌, Bool, true, false, eqb, leb, List, length, Option, Some, None, refl, sym, ap, ◌∙◌, inl, inr, arith}
 use Rattle.std.proofs.lemmas.Bool.{leb-false, le-leb, lt-leb, eq-eqb, ne_eqb, and_right, cases_Bool}
 use Rattle.iso8211_formats.specs.declared.format.Format.{Format}
-use Rattle.iso8211_formats.specs.Reading.{◌>>=◌, guarded, parts_of, labels_of, formats_of, at_most, layout_with, descriptor_of}
+use Rattle.iso8211_formats.specs.Reading.{◌>>=◌, when, parts_of, labels_of, formats_of, at_most, layout_with, descriptor_of}
 use Rattle.iso8211_formats.proofs.GivenValues.{bind_some, guarded_some}
 use Rattle.iso8211_formats.proofs.LabelTexts.{length-labels_of}
 
@@ -53,7 +53,7 @@ over_limit : (most : ℕ) (formats : List Format) → at_most most (Some formats
 unfolding at_most
 over_limit most formats e =
     elim (cases_Bool (leb (length formats) most)) [
-      | inl h ↦ absurd (let e' : guarded true formats ≡ None = ap (λ (b : Bool). guarded b formats) (sym h) ∙ e in cc)
+      | inl h ↦ absurd (let e' : when true formats ≡ None = ap (λ (b : Bool). when b formats) (sym h) ∙ e in cc)
       | inr h ↦ leb-false _ _ h
     ]
 
@@ -65,7 +65,7 @@ no_formats field parts labels most e l few f =
 within_limit : (most : ℕ) (read : Option (List Format)) (formats : List Format) → at_most most read ≡ Some formats → read ≡ Some formats
 unfolding at_most
 within_limit most read formats e =
-    let b = bind_some read (λ (fs : List Format). guarded (leb (length fs) most) fs) formats e in
+    let b = bind_some read (λ (fs : List Format). when (leb (length fs) most) fs) formats e in
     b.1 ∙ ap (λ (fs : List Format). Some fs) (guarded_some (leb (length b.0) most) b.0 formats b.2).1
 
 pub not_as_many : (field : List ℕ) (parts : Parts) (labels : Labels) (most : ℕ) (formats : List Format) → parts_of field ≡ Some parts → labels_of parts.0 ≡ Some labels → at_most most (formats_of parts.1) ≡ Some formats → (length formats ≡ length labels.0 → ⊥) → descriptor_of field ≡ None

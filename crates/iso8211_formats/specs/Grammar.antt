@@ -76,8 +76,8 @@ abbrev pub format_controls : List Item → List ℕ
 format_controls items = 40 ∷ (join_with_byte 44 (map item_text items) ++ 41 ∷ [])
 
 -- each format as often as it counts
-abbrev pub expanded : List Item → List Format
-expanded items = flat_map (λ item. replicate item.count item.format) items
+abbrev pub item_formats : List Item → List Format
+item_formats items = flat_map (λ item. replicate item.count item.format) items
 
 -- the field is a spelling of the layout
 pub record Spells (layout : Layout) (field : List ℕ) : Type 0 where
@@ -90,7 +90,7 @@ pub record Spells (layout : Layout) (field : List ℕ) : Type 0 where
   pub labels : AllByRecursion IsLabel layout.labels
   pub has_items : 1 ≤ length items
   pub each_item : AllByRecursion IsItem items
-  pub formats : layout.formats ≡ expanded items
+  pub formats : layout.formats ≡ item_formats items
   pub whole :
       field ≡ controls ++ name ++ unit_terminator ∷ array_descriptor layout.repeats_from layout.labels
       ++ unit_terminator ∷ format_controls items ++ field_terminator ∷ []

@@ -20,9 +20,9 @@ abbrev pub is_empty : List ℕ → Bool
 is_empty [] = true
 is_empty (x ∷ xs) = false
 
--- x where the test passes
-abbrev pub guarded : {A : Type 0} → Bool → A → Option A
-guarded test x = if test then Some x else None
+-- x where it is so
+abbrev pub when : {A : Type 0} → Bool → A → Option A
+when so x = if so then Some x else None
 
 -- what stands before the first such byte, and what stands after it
 unfoldable pub cut_at : ℕ → List ℕ → Option (List ℕ × List ℕ)
@@ -35,7 +35,7 @@ cut_at byte (x ∷ xs) =
 -- the number from 1 to 99,999 that the digits write
 unfoldable pub counting_number_of : List ℕ → Option ℕ
 counting_number_of digits =
-    guarded (all_ascii_digits digits && (nat_lt 0 (digits_value 10 digits) && nat_lt (digits_value 10 digits) 100000))
+    when (all_ascii_digits digits && (nat_lt 0 (digits_value 10 digits) && nat_lt (digits_value 10 digits) 100000))
     (digits_value 10 digits)
 
 -- the digits at the front, and what follows them
@@ -56,25 +56,25 @@ is_text_letter letter = letter == 65 || (letter == 73 || letter == 82)
 
 -- `A`, `I` or `R`
 unfoldable pub open_format : ℕ → Option Format
-open_format letter = guarded (is_text_letter letter) TextOpen
+open_format letter = when (is_text_letter letter) TextOpen
 
 -- `b11` and its kin, without the `b`
 unfoldable pub binary_format : ℕ → ℕ → Option Format
 binary_format sign digit = do
-  size ← guarded (digit == 49 || (digit == 50 || digit == 52)) (digit - 48)
-  if sign == 49 then Some (Unsigned size) else guarded (sign == 50) (Signed size)
+  size ← when (digit == 49 || (digit == 50 || digit == 52)) (digit - 48)
+  if sign == 49 then Some (Unsigned size) else when (sign == 50) (Signed size)
 
 -- a letter with a width
 unfoldable pub format_with : ℕ → ℕ → Option Format
 format_with letter width =
-    if is_text_letter letter then Some (Text width) else guarded (letter == 66 && (width % 8 == 0)) (Bits width)
+    if is_text_letter letter then Some (Text width) else when (letter == 66 && (width % 8 == 0)) (Bits width)
 
 -- what stands behind a letter and `(`: `)`, which only `A` may have, or a width and `)`
 unfoldable pub sized_format : ℕ → List ℕ → Option Format
 sized_format letter inner = do
   parts ← cut_at 41 inner
-  digits ← guarded (is_empty parts.1) parts.0
-  if is_empty digits then guarded (letter == 65) TextOpen else (counting_number_of digits >>= format_with letter)
+  digits ← when (is_empty parts.1) parts.0
+  if is_empty digits then when (letter == 65) TextOpen else (counting_number_of digits >>= format_with letter)
 
 unfoldable pub format_of : List ℕ → Option Format
 format_of [] = None
@@ -82,7 +82,7 @@ format_of (letter ∷ []) = open_format letter
 format_of (letter ∷ second ∷ []) = None
 format_of (letter ∷ second ∷ third ∷ rest) =
     if second == 40 then sized_format letter (third ∷ rest)
-    else (guarded (letter == 98 && is_empty rest) third >>= binary_format second)
+    else (when (letter == 98 && is_empty rest) third >>= binary_format second)
 
 -- the format of an item, as often as it counts
 unfoldable pub item_of : List ℕ → Option (List Format)
@@ -102,7 +102,7 @@ items_of (text ∷ texts) = do
 unfoldable pub before_end : List ℕ → Option (List ℕ)
 before_end [] = None
 before_end (x ∷ []) = None
-before_end (x ∷ y ∷ []) = guarded (x == 41 && y == field_terminator) []
+before_end (x ∷ y ∷ []) = when (x == 41 && y == field_terminator) []
 before_end (x ∷ y ∷ z ∷ rest) = option_map (λ text. x ∷ text) (before_end (y ∷ z ∷ rest))
 
 -- the items of the format controls with the field terminator behind them, without the parentheses
@@ -151,14 +151,14 @@ labels_of text =
 -- as many formats as labels, of which there are at most 64
 unfoldable pub layout_with : List (List ℕ) × Option ℕ → List Format → Option Layout
 layout_with labels formats =
-    guarded (nat_le (length labels.0) 64 && (length formats == length labels.0))
+    when (nat_le (length labels.0) 64 && (length formats == length labels.0))
     (record { labels = labels.0; formats = formats; repeats_from = labels.1 })
 
 -- the array descriptor, and the format controls with the field terminator: they stand behind nine field controls
 -- and the name, with a unit terminator behind the name and one between them
 unfoldable pub parts_of : List ℕ → Option (List ℕ × List ℕ)
 parts_of field = do
-  named ← guarded (nat_le 9 (length field)) (drop 9 field)
+  named ← when (nat_le 9 (length field)) (drop 9 field)
   name ← cut_at unit_terminator named
   cut_at unit_terminator name.1
 
@@ -184,7 +184,7 @@ closed_label (a ∷ b ∷ c ∷ d ∷ e ∷ rest) = if e == 33 then Some (a ∷ 
 unfoldable pub at_most : ℕ → Option (List Format) → Option (List Format)
 at_most most read = do
   formats ← read
-  guarded (nat_le (length formats) most) formats
+  when (nat_le (length formats) most) formats
 
 -- what is read, behind what stands there already
 unfoldable pub behind : List Format → Option (List Format) → Option (List Format)

@@ -1,4 +1,6 @@
 //! What a descriptor says of its field.
+//!
+//! Labels and formats lie in place, so that reading a descriptor takes no memory.
 
 ghost use Rattle.std.specs.Prelude.{◌≡◌, length};
 ghost use Rattle.iso8211_formats.specs.Layout.{IsLayout};

@@ -1,4 +1,6 @@
 //! A data descriptive field.
+//!
+//! It is cut at its unit terminators here; `labels` and `format_controls` read the parts.
 
 ghost use Rattle.std.specs.Prelude.{◌≡◌, ◌↔◌, List, ℕ, option_map, IfOk, Some, Ok, Err};
 ghost use Rattle.std.specs.Option.{ok_or};

@@ -1,4 +1,6 @@
 //! How a subfield is spelled.
+//!
+//! The letters of texts (`A`, `I`, `R`) are one format: what a text says is told by its label, above this crate.
 
 use crate::descriptor::MOST_SUBFIELDS;
 use arrayvec::ArrayVec;
