@@ -40,8 +40,8 @@ pub(crate) fn number_in(text: &[u8]) -> Option<u32>
     }
 }
 
-/// What the bytes weigh, each ten times as much as the next. A number of a leader has five digits, and so have those of an
-/// entry in the files that are written here: five are summed without a loop.
+/// What the bytes weigh, each ten times as much as the next. A number of a leader has five digits, and so have those of
+/// an entry in the files that are written here: five are summed without a loop.
 fn sum_of(text: &[u8]) -> u64
     requires { length text.now ≤ 9 }
     ensures { result ≡ weight_sum 0 text.now }

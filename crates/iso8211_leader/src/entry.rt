@@ -1,4 +1,6 @@
 //! An entry of a directory.
+//!
+//! Its numbers stand as they were written: whether the field lies in its record is tested where that is known.
 
 /// An entry of a record's directory (ISO/IEC 8211, directory): where a field stands.
 #[derive(Clone, Copy, Debug)]

@@ -1,4 +1,6 @@
 //! What a leader says of its record.
+//!
+//! What holds of each leader that is read is kept with it, so that nobody tests it again.
 
 ghost use Rattle.std.specs.Prelude.{◌≤◌, ◌<◌};
 ghost use Rattle.std.specs.Int.{IsInRange};

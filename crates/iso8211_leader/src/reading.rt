@@ -21,9 +21,9 @@ const LEAST_BASE: u32 = 25;
 /// Reads the leader of the record at the place `at` of a file's bytes: of its data descriptive record
 /// where `first`, and else of a data record. It takes no memory.
 ///
-/// It looks at the record length (bytes 0 to 4), the leader identifier (6: `L` or `D`), the field control length (10 and
-/// 11: `09`, of a data descriptive record alone), the base address (12 to 16) and the entry map (20, 21, and 23: `4`),
-/// and at no other byte.
+/// It looks at the record length (bytes 0 to 4), the leader identifier (6: `L` or `D`), the field control length (10
+/// and 11: `09`, of a data descriptive record alone), the base address (12 to 16) and the entry map (20, 21, and 23:
+/// `4`), and at no other byte.
 ///
 /// # Errors
 ///
@@ -85,8 +85,8 @@ fn leader_in(text: &[u8], first: bool) -> Option<Leader>
     })
 }
 
-/// Whether the leader identifier, the field control length of a data descriptive record, and the size of a tag are those
-/// of the kind.
+/// Whether the leader identifier, the field control length of a data descriptive record, and the size of a tag are
+/// those of the kind.
 fn is_kind(text: &[u8], first: bool) -> bool
     requires { length text.now ≡ 24 }
     ensures { IsTrue result ↔ ((slice_index text.now 6 ≡ identifier first)
