@@ -11,7 +11,7 @@ use Rattle.iso8211_formats.specs.declared.format.Format.{Format}
 use Rattle.iso8211_formats.specs.declared.format.Format.TheVariants.{TextOpen, Text as TextOf, Unsigned, Signed, Bits as BitsOf}
 use Rattle.iso8211_records.specs.declared.value.Value.{Value}
 use Rattle.iso8211_records.specs.declared.value.Value.TheVariants.{Number, Text, Bits}
-use Rattle.iso8211_records.specs.Spelling.{IsNumberSize, IsTextByte, Spells, unsigned, signed}
+use Rattle.iso8211_records.specs.Spelling.{IsNumberSize, IsTextByte, Spells, unsigned_of, signed_of}
 use Rattle.iso8211_records.specs.Values.{front_at, number_size, is_terminator, open_text_at, value_at}
 use Rattle.iso8211_formats.proofs.GivenValues.{bind_some}
 use Rattle.iso8211_records.proofs.PassedTests.{both_parts, both}
@@ -151,15 +151,15 @@ value_at-found (TextOf width) bytes value rest h =
     let found = front_at-found width bytes p.0.0 p.0.1 p.1 in
     (p.0.0, found.parts ∙ ap (λ (l : List ℕ). p.0.0 ++ l) left, subst (λ (v : Value). Spells (TextOf width) v p.0.0) is (found.some, found.len, refl))
 value_at-found (Unsigned size) bytes value rest h =
-    let p = bind_some (front_at (number_size size) bytes) (λ number. Some (Number (pos (unsigned number.0)), number.1)) (value, rest) h in
-    let is : Number (pos (unsigned p.0.0)) ≡ value = grind arith in
+    let p = bind_some (front_at (number_size size) bytes) (λ number. Some (Number (pos (unsigned_of number.0)), number.1)) (value, rest) h in
+    let is : Number (pos (unsigned_of p.0.0)) ≡ value = grind arith in
     let left : p.0.1 ≡ rest = grind arith in
     let found = front_at-found (number_size size) bytes p.0.0 p.0.1 p.1 in
     let number = number_size-is size found.some in
     (p.0.0, found.parts ∙ ap (λ (l : List ℕ). p.0.0 ++ l) left, subst (λ (v : Value). Spells (Unsigned size) v p.0.0) is (number.0, found.len ∙ number.1, refl))
 value_at-found (Signed size) bytes value rest h =
-    let p = bind_some (front_at (number_size size) bytes) (λ number. Some (Number (signed number.0), number.1)) (value, rest) h in
-    let is : Number (signed p.0.0) ≡ value = grind arith in
+    let p = bind_some (front_at (number_size size) bytes) (λ number. Some (Number (signed_of number.0), number.1)) (value, rest) h in
+    let is : Number (signed_of p.0.0) ≡ value = grind arith in
     let left : p.0.1 ≡ rest = grind arith in
     let found = front_at-found (number_size size) bytes p.0.0 p.0.1 p.1 in
     let number = number_size-is size found.some in

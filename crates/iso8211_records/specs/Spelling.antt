@@ -11,15 +11,15 @@ use Rattle.iso8211_records.specs.declared.value.Value.TheVariants.{Number, Text,
 use Rattle.chart_model.specs.Codes.{FIELD_TERMINATOR, UNIT_TERMINATOR}
 
 -- the number that bytes are, the least significant first
-unfoldable pub unsigned : List ℕ → ℕ
-unsigned [] = 0
-unsigned (byte ∷ bytes) = byte + 256 * unsigned bytes
+unfoldable pub unsigned_of : List ℕ → ℕ
+unsigned_of [] = 0
+unsigned_of (byte ∷ bytes) = byte + 256 * unsigned_of bytes
 
 -- the same in two's complement: the upper half of so many bytes' numbers stands for the negative ones
-unfoldable pub signed : List ℕ → ℤ
-signed bytes =
+unfoldable pub signed_of : List ℕ → ℤ
+signed_of bytes =
     let whole = 256 ^ length bytes in
-    if nat_lt (2 * unsigned bytes) whole then pos (unsigned bytes) else pos (unsigned bytes) -ℤ pos whole
+    if nat_lt (2 * unsigned_of bytes) whole then pos (unsigned_of bytes) else pos (unsigned_of bytes) -ℤ pos whole
 
 -- a binary number has 1, 2 or 4 bytes
 abbrev pub IsNumberSize : ℕ → Type 0
@@ -34,8 +34,8 @@ abbrev pub Spells : Format → Value → List ℕ → Type 0
 Spells TextOpen (Text text) bytes = AllByRecursion IsTextByte text × (bytes ≡ text ++ UNIT_TERMINATOR ∷ [])
 Spells (TextOf width) (Text text) bytes = (0 < width) × (length text ≡ width) × (bytes ≡ text)
 Spells (Unsigned size) (Number number) bytes =
-    IsNumberSize size × (length bytes ≡ size) × (number ≡ pos (unsigned bytes))
-Spells (Signed size) (Number number) bytes = IsNumberSize size × (length bytes ≡ size) × (number ≡ signed bytes)
+    IsNumberSize size × (length bytes ≡ size) × (number ≡ pos (unsigned_of bytes))
+Spells (Signed size) (Number number) bytes = IsNumberSize size × (length bytes ≡ size) × (number ≡ signed_of bytes)
 Spells (BitsOf count) (Bits bits) bytes = (0 < count / 8) × (length bits ≡ count / 8) × (bytes ≡ bits)
 Spells _ _ bytes = ⊥
 

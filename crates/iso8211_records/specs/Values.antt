@@ -11,7 +11,7 @@ use Rattle.iso8211_records.specs.declared.value.Value.TheVariants.{Number, Text,
 use Rattle.iso8211_records.specs.declared.fault.ValuesFault.{ValuesFault}
 use Rattle.iso8211_records.specs.declared.fault.ValuesFault.TheVariants.{Unspelled, NoMemory}
 use Rattle.chart_model.specs.Codes.{FIELD_TERMINATOR, UNIT_TERMINATOR}
-use Rattle.iso8211_records.specs.Spelling.{unsigned, signed, FieldFormats}
+use Rattle.iso8211_records.specs.Spelling.{unsigned_of, signed_of, FieldFormats}
 
 -- A reader of a field failed so: there is nothing to be read, unless memory ran out.
 abbrev pub Lacks : {Y : Type 0} → ValuesFault → Option Y → Type 0
@@ -59,10 +59,10 @@ value_at (TextOf width) bytes = do
   Some (Text text.0, text.1)
 value_at (Unsigned size) bytes = do
   number ← front_at (number_size size) bytes
-  Some (Number (pos (unsigned number.0)), number.1)
+  Some (Number (pos (unsigned_of number.0)), number.1)
 value_at (Signed size) bytes = do
   number ← front_at (number_size size) bytes
-  Some (Number (signed number.0), number.1)
+  Some (Number (signed_of number.0), number.1)
 value_at (BitsOf count) bytes = do
   bits ← front_at (count / 8) bytes
   Some (Bits bits.0, bits.1)

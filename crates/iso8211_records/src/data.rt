@@ -1,4 +1,6 @@
 //! Data records: what their fields hold.
+//!
+//! Values go into the draft of the whole file, so that a record takes no memory of its own.
 
 ghost use Rattle.std.specs.Prelude.{◌≡◌, ◌+◌, ◌≤◌, ◌<◌, ◌^◌, [], length, IfOk, OnOk, Some, if◌then◌else◌};
 ghost use Rattle.std.specs.List.{AllByRecursion};
@@ -22,8 +24,9 @@ use iso8211_formats::{Descriptor, Format};
 use iso8211_leader::{Entry, Leader};
 use std::alloc::Global;
 
-/// Reads the fields of the data record that begins the bytes, which stand at the place `at` of the file, into the draft,
-/// and gives how many bytes the record has. The list of entries serves each record in turn, so that it takes memory once.
+/// Reads the fields of the data record that begins the bytes, which stand at the place `at` of the file, into the
+/// draft, and gives how many bytes the record has. The list of entries serves each record in turn, so that it takes
+/// memory once.
 #[tactic(auto, unfolding(crate::specs::Reading::data_record_at))]
 pub(crate) fn read_data_record(
     alloc: Global,

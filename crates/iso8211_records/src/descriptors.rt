@@ -1,4 +1,6 @@
 //! The descriptors of a file's fields, by tag.
+//!
+//! A file describes few fields, so they are searched from the first on.
 
 ghost use Rattle.std.specs.Prelude.{◌≡◌, ◌++◌, ◌∷◌, [], is_some, OnOk, OnErr};
 ghost use Rattle.std.specs.Option.{option_copied};

@@ -23,8 +23,8 @@ pub(crate) struct Extent {
     to: usize,
 }
 
-/// Data records as they are read. Contracts see the records that are ended, the fields of the one that isn't yet, and the
-/// values of the field that isn't yet.
+/// Data records as they are read. Contracts see the records that are ended, the fields of the one that isn't yet, and
+/// the values of the field that isn't yet.
 #[derive(Debug, Drop)]
 pub(crate) struct RecordsDraft {
     /// The values of the fields.

@@ -1,4 +1,7 @@
 //! A file of records.
+//!
+//! What is read is stated by the standard's rule (`IsRecordFile`) and by a function on lists, which the loops
+//! follow; `laws` ties the two.
 
 ghost use Rattle.std.specs.Prelude.{◌≡◌, ◌≢◌, ◌⊎◌, ◌+◌, ◌≤◌, ◌^◌, ℕ, Ok, Err, IfOk, IfErr, length};
 ghost use Rattle.iso8211_records.specs.declared.fault.FileFault.{FileFault as FaultOfFile};
@@ -91,10 +94,12 @@ fn read_data_records<C: Ledger>(
     steps: &mut Steps<C>,
 ) -> Result<RawList, FileFault>
     requires low { at + length bytes.now ≤ 2 ^ 63 }
-    ensures read { Gives result (data_records_at (length bytes.now) wanted.now.tags wanted.now.descriptors 1 at bytes.now) }
+    ensures read { Gives result
+        (data_records_at (length bytes.now) wanted.now.tags wanted.now.descriptors 1 at bytes.now) }
     ensures come_to { result ≢ Err FileFault.NoMemory
         → steps.new ≡ steps.old + come_to (length bytes.now) wanted.now.tags wanted.now.descriptors 1 at bytes.now }
-    ensures at_most { steps.new ≤ steps.old + come_to (length bytes.now) wanted.now.tags wanted.now.descriptors 1 at bytes.now }
+    ensures at_most { steps.new
+        ≤ steps.old + come_to (length bytes.now) wanted.now.tags wanted.now.descriptors 1 at bytes.now }
 {
     let mut draft = RecordsDraft::new(alloc);
     let mut entries = Vec::new(alloc);

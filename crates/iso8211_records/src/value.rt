@@ -1,4 +1,6 @@
 //! The values of a field.
+//!
+//! They stand as the format spells them: what a subfield may hold is tested by its label, above this crate.
 
 use crate::part::Part;
 use chart_model::Octets;

@@ -2,7 +2,7 @@
 
 ghost use Rattle.std.specs.Prelude.{◌≡◌, ◌⊎◌, ◌≤◌, ◌<◌, length, position, Ok, Err, Some, None, IfOk, IfSome};
 ghost use Rattle.iso8211_records.specs.declared.value.Value.{Value as ValueOf};
-ghost use Rattle.iso8211_records.specs.Spelling.{unsigned, signed, IsNumberSize, FieldFormats};
+ghost use Rattle.iso8211_records.specs.Spelling.{unsigned_of, signed_of, IsNumberSize, FieldFormats};
 ghost use Rattle.iso8211_records.specs.Values.{Finds, front_at, open_text_at, value_at, values_at, groups_at};
 ghost use Rattle.iso8211_records.specs.Values.{values_of, number_size, is_terminator, before, before_all};
 
@@ -159,10 +159,10 @@ fn number_front(bytes: &[u8], size: u8) -> Result<(&[u8], &[u8]), ValuesFault>
 }
 
 /// The number that bytes are, the least significant first.
-#[tactic(auto, unfolding(crate::specs::Spelling::unsigned))]
+#[tactic(auto, unfolding(crate::specs::Spelling::unsigned_of))]
 fn unsigned_of(bytes: &[u8]) -> u32
     requires { IsNumberSize (length bytes.now) }
-    ensures { result ≡ unsigned bytes.now }
+    ensures { result ≡ unsigned_of bytes.now }
 {
     match bytes {
         [byte] => u32::from(*byte),
@@ -172,10 +172,10 @@ fn unsigned_of(bytes: &[u8]) -> u32
 }
 
 /// The number that bytes are in two's complement, the least significant first.
-#[tactic(auto, unfolding(crate::specs::Spelling::signed))]
+#[tactic(auto, unfolding(crate::specs::Spelling::signed_of))]
 fn signed_of(bytes: &[u8]) -> i64
     requires { IsNumberSize (length bytes.now) }
-    ensures { result ≡ signed bytes.now }
+    ensures { result ≡ signed_of bytes.now }
 {
     let number = i64::from(unsigned_of(bytes));
     let whole: i64 = match bytes.len() {

@@ -1,10 +1,13 @@
 //! Which fields of data records are read.
+//!
+//! Only fields with a tag that is asked for are read; of the others nothing but the place is looked at.
 
 ghost use Rattle.std.specs.Prelude.{◌≡◌, not, IfOk};
 ghost use Rattle.iso8211_records.specs.Answers.{Gives};
 ghost use Rattle.iso8211_records.specs.Tags.{is_listed};
 ghost use Rattle.iso8211_records.specs.Kinds.{AreListed};
-ghost use Rattle.iso8211_records.specs.Reading.{first_without, is_described, tags_without_descriptor, unless_undescribed};
+ghost use Rattle.iso8211_records.specs.Reading.{first_without, is_described, tags_without_descriptor};
+ghost use Rattle.iso8211_records.specs.Reading.{unless_undescribed};
 
 use crate::descriptors::DescriptorMap;
 use crate::fault::FileFault;
@@ -81,7 +84,8 @@ impl<'a> Wanted<'a> {
 
 /// Checks that no field has one of the tags, which have no descriptor.
 fn check_without(tags: &[[u8; 4]], entries: &[Entry]) -> Result<(), FileFault>
-    ensures { Gives result (unless_undescribed (first_without (λ entry. not (is_listed tags.now entry.tag)) entries.now)) }
+    ensures { Gives result (unless_undescribed
+        (first_without (λ entry. not (is_listed tags.now entry.tag)) entries.now)) }
 {
     for entry in entries {
         if is_in_list(tags, &entry.tag) {
