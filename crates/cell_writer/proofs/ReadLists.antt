@@ -6,7 +6,7 @@ use Rattle.chart_model.specs.Answers.{when, first_of}
 use Rattle.iso8211_formats.specs.Layout.{Layout}
 use Rattle.iso8211_records.specs.declared.value.Value.{Value}
 use Rattle.s57_subfields.specs.declared.fault.FieldFault.{FieldFault}
-use Rattle.s57_subfields.specs.Answers.{missing, bad}
+use Rattle.s57_subfields.specs.Answers.{missing_field, bad_value}
 use Rattle.s57_subfields.specs.Groups.{AreGrouped, FaultIsFirst, GroupedField, ItemsAreGroups, fault_in, fault_under}
 use Rattle.s57_subfields.specs.Groups.{group_size, in_group}
 use Rattle.s57_subfields.specs.Lists.{column_fault, distance}
@@ -44,7 +44,7 @@ pub no_fault_under : {X B : Type 0} (read : Value → Option B) (label : List �
     → fault_under read label layout row (map values (x ∷ xs)) ≡ None
 unfolding column_fault
 no_fault_under read label layout row values part P reads x xs all =
-    calm _ _ (missing row) (bad row label)
+    calm _ _ (missing_field row) (bad_value row label)
     (there (distance (subfield_of (Some layout) label).place) _ (part x) (reads x all.0))
     (each_there (in_group read layout label) values part P reads (x ∷ xs) all)
 

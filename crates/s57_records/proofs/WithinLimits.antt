@@ -21,7 +21,7 @@ use Rattle.s57_subfields.specs.declared.fault.FieldFault.{FieldFault}
 use Rattle.s57_subfields.specs.declared.group.Groups.{Groups}
 use Rattle.s57_subfields.specs.declared.subfield.Subfield.{Subfield}
 use Rattle.chart_model.specs.Answers.{◌>>=◌, or_fault, unless}
-use Rattle.s57_subfields.specs.Answers.{missing, bad}
+use Rattle.s57_subfields.specs.Answers.{missing_field, bad_value}
 use Rattle.s57_subfields.specs.RowValues.{RowValues, fields_in, first_of}
 use Rattle.s57_subfields.specs.Places.{subfield_of}
 use Rattle.s57_subfields.specs.Columns.{once_in, once_at}
@@ -66,8 +66,8 @@ some_in f (Some x) y e = (x, e)
 pub once_read : {A : Type 0} (read : Value → Option A) (row : RowValues) (subfield : Subfield) (x : A) → once_in read row subfield ≡ Ok x → (value : Value) × (read value ≡ Some x)
 unfolding once_in
 once_read read row subfield x e =
-    field_then (or_fault (missing row) (once_at subfield.place)) _ x e (λ at at_e after_at.
-    field_then (or_fault (missing row) (first_of row.fields)) _ x after_at (λ values values_e after_values.
+    field_then (or_fault (missing_field row) (once_at subfield.place)) _ x e (λ at at_e after_at.
+    field_then (or_fault (missing_field row) (first_of row.fields)) _ x after_at (λ values values_e after_values.
     some_in read (slice_get values at) x (there _ _ x after_values)))
 
 -- ---- lists

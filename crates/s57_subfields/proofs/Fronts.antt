@@ -13,7 +13,7 @@ use Rattle.iso8211_formats.specs.Layout.{Layout}
 use Rattle.iso8211_records.specs.declared.value.Value.{Value}
 use Rattle.s57_subfields.specs.declared.fault.FieldFault.{FieldFault}
 use Rattle.s57_subfields.specs.declared.group.Groups.{Groups}
-use Rattle.s57_subfields.specs.Answers.{missing, bad}
+use Rattle.s57_subfields.specs.Answers.{missing_field, bad_value}
 use Rattle.s57_subfields.specs.Groups.{group_size, GroupedField, values_in, IsGrouped, AreGrouped, groups_in, fault_in}
 use Rattle.s57_subfields.specs.Lists.{Column, column_fault, column_of, distance, groups_in_fields, groups_of, list_fault}
 use Rattle.s57_subfields.specs.Lists.{list_in, value_in}
@@ -154,7 +154,10 @@ column-same :
     list_any column.is_unread xs ≡ list_any column.is_unread ys → column_fault row xs column ≡ column_fault row ys column
 unfolding column_fault
 column-same row xs ys column e =
-    ap (λ (so : Bool). first_of (when (is_none (distance column.subfield.place)) (missing row) ∷ when so (bad row column.subfield.label) ∷ [])) e
+    ap (λ (so : Bool). first_of (
+    when (is_none (distance column.subfield.place)) (missing_field row)
+    ∷ when so (bad_value row column.subfield.label)
+    ∷ [])) e
 
 there : (fields : List (List Value)) → fields ≢ [] → is_none (first_field fields) ≡ false
 there [] some = absurd (some refl)
@@ -198,10 +201,10 @@ faults-same layout row parts (column ∷ columns) some grouped fronts =
 pub list-undescribed :
     {A F : Type 0} (reads : List Value → Option A) (read : Value → Option F) (label : List ℕ) (more : List Column)
     (groups : Groups) (row : RowValues) → row.fields ≢ [] →
-    list_in reads (column_of read (subfield_of None label) ∷ more) groups row ≡ Err (missing row)
+    list_in reads (column_of read (subfield_of None label) ∷ more) groups row ≡ Err (missing_field row)
 unfolding column_fault
 list-undescribed reads read label more groups row some =
-    list-faulty reads (column_of read (subfield_of None label) ∷ more) groups row (missing row) (there row.fields some) refl
+    list-faulty reads (column_of read (subfield_of None label) ∷ more) groups row (missing_field row) (there row.fields some) refl
 
 module _
     {A F : Type 0} (layout : Layout) (reads : List Value → Option A) (read : Value → Option F) (label : List ℕ)
@@ -214,7 +217,9 @@ module _
     answer row = list_in reads columns (groups_of (Some layout)) row
 
     -- where nothing repeats, the first label is missing
-    unrepeated : (row : RowValues) (groups : List (List Value)) → group_size layout ≡ 0 → list_fault row groups columns ≡ Some (missing row)
+    unrepeated :
+        (row : RowValues) (groups : List (List Value)) → group_size layout ≡ 0 →
+        list_fault row groups columns ≡ Some (missing_field row)
     unfolding column_fault
     unrepeated row groups none = let first = nothing-repeats layout label none in rw first refl
 
@@ -259,7 +264,9 @@ module _
     sized :
         (row : RowValues) (groups : List (List Value)) (n : ℕ) → group_size layout ≡ n →
         list_fault row groups columns ≡ None → 0 < group_size layout
-    sized row groups zero none calm = let bad : Some (missing row) ≡ None = sym (unrepeated row groups none) ∙ calm in absurd cc
+    sized row groups zero none calm =
+        let bad : Some (missing_field row) ≡ None = sym (unrepeated row groups none) ∙ calm in
+        absurd cc
     sized row groups (suc n) some calm = omega arith
 
     pub items-are_groups :

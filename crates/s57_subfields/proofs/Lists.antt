@@ -8,7 +8,7 @@ use Rattle.chart_model.specs.Answers.{when, first_of, unless}
 use Rattle.s57_subfields.specs.declared.fault.FieldFault.{FieldFault}
 use Rattle.s57_subfields.specs.declared.fault.FieldFault.TheVariants.{MissingField, Value as BadValue, NoMemory}
 use Rattle.s57_subfields.specs.declared.group.Groups.{Groups}
-use Rattle.s57_subfields.specs.Answers.{Fails, missing, bad}
+use Rattle.s57_subfields.specs.Answers.{Fails, missing_field, bad_value}
 use Rattle.s57_subfields.specs.Lists.{Column, column_fault, distance, groups_in_fields, list_fault, list_if_there, list_in}
 use Rattle.s57_subfields.specs.RowValues.{RowValues, first_of as first_field}
 use Rattle.s57_subfields.specs.Tails.{HasNone}
@@ -49,8 +49,9 @@ column-first :
     (column.is_unread group ≡ false) × (column_fault row groups column ≡ None)
 unfolding column_fault
 column-first row group groups column e =
-    let there = none-when (is_none (distance column.subfield.place)) (missing row) _ e in
-    let good = none-when (column.is_unread group || list_any column.is_unread groups) (bad row column.subfield.label) [] there.1 in
+    let there = none-when (is_none (distance column.subfield.place)) (missing_field row) _ e in
+    let unread = column.is_unread group || list_any column.is_unread groups in
+    let good = none-when unread (bad_value row column.subfield.label) [] there.1 in
     let parts = or_parts (column.is_unread group) (list_any column.is_unread groups) good.0 in
     (parts.0, rw (there.0, parts.1) refl)
 

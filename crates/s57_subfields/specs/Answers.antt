@@ -6,12 +6,12 @@ use Rattle.s57_subfields.specs.declared.fault.FieldFault.TheVariants.{MissingFie
 use Rattle.s57_subfields.specs.RowValues.{RowValues}
 
 -- a subfield of the row isn't in the field's descriptor
-abbrev pub missing : RowValues → FieldFault
-missing row = MissingField row.number row.tag
+abbrev pub missing_field : RowValues → FieldFault
+missing_field row = MissingField row.number row.tag
 
 -- a value under the label isn't what it has to be
-abbrev pub bad : RowValues → List ℕ → FieldFault
-bad row label = BadValue row.number label
+abbrev pub bad_value : RowValues → List ℕ → FieldFault
+bad_value row label = BadValue row.number label
 
 -- want of memory tells nothing
 abbrev pub told : FieldFault → Option FieldFault

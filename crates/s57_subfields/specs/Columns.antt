@@ -7,7 +7,7 @@ use Rattle.s57_subfields.specs.declared.subfield.Place.TheVariants.{Missing, Onc
 use Rattle.s57_subfields.specs.declared.subfield.Subfield.{Subfield}
 use Rattle.s57_subfields.specs.RowValues.{RowValues, first_of}
 use Rattle.chart_model.specs.Answers.{◌>>=◌, or_fault}
-use Rattle.s57_subfields.specs.Answers.{missing, bad}
+use Rattle.s57_subfields.specs.Answers.{missing_field, bad_value}
 
 -- the place of a label that stands once
 abbrev pub once_at : Place → Option ℕ
@@ -19,6 +19,6 @@ once_at (Repeated n) = None
 -- record doesn't have it, and bad where its value isn't what it has to be
 unfoldable pub once_in : {A : Type 0} → (Value → Option A) → RowValues → Subfield → Result A FieldFault
 once_in read row subfield = do
-  at ← or_fault (missing row) (once_at subfield.place)
-  values ← or_fault (missing row) (first_of row.fields)
-  or_fault (bad row subfield.label) (option_and_then read (slice_get values at))
+  at ← or_fault (missing_field row) (once_at subfield.place)
+  values ← or_fault (missing_field row) (first_of row.fields)
+  or_fault (bad_value row subfield.label) (option_and_then read (slice_get values at))

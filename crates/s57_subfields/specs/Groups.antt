@@ -6,7 +6,7 @@ use Rattle.chart_model.specs.Answers.{first_of}
 use Rattle.iso8211_formats.specs.Layout.{Layout}
 use Rattle.iso8211_records.specs.declared.value.Value.{Value}
 use Rattle.s57_subfields.specs.declared.fault.FieldFault.{FieldFault}
-use Rattle.s57_subfields.specs.Answers.{missing}
+use Rattle.s57_subfields.specs.Answers.{missing_field}
 use Rattle.s57_subfields.specs.Lists.{column_fault, column_of, value_in}
 use Rattle.s57_subfields.specs.Places.{group_start, subfield_of}
 use Rattle.s57_subfields.specs.RowValues.{RowValues}
@@ -73,7 +73,7 @@ pub record FaultIsFirst
     (list_in : Option Layout → RowValues → Result (List A) FieldFault)
     : Type 0 where
   pub absent : (layout : Option Layout) (row : RowValues) → row.fields ≡ [] → list_in layout row ≡ Ok []
-  pub undescribed : (row : RowValues) → row.fields ≢ [] → list_in None row ≡ Err (missing row)
+  pub undescribed : (row : RowValues) → row.fields ≢ [] → list_in None row ≡ Err (missing_field row)
   pub first :
       (layout : Layout) (row : RowValues) (parts : List GroupedField) → AreGrouped layout parts row.fields →
       row.fields ≢ [] → fault_in (list_in (Some layout) row) ≡ first_of (faults layout row (groups_in parts))

@@ -11,7 +11,7 @@ use Rattle.s57_subfields.specs.declared.subfield.Place.{Place}
 use Rattle.s57_subfields.specs.declared.subfield.Place.TheVariants.{Missing, Once, Repeated}
 use Rattle.s57_subfields.specs.declared.subfield.Subfield.{Subfield}
 use Rattle.chart_model.specs.Answers.{when, first_of, unless}
-use Rattle.s57_subfields.specs.Answers.{missing, bad}
+use Rattle.s57_subfields.specs.Answers.{missing_field, bad_value}
 use Rattle.s57_subfields.specs.Places.{group_start}
 use Rattle.s57_subfields.specs.RowValues.{RowValues}
 use Rattle.s57_subfields.specs.Tails.{tails_of, behind}
@@ -58,15 +58,16 @@ abbrev pub column_of : {A : Type 0} → (Value → Option A) → Subfield → Co
 column_of read subfield = record {
   subfield = subfield;
   is_unread = λ group. is_none (value_in read subfield group);
-  unread_if_missing = λ none group. ap (λ (place : Option ℕ). is_none (option_and_then (λ n. behind read n group) place)) none;
+  unread_if_missing = λ none group.
+      ap (λ (place : Option ℕ). is_none (option_and_then (λ n. behind read n group) place)) none;
 }
 
 -- what is wrong under a subfield: it isn't in the repeated group, or a group's value isn't what it has to be
 unfoldable pub column_fault : RowValues → List (List Value) → Column → Option FieldFault
 column_fault row groups column =
     first_of (
-    when (is_none (distance column.subfield.place)) (missing row)
-    ∷ when (list_any column.is_unread groups) (bad row column.subfield.label)
+    when (is_none (distance column.subfield.place)) (missing_field row)
+    ∷ when (list_any column.is_unread groups) (bad_value row column.subfield.label)
     ∷ [])
 
 -- ---- the list

@@ -1,4 +1,6 @@
 //! What a subfield may hold.
+//!
+//! A value can be tested without being made, so that the fault of a list is found without memory.
 
 ghost use Rattle.std.specs.Prelude.{◌≡◌, is_some, Option, IfOk, IfSome};
 ghost use Rattle.iso8211_records.specs.declared.value.Value.{Value as RawValue};

@@ -1,4 +1,6 @@
 //! Laws of the definitions and of the constants.
+//!
+//! The definitions spell tags and labels again, so that a constant that is wrong shows here.
 
 ghost use Rattle.std.specs.Prelude.{◌≡◌, List, codes};
 ghost use Rattle.std.specs.List.{AllByRecursion};

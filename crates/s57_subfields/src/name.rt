@@ -1,4 +1,6 @@
 //! Names in strings of bits.
+//!
+//! A name has several numbers in one subfield, each with its least significant byte first.
 
 ghost use Rattle.std.specs.Prelude.{◌≡◌};
 ghost use Rattle.s57_subfields.specs.Names.{two_bytes, four_bytes, name_in, foid_in, record_name, object_name};

@@ -4,7 +4,7 @@ ghost use Rattle.std.specs.Prelude.{◌≡◌, is_none, filter, slice_get, optio
 ghost use Rattle.std.specs.Option.{option_copied};
 ghost use Rattle.std.specs.Str.{bytes_eq};
 ghost use Rattle.s57_subfields.specs.RowValues.{fields_in, first_of, BeginsWith};
-ghost use Rattle.s57_subfields.specs.Answers.{missing, bad};
+ghost use Rattle.s57_subfields.specs.Answers.{missing_field, bad_value};
 
 use crate::fault::FieldFault;
 use iso8211_records::{RawField, Value};
@@ -99,8 +99,8 @@ impl<'a> RowFields<'a> {
     }
 
     /// The fault of a subfield that the descriptor, or of a field that the record, doesn't have.
-    pub fn missing(&self) -> FieldFault
-        ensures { result ≡ missing self.now }
+    pub fn missing_field(&self) -> FieldFault
+        ensures { result ≡ missing_field self.now }
     {
         FieldFault::MissingField {
             record: self.number,
@@ -109,8 +109,8 @@ impl<'a> RowFields<'a> {
     }
 
     /// The fault of a value under this label.
-    pub fn bad(&self, label: [u8; 4]) -> FieldFault
-        ensures { result ≡ bad self.now label }
+    pub fn bad_value(&self, label: [u8; 4]) -> FieldFault
+        ensures { result ≡ bad_value self.now label }
     {
         FieldFault::Value {
             record: self.number,

@@ -1,4 +1,6 @@
 //! A subfield that stands once, with what its value may be.
+//!
+//! The kind is part of the row, so that a row says of itself how it is read.
 
 ghost use Rattle.std.specs.Prelude.{◌≡◌, IfOk};
 ghost use Rattle.std.specs.Option.{option_copied};

@@ -99,17 +99,17 @@ impl Subfield {
         ensures holds { IfOk result (K.holds kind.now) }
     {
         let Place::Once(at) = self.place else {
-            return Err(values.missing());
+            return Err(values.missing_field());
         };
         let Some(first) = values.first() else {
-            return Err(values.missing());
+            return Err(values.missing_field());
         };
         match first.get(at as usize) {
             Some(value) => match kind.read(alloc, value)? {
                 Some(read) => Ok(read),
-                None => Err(values.bad(self.label)),
+                None => Err(values.bad_value(self.label)),
             },
-            None => Err(values.bad(self.label)),
+            None => Err(values.bad_value(self.label)),
         }
     }
 
@@ -146,10 +146,10 @@ impl Subfield {
             (column_of (K.reads kind.now) self.now) }
     {
         let Place::Repeated(distance) = self.place else {
-            return Some(values.missing());
+            return Some(values.missing_field());
         };
         if has_bad(groups, values, kind, distance) {
-            Some(values.bad(self.label))
+            Some(values.bad_value(self.label))
         } else {
             None
         }

@@ -1,4 +1,6 @@
-//! Texts.
+//! Texts: numbers in digits, dates, names of data sets and values of attributes.
+//!
+//! Bytes are kept as they stand: the lexical level, which is read apart, says which characters they are.
 
 ghost use Rattle.std.specs.Prelude.{◌≡◌, ◌≤◌, ◌&&◌, ◌==◌, not, length, IfOk, IfSome};
 ghost use Rattle.std.specs.List.{list_all};

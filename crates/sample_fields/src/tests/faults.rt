@@ -1,6 +1,7 @@
-//! What a fault of a file says.
+//! What a fault of a file, and what a fault of a field says.
 
 use iso8211_records::FileFault;
+use s57_subfields::FieldFault;
 use std::test::Fail;
 
 /// Faults, and what they say.
@@ -32,9 +33,37 @@ static SAID: [(FileFault, &str); 7] = [
     (FileFault::NoMemory, "there was no memory for the records"),
 ];
 
+/// Faults of fields, and what they say.
+static SAID_OF_FIELDS: [(FieldFault, &str); 3] = [
+    (
+        FieldFault::MissingField {
+            record: 2,
+            tag: *b"VRPT",
+        },
+        "data record 2: the field VRPT or a subfield of it is missing",
+    ),
+    (
+        FieldFault::Value {
+            record: 14,
+            label: *b"YC\x1EO",
+        },
+        "data record 14: the value of YC\\x1eO is not one that is read",
+    ),
+    (FieldFault::NoMemory, "there was no memory for the values"),
+];
+
 #[test]
 fn a_fault_says_what_is_wrong_and_where(rt: HostRuntime) -> Result<(), Fail> {
     for (at, (fault, said)) in SAID.iter().enumerate() {
+        let text = format!(in rt.alloc(); "{fault}")?;
+        assert!(rt; text.as_str() == *said, "case {at}");
+    }
+    Ok(())
+}
+
+#[test]
+fn a_fault_of_a_field_says_what_is_wrong_and_where(rt: HostRuntime) -> Result<(), Fail> {
+    for (at, (fault, said)) in SAID_OF_FIELDS.iter().enumerate() {
         let text = format!(in rt.alloc(); "{fault}")?;
         assert!(rt; text.as_str() == *said, "case {at}");
     }
