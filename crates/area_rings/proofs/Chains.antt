@@ -7,7 +7,7 @@ use Rattle.chart_model.specs.declared.name.Name.{Name}
 use Rattle.area_rings.specs.declared.trace.OpenRing.{OpenRing}
 use Rattle.area_rings.specs.Choice.{◌>>=◌}
 use Rattle.area_rings.specs.Edge.{EdgeValue}
-use Rattle.area_rings.specs.Rings.{same_name, followed, before_rings, chains_of}
+use Rattle.area_rings.specs.Rings.{same_name, ring_after, before_rings, chains_of}
 use Rattle.area_rings.proofs.RestOfRing.{Rest, Whole}
 
 -- ---- names
@@ -54,7 +54,7 @@ stands linked closed ring = cond linked (Some (cond {A = Option OpenRing} closed
 -- ---- from the function to the relation
 
 -- the edge closes the ring
-closing : (ring : Option OpenRing) (edge : EdgeValue) → followed ring edge.from edge.to ≡ Some None → Head ring (edge ∷ [])
+closing : (ring : Option OpenRing) (edge : EdgeValue) → ring_after ring edge.from edge.to ≡ Some None → Head ring (edge ∷ [])
 closing None edge e = (refl, go (same_name edge.to edge.from) refl e)
   where
     go : (t : Bool) → same_name edge.to edge.from ≡ t → stands true t (onward edge.from edge.to) ≡ Some None → edge.to ≡ edge.from
@@ -68,7 +68,7 @@ closing (Some ring) edge e = go (same_name ring.at edge.from) (same_name edge.to
     go false t f g e = absurd (none-some _ e)
 
 -- the ring goes on after the edge
-going : (ring : Option OpenRing) (next : OpenRing) (edge : EdgeValue) (others : List EdgeValue) → followed ring edge.from edge.to ≡ Some (Some next) → Rest next.home next.at others → Head ring (edge ∷ others)
+going : (ring : Option OpenRing) (next : OpenRing) (edge : EdgeValue) (others : List EdgeValue) → ring_after ring edge.from edge.to ≡ Some (Some next) → Rest next.home next.at others → Head ring (edge ∷ others)
 going ring next edge [] e r = absurd r
 going None next edge (f ∷ more) e r = go (same_name edge.to edge.from) refl e
   where
@@ -105,33 +105,33 @@ chains_told None [] chains e =
     let none : [] ≡ chains = same_Some _ _ e in
     rw (← none) (refl, tt)
 chains_told (Some ring) [] chains e = absurd (none-some chains e)
-chains_told ring (edge ∷ rest) chains e = after (λ next more. chains_told next rest more) (followed ring edge.from edge.to) refl e
+chains_told ring (edge ∷ rest) chains e = after (λ next more. chains_told next rest more) (ring_after ring edge.from edge.to) refl e
   where
-    extended : (next : Option OpenRing) (more : List (List EdgeValue)) → followed ring edge.from edge.to ≡ Some next → AreRings next rest more → AreRings ring (edge ∷ rest) (before_rings edge next more)
+    extended : (next : Option OpenRing) (more : List (List EdgeValue)) → ring_after ring edge.from edge.to ≡ Some next → AreRings next rest more → AreRings ring (edge ∷ rest) (before_rings edge next more)
     extended None more f a = chained ring (edge ∷ rest) (edge ∷ []) more (ap (λ (l : List EdgeValue). edge ∷ l) a.0) (closing ring edge f) a.1
     extended (Some next) [] f a = absurd a
     extended (Some next) (chain ∷ chains) f a = chained ring (edge ∷ rest) (edge ∷ chain) chains (ap (λ (l : List EdgeValue). edge ∷ l) a.0) (going ring next edge chain f a.1) a.2
 
-    given : (next : Option OpenRing) (o : Option (List (List EdgeValue))) → followed ring edge.from edge.to ≡ Some next → ((more : List (List EdgeValue)) → o ≡ Some more → AreRings next rest more) → option_map (before_rings edge next) o ≡ Some chains → AreRings ring (edge ∷ rest) chains
+    given : (next : Option OpenRing) (o : Option (List (List EdgeValue))) → ring_after ring edge.from edge.to ≡ Some next → ((more : List (List EdgeValue)) → o ≡ Some more → AreRings next rest more) → option_map (before_rings edge next) o ≡ Some chains → AreRings ring (edge ∷ rest) chains
     given next None f told e = absurd (none-some chains e)
     given next (Some more) f told e =
         let P : List (List EdgeValue) → Type 0 = λ l. AreRings ring (edge ∷ rest) l in
         subst P (same_Some _ _ e) (extended next more f (told more refl))
 
-    after : ((next : Option OpenRing) (more : List (List EdgeValue)) → chains_of next rest ≡ Some more → AreRings next rest more) → (next : Option (Option OpenRing)) → followed ring edge.from edge.to ≡ next → (next >>= (λ n. option_map (before_rings edge n) (chains_of n rest))) ≡ Some chains → AreRings ring (edge ∷ rest) chains
+    after : ((next : Option OpenRing) (more : List (List EdgeValue)) → chains_of next rest ≡ Some more → AreRings next rest more) → (next : Option (Option OpenRing)) → ring_after ring edge.from edge.to ≡ next → (next >>= (λ n. option_map (before_rings edge n) (chains_of n rest))) ≡ Some chains → AreRings ring (edge ∷ rest) chains
     after told None f e = absurd (none-some chains e)
     after told (Some next) f e = given next (chains_of next rest) f (told next) e
 
 -- ---- from the relation to the function
 
-closes : (ring : Option OpenRing) (edge : EdgeValue) → Head ring (edge ∷ []) → followed ring edge.from edge.to ≡ Some None
+closes : (ring : Option OpenRing) (edge : EdgeValue) → Head ring (edge ∷ []) → ring_after ring edge.from edge.to ≡ Some None
 closes None edge h = rw (same_name-same edge.to edge.from h.1) refl
 closes (Some ring) edge h = rw (same_name-same ring.at edge.from (sym h.0), same_name-same edge.to ring.home h.1) refl
 
 -- the ring goes on, and how it stands then
 record GoesOn (ring : Option OpenRing) (edge next : EdgeValue) (more : List EdgeValue) : Type 0 where
   pub then : OpenRing
-  pub stands_so : followed ring edge.from edge.to ≡ Some (Some then)
+  pub stands_so : ring_after ring edge.from edge.to ≡ Some (Some then)
   pub rest : Rest then.home then.at (next ∷ more)
 
 goes : (ring : Option OpenRing) (edge next : EdgeValue) (more : List EdgeValue) → Head ring (edge ∷ next ∷ more) → GoesOn ring edge next more

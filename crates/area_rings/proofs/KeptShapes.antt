@@ -12,8 +12,8 @@ use Rattle.chart_model.specs.Cell.{CellValue}
 use Rattle.plane_geometry.specs.declared.point.Pt.{Pt}
 use Rattle.area_rings.specs.declared.trace.OpenRing.{OpenRing}
 use Rattle.area_rings.specs.Choice.{◌>>=◌}
-use Rattle.area_rings.specs.Edge.{is_node, node_of, point_of, place_of, ends_of, EdgeValue, edge_of, turned, line_of, edge_along}
-use Rattle.area_rings.specs.Rings.{followed, before_rings, rings_of}
+use Rattle.area_rings.specs.Edge.{is_node, node_of, point_of, place_of, ends_of, EdgeValue, edge_of, way_along, line_of, edge_along}
+use Rattle.area_rings.specs.Rings.{ring_after, before_rings, rings_of}
 use Rattle.area_rings.specs.Shape.{shape_of}
 use Rattle.area_rings.specs.KeptEdges.{StandsFor, KeepsVectors}
 use Rattle.area_rings.proofs.Edges.{no_edge_name, no_edge, no_ends, no_begin, no_end, whole_edge}
@@ -112,25 +112,25 @@ edge_kept before after name keeps h =
 
 pub line_kept : (before after : CellValue) (name : Name) (reversed : Bool) → KeepsVectors before after → IsSome (line_of before name reversed) → IsSome (line_of after name reversed)
 line_kept before after name reversed keeps h =
-    let line = λ (edge : EdgeValue). (turned reversed edge).points in
+    let line = λ (edge : EdgeValue). (way_along reversed edge).points in
     is_some-option_map line (edge_of after name) ∙ edge_kept before after name keeps (sym (is_some-option_map line (edge_of before name)) ∙ h)
 
-turned_same : (reversed : Bool) (before after : EdgeValue) → IsSameWay before after → IsSameWay (turned reversed before) (turned reversed after)
-turned_same true before after same = record { from = same.to; to = same.from }
-turned_same false before after same = same
+same_ways : (reversed : Bool) (before after : EdgeValue) → IsSameWay before after → IsSameWay (way_along reversed before) (way_along reversed after)
+same_ways true before after same = record { from = same.to; to = same.from }
+same_ways false before after same = same
 
 kept_along : (before after : CellValue) (pointer : Pointer) (edge : EdgeValue) → KeepsVectors before after → edge_along before pointer ≡ Some edge → Found (edge_along after pointer) edge
 kept_along before after pointer edge keeps e = go (edge_of before pointer.target) refl e
   where
-    go : (o : Option EdgeValue) → edge_of before pointer.target ≡ o → option_map (turned (eqb pointer.ornt 2)) o ≡ Some edge → Found (edge_along after pointer) edge
+    go : (o : Option EdgeValue) → edge_of before pointer.target ≡ o → option_map (way_along (eqb pointer.ornt 2)) o ≡ Some edge → Found (edge_along after pointer) edge
     go None f g = absurd (none-some edge g)
     go (Some recorded) f g =
         let k = kept_edge before after pointer.target recorded keeps f in
-        let way = turned (eqb pointer.ornt 2) in
+        let way = way_along (eqb pointer.ornt 2) in
         record {
           kept = way k.kept;
           is = ap (option_map way) k.is;
-          same = subst (λ (e : EdgeValue). IsSameWay e (way k.kept)) (same_Some _ _ g) (turned_same (eqb pointer.ornt 2) recorded k.kept k.same);
+          same = subst (λ (e : EdgeValue). IsSameWay e (way k.kept)) (same_Some _ _ g) (same_ways (eqb pointer.ornt 2) recorded k.kept k.same);
         }
 
 -- ---- rings
@@ -142,17 +142,17 @@ chains_kept before after ring (p ∷ rest) keeps h = of_edge (λ next. chains_ke
     nothing : {P : Type 0} → chains_at before ring (p ∷ rest) ≡ None → P
     nothing none = absurd (false≢true (sym (ap is_some none) ∙ h))
 
-    of_next : ((next : Option OpenRing) → IsSome (chains_at before next rest) → IsSome (chains_at after next rest)) → (edge : EdgeValue) → edge_along before p ≡ Some edge → (o : Option (Option OpenRing)) → followed ring edge.from edge.to ≡ o → IsSome (chains_at after ring (p ∷ rest))
+    of_next : ((next : Option OpenRing) → IsSome (chains_at before next rest) → IsSome (chains_at after next rest)) → (edge : EdgeValue) → edge_along before p ≡ Some edge → (o : Option (Option OpenRing)) → ring_after ring edge.from edge.to ≡ o → IsSome (chains_at after ring (p ∷ rest))
     of_next later edge e None f = nothing (broken before ring p rest edge e f)
     of_next later edge e (Some next) f =
         let k = kept_along before after p edge keeps e in
-        let same : followed ring k.kept.from k.kept.to ≡ Some next = rw (k.same.from, k.same.to) f in
+        let same : ring_after ring k.kept.from k.kept.to ≡ Some next = rw (k.same.from, k.same.to) f in
         let was = sym (is_some-option_map (before_rings edge next) (chains_at before next rest)) ∙ ap is_some (sym (goes_on before ring next p rest edge e f)) ∙ h in
         ap is_some (goes_on after ring next p rest k.kept k.is same) ∙ is_some-option_map (before_rings k.kept next) (chains_at after next rest) ∙ later next was
 
     of_edge : ((next : Option OpenRing) → IsSome (chains_at before next rest) → IsSome (chains_at after next rest)) → (o : Option EdgeValue) → edge_along before p ≡ o → IsSome (chains_at after ring (p ∷ rest))
     of_edge later None e = nothing (no_line before ring p rest e)
-    of_edge later (Some edge) e = of_next later edge e (followed ring edge.from edge.to) refl
+    of_edge later (Some edge) e = of_next later edge e (ring_after ring edge.from edge.to) refl
 
 rings_kept : (before after : CellValue) (pointers : List Pointer) → KeepsVectors before after → IsSome (rings_of before pointers) → IsSome (rings_of after pointers)
 rings_kept before after [] keeps h = absurd (false≢true (sym (ap is_some (no_pointers before [] refl)) ∙ h))

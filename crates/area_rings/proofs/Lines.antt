@@ -7,7 +7,7 @@ use Rattle.chart_model.specs.declared.record.Coord.{Coord}
 use Rattle.chart_model.specs.Cell.{CellValue}
 use Rattle.std.proofs.lemmas.Option.{none-some}
 use Rattle.plane_geometry.specs.declared.point.Pt.{Pt}
-use Rattle.area_rings.specs.Edge.{point_of, EdgeValue, edge_of, turned, line_of}
+use Rattle.area_rings.specs.Edge.{point_of, EdgeValue, edge_of, way_along, line_of}
 use Rattle.area_rings.specs.Rings.{but_last}
 
 map-reverse : {A B : Type 0} (f : A → B) (xs : List A) → map f (reverse xs) ≡ reverse (map f xs)
@@ -58,9 +58,9 @@ pub ended : (old all line : List Pt) (before : List Pt) (end : Pt) → all ≡ o
 ended old all line before end e f g =
     g ∙ ap (λ (l : List Pt). l ++ end ∷ []) (e ∙ ap (λ (l : List Pt). l ++ but_last (before ++ end ∷ [])) f ∙ but_last_is before end)
 
-pub line_of_edge : (cell : CellValue) (name : Name) (reversed : Bool) (edge : EdgeValue) → Some edge ≡ option_map (turned reversed) (edge_of cell name) → line_of cell name reversed ≡ Some edge.points
+pub line_of_edge : (cell : CellValue) (name : Name) (reversed : Bool) (edge : EdgeValue) → Some edge ≡ option_map (way_along reversed) (edge_of cell name) → line_of cell name reversed ≡ Some edge.points
 line_of_edge cell name reversed edge e = go (edge_of cell name) e
   where
-    go : (o : Option EdgeValue) → Some edge ≡ option_map (turned reversed) o → option_map (λ edge. (turned reversed edge).points) o ≡ Some edge.points
+    go : (o : Option EdgeValue) → Some edge ≡ option_map (way_along reversed) o → option_map (λ edge. (way_along reversed edge).points) o ≡ Some edge.points
     go None e = absurd (none-some edge (sym e))
     go (Some recorded) e = ap (option_map (λ (edge : EdgeValue). edge.points)) (sym e)

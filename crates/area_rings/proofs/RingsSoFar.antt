@@ -9,7 +9,7 @@ use Rattle.plane_geometry.specs.declared.point.Pt.{Pt}
 use Rattle.area_rings.specs.declared.trace.OpenRing.{OpenRing}
 use Rattle.area_rings.specs.Choice.{◌>>=◌, each}
 use Rattle.area_rings.specs.Edge.{EdgeValue, edge_along}
-use Rattle.area_rings.specs.Rings.{but_last, ring_points, followed, before_rings, chains_of, rings_of}
+use Rattle.area_rings.specs.Rings.{but_last, ring_points, ring_after, before_rings, chains_of, rings_of}
 use Rattle.area_rings.proofs.Traces.{chains_at, at_pointer, no_line, broken, Adds, added_at}
 
 -- points before those of the first ring
@@ -83,7 +83,7 @@ stopped cell ring closed points pointers i d all r lt e =
     r.same ∙ ap (option_map (with_rest closed points)) (at_pointer cell ring pointers i d lt ∙ no_line cell ring (get_or pointers i d) (drop (i + 1) pointers) e)
 
 -- an edge that begins elsewhere
-pub astray : (cell : CellValue) (ring : Option OpenRing) (closed : List (List Pt)) (points : List Pt) (pointers : List Pointer) (i : ℕ) (d : Pointer) (all : List Pointer) (edge : EdgeValue) → Rounds cell ring closed points (drop i pointers) all → i < length pointers → edge_along cell (get_or pointers i d) ≡ Some edge → followed ring edge.from edge.to ≡ None → rings_of cell all ≡ None
+pub astray : (cell : CellValue) (ring : Option OpenRing) (closed : List (List Pt)) (points : List Pt) (pointers : List Pointer) (i : ℕ) (d : Pointer) (all : List Pointer) (edge : EdgeValue) → Rounds cell ring closed points (drop i pointers) all → i < length pointers → edge_along cell (get_or pointers i d) ≡ Some edge → ring_after ring edge.from edge.to ≡ None → rings_of cell all ≡ None
 astray cell ring closed points pointers i d all edge r lt e f =
     r.same ∙ ap (option_map (with_rest closed points)) (at_pointer cell ring pointers i d lt ∙ broken cell ring (get_or pointers i d) (drop (i + 1) pointers) edge e f)
 

@@ -7,7 +7,7 @@ use Rattle.chart_model.specs.declared.cell.Feature.{Feature}
 use Rattle.chart_model.specs.Cell.{CellValue}
 use Rattle.area_rings.specs.declared.shape.Shape.TheVariants.{Points, Lines, Rings, Bare}
 use Rattle.area_rings.specs.Choice.{◌>>=◌, each}
-use Rattle.area_rings.specs.Edge.{node_of, edge_of, turned}
+use Rattle.area_rings.specs.Edge.{node_of, edge_of, way_along}
 use Rattle.area_rings.specs.Shape.{points_of, lines_of, rings_of, shape_of}
 use Rattle.area_rings.proofs.Traces.{is_some-option_map}
 
@@ -40,8 +40,8 @@ points_some cell pointers =
 
 lines_some : (cell : CellValue) (pointers : List Pointer) → All (λ pointer. IsSome (edge_of cell pointer.target)) pointers ↔ IsSome (lines_of cell pointers)
 lines_some cell pointers =
-    let line = λ (pointer : Pointer). option_map (λ edge. (turned (eqb pointer.ornt 2) edge).points) (edge_of cell pointer.target) in
-    let e = λ (pointer : Pointer). is_some-option_map (λ edge. (turned (eqb pointer.ornt 2) edge).points) (edge_of cell pointer.target) in
+    let line = λ (pointer : Pointer). option_map (λ edge. (way_along (eqb pointer.ornt 2) edge).points) (edge_of cell pointer.target) in
+    let e = λ (pointer : Pointer). is_some-option_map (λ edge. (way_along (eqb pointer.ornt 2) edge).points) (edge_of cell pointer.target) in
     (λ h. each_some line pointers (λ k d lt. e (get_or pointers k d) ∙ h k d lt), λ h k d lt. sym (e (get_or pointers k d)) ∙ some_each line pointers h k d lt)
 
 pub point_shape : (cell : CellValue) (feature : Feature) → feature.prim ≡ 1 → All (λ pointer. IsSome (node_of cell pointer.target)) feature.pointers ↔ IsSome (shape_of cell feature)

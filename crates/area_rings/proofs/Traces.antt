@@ -9,7 +9,7 @@ use Rattle.area_rings.specs.declared.trace.OpenRing.{OpenRing}
 use Rattle.area_rings.specs.Choice.{◌>>=◌, each}
 use Rattle.area_rings.specs.Direction.{value_of}
 use Rattle.area_rings.specs.Edge.{EdgeValue, edge_along}
-use Rattle.area_rings.specs.Rings.{followed, before_rings, chains_of, ring_points, rings_of}
+use Rattle.area_rings.specs.Rings.{ring_after, before_rings, chains_of, ring_points, rings_of}
 
 -- the rings that pointers make, the first of which may have begun before them
 abbrev pub chains_at : CellValue → Option OpenRing → List Pointer → Option (List (List EdgeValue))
@@ -19,9 +19,9 @@ pub no_line : (cell : CellValue) (ring : Option OpenRing) (p : Pointer) (rest : 
 no_line cell ring p rest e = rw e refl
 
 -- one edge more
-chains_step : (ring : Option OpenRing) (edge : EdgeValue) (edges : Option (List EdgeValue)) → ((edges >>= (λ more. Some (edge ∷ more))) >>= chains_of ring) ≡ (followed ring edge.from edge.to >>= (λ next. option_map (before_rings edge next) (edges >>= chains_of next)))
+chains_step : (ring : Option OpenRing) (edge : EdgeValue) (edges : Option (List EdgeValue)) → ((edges >>= (λ more. Some (edge ∷ more))) >>= chains_of ring) ≡ (ring_after ring edge.from edge.to >>= (λ next. option_map (before_rings edge next) (edges >>= chains_of next)))
 unfolding chains_of
-chains_step ring edge None = nothing (followed ring edge.from edge.to)
+chains_step ring edge None = nothing (ring_after ring edge.from edge.to)
   where
     nothing : (o : Option (Option OpenRing)) → ◌≡◌ {A = Option (List (List EdgeValue))} None (o >>= (λ next. None))
     nothing None = refl
@@ -29,12 +29,12 @@ chains_step ring edge None = nothing (followed ring edge.from edge.to)
 chains_step ring edge (Some edges) = refl
 
 -- an edge that the ring doesn't go on with
-pub broken : (cell : CellValue) (ring : Option OpenRing) (p : Pointer) (rest : List Pointer) (edge : EdgeValue) → edge_along cell p ≡ Some edge → followed ring edge.from edge.to ≡ None → chains_at cell ring (p ∷ rest) ≡ None
+pub broken : (cell : CellValue) (ring : Option OpenRing) (p : Pointer) (rest : List Pointer) (edge : EdgeValue) → edge_along cell p ≡ Some edge → ring_after ring edge.from edge.to ≡ None → chains_at cell ring (p ∷ rest) ≡ None
 broken cell ring p rest edge e f =
     rw e (chains_step ring edge (each (edge_along cell) rest) ∙ rw f refl)
 
 -- an edge that the ring goes on with
-pub goes_on : (cell : CellValue) (ring next : Option OpenRing) (p : Pointer) (rest : List Pointer) (edge : EdgeValue) → edge_along cell p ≡ Some edge → followed ring edge.from edge.to ≡ Some next → chains_at cell ring (p ∷ rest) ≡ option_map (before_rings edge next) (chains_at cell next rest)
+pub goes_on : (cell : CellValue) (ring next : Option OpenRing) (p : Pointer) (rest : List Pointer) (edge : EdgeValue) → edge_along cell p ≡ Some edge → ring_after ring edge.from edge.to ≡ Some next → chains_at cell ring (p ∷ rest) ≡ option_map (before_rings edge next) (chains_at cell next rest)
 goes_on cell ring next p rest edge e f =
     rw e (chains_step ring edge (each (edge_along cell) rest) ∙ rw f refl)
 
@@ -58,10 +58,10 @@ at_pointer cell ring pointers i d h = rw (add-one, drop-cons pointers i d) refl
 -- a pointer adds this edge to the ring, which then stands so
 pub record Adds (cell : CellValue) (ring next : Option OpenRing) (p : Pointer) (edge : EdgeValue) : Type 0 where
   pub line : edge_along cell p ≡ Some edge
-  pub follows : followed ring edge.from edge.to ≡ Some next
+  pub follows : ring_after ring edge.from edge.to ≡ Some next
 
 -- an edge that was found, and that the ring goes on with, is what the pointer adds
-pub adds_found : (cell : CellValue) (ring next : Option OpenRing) (p : Pointer) (found : Option DirectedEdge) (edge : DirectedEdge) (after : Option (Option OpenRing)) → option_map value_of found ≡ edge_along cell p → found ≡ Some edge → after ≡ followed ring edge.from edge.to → after ≡ Some next → Adds cell ring next p (value_of edge)
+pub adds_found : (cell : CellValue) (ring next : Option OpenRing) (p : Pointer) (found : Option DirectedEdge) (edge : DirectedEdge) (after : Option (Option OpenRing)) → option_map value_of found ≡ edge_along cell p → found ≡ Some edge → after ≡ ring_after ring edge.from edge.to → after ≡ Some next → Adds cell ring next p (value_of edge)
 adds_found cell ring next p found edge after is there follows so = record {
   line = sym is ∙ ap (option_map value_of) there;
   follows = sym follows ∙ so;
@@ -80,7 +80,7 @@ pub no_line_left : (cell : CellValue) (ring : Option OpenRing) (pointers : List 
 no_line_left cell ring pointers i d all r lt e =
     none_left cell ring pointers i all r (at_pointer cell ring pointers i d lt ∙ no_line cell ring (get_or pointers i d) (drop (i + 1) pointers) e)
 
-pub broken_left : (cell : CellValue) (ring : Option OpenRing) (pointers : List Pointer) (i : ℕ) (d : Pointer) (all : List Pointer) (edge : EdgeValue) → Remains cell ring (drop i pointers) all → i < length pointers → edge_along cell (get_or pointers i d) ≡ Some edge → followed ring edge.from edge.to ≡ None → ¬ IsSome (chains_at cell None all)
+pub broken_left : (cell : CellValue) (ring : Option OpenRing) (pointers : List Pointer) (i : ℕ) (d : Pointer) (all : List Pointer) (edge : EdgeValue) → Remains cell ring (drop i pointers) all → i < length pointers → edge_along cell (get_or pointers i d) ≡ Some edge → ring_after ring edge.from edge.to ≡ None → ¬ IsSome (chains_at cell None all)
 broken_left cell ring pointers i d all edge r lt e f =
     none_left cell ring pointers i all r (at_pointer cell ring pointers i d lt ∙ broken cell ring (get_or pointers i d) (drop (i + 1) pointers) edge e f)
 

@@ -56,15 +56,15 @@ edge_of cell name =
       end ← place_of cell ends.1
       Some (record { from = ends.0; to = ends.1; points = begin ∷ map point_of edge.coords ++ end ∷ [] })) else None
 
--- the same edge, in reverse or as it is
-abbrev pub turned : Bool → EdgeValue → EdgeValue
-turned reversed edge =
+-- the way along an edge, in reverse or as it is
+abbrev pub way_along : Bool → EdgeValue → EdgeValue
+way_along reversed edge =
     if reversed then record { from = edge.to; to = edge.from; points = reverse edge.points } else edge
 
 -- the line of an edge
 abbrev pub line_of : CellValue → Name → Bool → Option (List Pt)
-line_of cell name reversed = option_map (λ edge. (turned reversed edge).points) (edge_of cell name)
+line_of cell name reversed = option_map (λ edge. (way_along reversed edge).points) (edge_of cell name)
 
 -- the edge that a pointer gives, in reverse where its orientation says so
 abbrev pub edge_along : CellValue → Pointer → Option EdgeValue
-edge_along cell pointer = option_map (turned (pointer.ornt == REVERSE)) (edge_of cell pointer.target)
+edge_along cell pointer = option_map (way_along (pointer.ornt == REVERSE)) (edge_of cell pointer.target)

@@ -54,10 +54,10 @@ same_name a b = (a.rcnm == b.rcnm) && (a.rcid == b.rcid)
 
 -- how a ring stands after an edge from a node to another: no ring is left where the edge closes it;
 -- nothing where the edge begins elsewhere than the ring has come to
-abbrev pub followed : Option OpenRing → Name → Name → Option (Option OpenRing)
-followed None from to =
+abbrev pub ring_after : Option OpenRing → Name → Name → Option (Option OpenRing)
+ring_after None from to =
     Some (if same_name to from then None else Some (record { home = from; at = to }))
-followed (Some ring) from to =
+ring_after (Some ring) from to =
     if same_name ring.at from then
     Some (if same_name to ring.home then None else Some (record { home = ring.home; at = to }))
     else None
@@ -72,7 +72,7 @@ before_rings edge (Some begun) (ring ∷ rings) = (edge ∷ ring) ∷ rings
 unfoldable pub chains_of : Option OpenRing → List EdgeValue → Option (List (List EdgeValue))
 chains_of begun [] = if is_some begun then None else Some []
 chains_of begun (edge ∷ rest) = do
-  next ← followed begun edge.from edge.to
+  next ← ring_after begun edge.from edge.to
   option_map (before_rings edge next) (chains_of next rest)
 
 -- the rings that an area's pointers make

@@ -1,9 +1,11 @@
 //! Nodes, and edges on the way from one of their nodes to the other.
+//!
+//! An edge is lent with its direction and not copied, so that rings and lines are made in one go over the cell.
 
 ghost use Rattle.std.specs.Prelude.{◌≡◌};
 ghost use Rattle.std.specs.Option.{option_copied, option_map};
 ghost use Rattle.area_rings.specs.Edge.{is_node, node_of, point_of, place_of};
-ghost use Rattle.area_rings.specs.Edge.{begins_and_ends, ends_of, edge_of, turned};
+ghost use Rattle.area_rings.specs.Edge.{begins_and_ends, ends_of, edge_of, way_along};
 ghost use Rattle.area_rings.specs.Direction.{value_of};
 
 use chart_model::codes::{BEGIN_NODE, CONNECTED_NODE, EDGE, END_NODE, ISOLATED_NODE};
@@ -104,8 +106,8 @@ impl DirectedEdge<'_> {
     ghost use Rattle.area_rings.specs.Direction.{value_of};
 
     /// The edge the other way.
-    fn turned(self) -> Self
-        ensures { value_of result ≡ turned true (value_of self.entry) }
+    fn in_reverse(self) -> Self
+        ensures { value_of result ≡ way_along true (value_of self.entry) }
     {
         DirectedEdge {
             from: self.to,
@@ -120,8 +122,8 @@ impl DirectedEdge<'_> {
 
 /// The edge of that name from its begin node to its end node, or in reverse. It takes no memory.
 pub(crate) fn edge(cell: &Cell, name: Name, reversed: bool) -> Option<DirectedEdge<'_>>
-    ensures { option_map value_of result ≡ option_map (turned reversed) (edge_of cell.now name) }
+    ensures { option_map value_of result ≡ option_map (way_along reversed) (edge_of cell.now name) }
 {
     let edge = recorded(cell, name)?;
-    Some(if reversed { edge.turned() } else { edge })
+    Some(if reversed { edge.in_reverse() } else { edge })
 }

@@ -1,4 +1,7 @@
 //! What holds of the definitions.
+//!
+//! The function that gives rings goes edge by edge. That they are the shortest chains which return is how the standard
+//! has it, and the two are tied together here.
 
 ghost use Rattle.std.specs.Prelude.{◌≡◌, ◌↔◌, Bool, List, Some, IsSome};
 ghost use Rattle.chart_model.specs.declared.name.Name.{Name};

@@ -1,4 +1,6 @@
 //! The lines of edges.
+//!
+//! The points of an edge leave out its nodes (S-57 Part 3), so a line puts these at both ends.
 
 ghost use Rattle.std.specs.Prelude.{◌≡◌, ◌++◌, map, reverse, OnOk, IfOk};
 ghost use Rattle.area_rings.specs.Edge.{point_of};

@@ -1,4 +1,6 @@
 //! Whether a feature has a shape.
+//!
+//! Closure asks this of every feature of a chart, so it takes no memory, as `shape` has to.
 
 ghost use Rattle.std.specs.Prelude.{◌↔◌, IsTrue, IsSome, All, false};
 ghost use Rattle.area_rings.specs.Shape.{line_of, rings_of, shape_of};

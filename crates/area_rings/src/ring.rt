@@ -1,4 +1,6 @@
 //! The rings of areas.
+//!
+//! A pointer doesn't say where a ring ends (S-57 Part 3): that shows by its nodes alone.
 
 ghost use Rattle.std.specs.Prelude.{◌≡◌, ◌++◌, ◌∷◌, [], if◌then◌else◌, OnOk, IfOk};
 ghost use Rattle.area_rings.specs.Shape.{rings_of};

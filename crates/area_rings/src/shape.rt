@@ -1,4 +1,6 @@
 //! The shape of a feature.
+//!
+//! What a feature points to goes by its primitive, so a shape is one of four kinds, or isn't there.
 
 ghost use Rattle.std.specs.Prelude.{◌≡◌, IfOk};
 ghost use Rattle.area_rings.specs.Shape.{points_of, shape_of};

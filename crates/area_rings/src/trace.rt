@@ -1,7 +1,10 @@
 //! A ring that is traced edge by edge.
+//!
+//! `ring` and `presence` follow edges alike, one with points and one without. What is open of a ring is all that they
+//! share.
 
 ghost use Rattle.std.specs.Prelude.{◌≡◌};
-ghost use Rattle.area_rings.specs.Rings.{followed};
+ghost use Rattle.area_rings.specs.Rings.{ring_after};
 
 use chart_model::Name;
 
@@ -17,7 +20,7 @@ pub(crate) struct OpenRing {
 /// How a ring stands after an edge that goes from a node to another: no ring is open where the edge
 /// closes it. `None` where the edge begins elsewhere than the ring has come to.
 pub(crate) fn follow(ring: Option<OpenRing>, from: Name, to: Name) -> Option<Option<OpenRing>>
-    ensures { result ≡ followed ring from to }
+    ensures { result ≡ ring_after ring from to }
 {
     let home = match ring {
         None => from,

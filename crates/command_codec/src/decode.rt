@@ -1,4 +1,6 @@
 //! Commands of bytes.
+//!
+//! Any bytes may come from a disk, so all are answered; and none but a file's are copied.
 
 ghost use Rattle.std.specs.Prelude.{◌≡◌, IfOk, IfErr, IfSome, IfNone, List, ℕ, Some};
 ghost use Rattle.chart_model.specs.declared.command.Command.{Command as CommandValue};

@@ -1,4 +1,6 @@
 //! Bytes of commands.
+//!
+//! A command is put together in one vector of its full length, so memory is asked for once.
 
 ghost use Rattle.std.specs.Prelude.{◌≡◌, ◌≤◌, ◌∷◌, ◌++◌, length, IfOk};
 ghost use Rattle.std.specs.Int.{w32, to_be_bytes};

@@ -1,4 +1,6 @@
 //! The first bytes of commands.
+//!
+//! They stand apart so that reading and writing can't differ in them.
 
 /// Stands before the file that is loaded.
 pub const LOADS: u8 = 0x01;

@@ -1,4 +1,6 @@
 //! What holds of commands and their bytes.
+//!
+//! What was written must be read back as the same command, and no other bytes as that one: the store stands on this.
 
 ghost use Rattle.std.specs.Prelude.{◌≡◌, ◌↔◌, List, ℕ, Some};
 ghost use Rattle.chart_model.specs.declared.command.Command.{Command};

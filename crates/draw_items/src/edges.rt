@@ -1,4 +1,6 @@
 //! The edges of a feature that are drawn.
+//!
+//! Which edges those are is asked by depth areas, contours and hazards alike, so it is said once.
 
 ghost use Rattle.std.specs.Prelude.{◌≡◌, ◌++◌, OnOk};
 ghost use Rattle.draw_items.specs.Edges.{is_drawn, drawn_edges, on_edges};

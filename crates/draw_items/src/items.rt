@@ -1,4 +1,6 @@
 //! Items one after the other.
+//!
+//! Each procedure adds to the items of a block, so that no list is made in between.
 
 ghost use Rattle.std.specs.Prelude.{◌≡◌, ◌++◌, ◌∷◌, [], OnOk, OnErr};
 ghost use Rattle.draw_items.specs.Items.{item};

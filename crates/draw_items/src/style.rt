@@ -1,4 +1,6 @@
 //! The style of the line along an edge.
+//!
+//! A mariner has to see which lines are surveyed, so that goes by the edge and not by the feature.
 
 ghost use Rattle.std.specs.Prelude.{◌≡◌};
 ghost use Rattle.std.specs.Option.{option_copied};

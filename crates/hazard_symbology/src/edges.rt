@@ -1,4 +1,6 @@
 //! Hazards along lines and in areas.
+//!
+//! Where a hazard is no point its edges show it, dotted where it is a danger.
 
 ghost use Rattle.std.specs.Prelude.{◌≡◌, ◌++◌, OnOk};
 ghost use Rattle.hazard_symbology.specs.Edges.{line_items, area_items};

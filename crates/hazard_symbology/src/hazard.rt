@@ -1,4 +1,6 @@
 //! The procedures for hazards.
+//!
+//! They are one procedure: what is drawn goes by the geometry and by whether the depth makes the hazard a danger.
 
 ghost use Rattle.std.specs.Prelude.{◌≡◌, ◌++◌, OnOk, IfOk};
 ghost use Rattle.depth_values.specs.Under.{areas_of};

@@ -1,4 +1,7 @@
 //! Hazards at points.
+//!
+//! A danger in water that is safe otherwise is the one that a mariner could miss, so its mark stands in place of all
+//! else.
 
 ghost use Rattle.std.specs.Prelude.{◌≡◌, ◌++◌, OnOk, IfOk};
 ghost use Rattle.chart_model.specs.Record.{IsWithin};

@@ -1,4 +1,6 @@
 //! The symbol of a hazard of unknown depth.
+//!
+//! Where no depth tells how dangerous it is, the object's class and its water level have to.
 
 ghost use Rattle.std.specs.Prelude.{◌≡◌};
 ghost use Rattle.hazard_symbology.specs.Symbol.{dries, wreck_symbol, rock_symbol, obstruction_symbol, symbol_of};

@@ -1,4 +1,6 @@
 //! The acronyms of object classes and attributes.
+//!
+//! An acronym has a fixed length, so it is an array that is copied and hashed without memory.
 
 ghost use Rattle.std.specs.Prelude.{◌≡◌, ◌↔◌, IsTrue};
 ghost use Rattle.std.specs.Option.{SomeIff};

@@ -1,4 +1,6 @@
 //! A catalogue.
+//!
+//! Classes and attributes are numbered apart: one code or acronym may stand in both lists.
 
 ghost use Rattle.std.specs.Prelude.{◌≡◌, ◌||◌, false, IfOk};
 ghost use Rattle.object_catalogue.specs.Codes.{empty_catalogue, has_code, has_acronym, stands_in, code_in, with_entry};

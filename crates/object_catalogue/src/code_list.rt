@@ -1,4 +1,6 @@
 //! Codes and acronyms in the order of their lines, found by either.
+//!
+//! Tables are read by acronym and S-57 speaks in codes, so both ways are kept; their order stays for contracts to see.
 
 ghost use Rattle.std.specs.Prelude.{◌≡◌, ◌++◌, ◌∷◌, [], false, IfOk};
 ghost use Rattle.object_catalogue.specs.Codes.{has_code, has_acronym, code_in};

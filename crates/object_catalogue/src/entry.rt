@@ -1,4 +1,6 @@
 //! One entry of a catalogue.
+//!
+//! It is the grammar of a line alone, without the entries before it.
 
 ghost use Rattle.std.specs.Prelude.{◌≡◌};
 ghost use Rattle.object_catalogue.specs.Entry.{kind_of, code_of, entry_with, entry_of};

@@ -1,4 +1,6 @@
 //! Why a catalogue is not read.
+//!
+//! Want of memory stands beside the faults of lines, so that one type serves every call of the reading.
 
 ghost use Rattle.std.specs.Prelude.{◌≡◌};
 ghost use Rattle.object_catalogue.specs.declared.fault.CatalogueFault.TheVariants.{NoMemory};

@@ -1,4 +1,6 @@
 //! What holds of catalogues and of what they say.
+//!
+//! The contracts cite functions; here they are tied to the grammar that a reader checks them by.
 
 ghost use Rattle.std.specs.Prelude.{◌≡◌, ◌↔◌, List, ℕ, Some, true, IsTrue};
 ghost use Rattle.object_catalogue.specs.Entry.{Spells, IsBad, entry_of};

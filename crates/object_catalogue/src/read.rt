@@ -1,4 +1,6 @@
 //! A catalogue, read.
+//!
+//! What a line's fault is depends on the lines before it, so the catalogue so far is handed from line to line.
 
 ghost use Rattle.object_catalogue.specs.Reading.{catalogue_in, line_in};
 ghost use Rattle.object_catalogue.specs.Answers.{Answers};

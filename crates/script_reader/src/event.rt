@@ -1,4 +1,6 @@
 //! What the lines of a script ask for.
+//!
+//! Each verb is read by the number of the words behind it, so that a word too many or too few makes the line bad.
 
 ghost use Rattle.std.specs.Prelude.{◌≡◌, IfOk, OnErr, Some};
 ghost use Rattle.script_reader.specs.declared.event.Event.{Event as EventValue};

@@ -1,4 +1,6 @@
 //! Why a line is not read.
+//!
+//! Want of memory is no fault of the line, and stands beside it so that one type serves the whole reading.
 
 ghost use Rattle.std.specs.Prelude.{◌≡◌};
 ghost use Rattle.script_reader.specs.declared.fault.LineFault.TheVariants.{NoMemory};

@@ -1,4 +1,7 @@
 //! What holds of lines and of what they ask for.
+//!
+//! The session cites the function that reads a line. Here it is tied to the grammar of lines, so that a reader of the
+//! theorems needn't trust it.
 
 ghost use Rattle.std.specs.Prelude.{◌≡◌, ◌↔◌, ◌<◌, ◌≤◌, ◌++◌, List, ℕ, length, Some, None, Ok, Err};
 ghost use Rattle.script_reader.specs.declared.event.Event.{Event};

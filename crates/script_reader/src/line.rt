@@ -1,4 +1,6 @@
 //! A line, read.
+//!
+//! The length of a line is not asked here: what is longer than any event spells is bad by its words.
 
 ghost use Rattle.std.specs.Prelude.{◌≡◌, ◌↔◌, ◌<◌, ◌≢◌, length, Some, None, Ok, Err};
 ghost use Rattle.script_reader.specs.declared.event.Event.{Event as EventValue};

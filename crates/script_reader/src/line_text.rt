@@ -1,4 +1,6 @@
 //! The text of a line, put together word by word.
+//!
+//! All replies are made of these few steps, so that each word has exactly one space before it.
 
 ghost use Rattle.std.specs.Prelude.{◌≡◌, ◌++◌, ◌∷◌, [], OnOk};
 ghost use Rattle.script_reader.specs.Reply.{number};

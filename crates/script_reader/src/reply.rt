@@ -1,4 +1,6 @@
 //! What is replied to a line, as bytes.
+//!
+//! A reply is one value until here, so that its bytes are a function of it, and a refusal can't be half a reply.
 
 ghost use Rattle.std.specs.Prelude.{◌≡◌, ◌++◌, ◌∷◌, [], codes, IfOk};
 ghost use Rattle.std.specs.List.{join_with_byte};

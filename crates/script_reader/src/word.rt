@@ -1,4 +1,6 @@
 //! The names of files on the lines of a script.
+//!
+//! A name is handed to the outside as text, so it is held as text; which bytes may stand in it is a fact of the type.
 
 ghost use Rattle.std.specs.Prelude.{◌≡◌, ◌↔◌, IfOk, OnErr, IsTrue, All};
 ghost use Rattle.std.specs.Option.{SomeIff};

@@ -1,4 +1,6 @@
 //! The words of a line.
+//!
+//! No more than nine digits are read, so a number fits 32 bits and needs no further test.
 
 ghost use Rattle.std.specs.Option.{SomeIff};
 ghost use Rattle.text_scan.specs.Number.{value_of};

@@ -1,4 +1,6 @@
 //! The first fault among lines.
+//!
+//! Three readers answer the first line with a fault. What that is is said once, as a function and as a relation.
 
 ghost use Rattle.std.specs.Prelude.{◌≡◌, ◌↔◌, List, [], ℕ, Option, Some, None};
 ghost use Rattle.text_lines.specs.Reading.{first_fault, HasFirstFault, AreFaultless};

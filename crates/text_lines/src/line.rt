@@ -1,4 +1,7 @@
 //! The lines of a file.
+//!
+//! Catalogues, tables and routes come from editors of all kinds. So a carriage return before a line feed is no part of
+//! a line.
 
 ghost use Rattle.std.specs.Prelude.{◌≡◌, ◌↔◌, ◌==◌, ◌∷◌, [], ◌<◌, length, position, IfSome, IfNone, IsTrue};
 ghost use Rattle.std.specs.Str.Lines.{lines, strip_carriage_return};

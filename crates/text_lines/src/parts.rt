@@ -1,4 +1,6 @@
 //! The parts of a line between bytes that part it.
+//!
+//! One byte parts two parts, and every such byte does: so parts may be empty, and joined they are the text again.
 
 ghost use Rattle.std.specs.Prelude.{◌≡◌, ◌≢◌, ◌==◌, ◌<◌, length, ◌∷◌, [], ◌++◌, position, All, List, ℕ, IfSome, IfNone};
 ghost use Rattle.std.specs.Iterator.{at_most};

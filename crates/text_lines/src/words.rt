@@ -1,4 +1,6 @@
 //! The words of a line.
+//!
+//! A line of a script or a catalogue has three words at most, so its words are a value to match on, and no list.
 
 ghost use Rattle.text_lines.specs.Lines.{words_of};
 ghost use Rattle.text_lines.specs.Words.{AreWords};

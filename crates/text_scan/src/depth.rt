@@ -1,4 +1,6 @@
 //! Depths: decimals of a unit, in hundredths of it.
+//!
+//! Depths are held in whole centimetres. So a decimal is rounded down: never deeper than it says.
 
 ghost use Rattle.std.specs.Prelude.{◌≡◌, ◌+◌, ◌-◌, ◌*◌, ◌/◌, ◌^◌, ◌<◌, ◌≤◌, ◌++◌, ◌↔◌};
 ghost use Rattle.std.specs.Prelude.{ℤ, pos, List, ℕ, length, Some, IfSome, IsTrue, option_map};

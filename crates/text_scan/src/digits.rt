@@ -1,4 +1,6 @@
 //! Digits, and the numbers that they write.
+//!
+//! They are added up in 128 bits, which no text that passed its length test can fill.
 
 ghost use Rattle.std.specs.Prelude.{◌≡◌, ◌+◌, ◌^◌, ◌<◌, ◌≤◌, length, take, IsTrue};
 ghost use Rattle.std.specs.List.{prefix_len};

@@ -1,4 +1,6 @@
 //! Whole numbers.
+//!
+//! A number has at most 18 digits, so that it fits 64 bits with and without a sign.
 
 ghost use Rattle.std.specs.Prelude.{◌≡◌, ◌^◌, ◌<◌, ◌↔◌, List, ℕ, ℤ, IfSome, IsTrue, Some};
 ghost use Rattle.std.specs.Option.{SomeIff};

@@ -1,4 +1,6 @@
 //! The text of a number.
+//!
+//! What is written here can be read back, and a number has one text, so replies can be compared as bytes.
 
 ghost use Rattle.std.specs.Prelude.{◌≡◌, ◌<◌, ◌^◌, ◌++◌, List, ℕ, ℤ, unsigned_abs, OnOk, OnErr};
 ghost use Rattle.text_scan.specs.Written.{decimal_of, IsDecimal};
