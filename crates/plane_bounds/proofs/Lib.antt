@@ -4,3 +4,4 @@ pub mod Turns
 pub mod Ends
 pub mod Outside
 pub mod Growth
+pub mod Meeting

@@ -36,8 +36,8 @@ off_segment : (bounds : Bounds) (p : Pt) → (IsIn bounds p → ⊥) → (s : Pt
 off_segment bounds p out s ends =
     not_true _ (λ e.
     let box = is_in_box p s.0 s.1 ((Decides-on p s).0 e) in
-    let across = between bounds.west bounds.east p.x s.0.x s.1.x ends.0.west ends.0.east ends.1.west ends.1.east box.across in
-    let along = between bounds.south bounds.north p.y s.0.y s.1.y ends.0.south ends.0.north ends.1.south ends.1.north box.along in
+    let across = between bounds.x0 bounds.x1 p.x s.0.x s.1.x ends.0.west ends.0.east ends.1.west ends.1.east box.across in
+    let along = between bounds.y0 bounds.y1 p.y s.0.y s.1.y ends.0.south ends.0.north ends.1.south ends.1.north box.along in
     out (record { west = across.0; east = across.1; south = along.0; north = along.1 }))
 
 -- ---- an even number of segments cross
@@ -167,14 +167,14 @@ west p s low h a b =
 
 even_crossings : (bounds : Bounds) (p : Pt) (rings : List (List Pt)) → (IsIn bounds p → ⊥) → AllOf (Ends (IsIn bounds)) (all_segments rings) → odd (crosses p) (all_segments rings) ≡ false
 even_crossings bounds p rings out ends =
-    by_lt_z p.x bounds.west
-    (λ lt. odd_rings (crosses p) (is_low p) rings (all_then (Ends (IsIn bounds)) _ _ (λ s e. west p s bounds.west lt e.0.west e.1.west) ends))
-    (λ a. by_lt_z bounds.east p.x
-    (λ lt. odd_never (crosses p) _ (all_then (Ends (IsIn bounds)) _ _ (λ s e. east p s bounds.east lt e.0.east e.1.east) ends))
-    (λ b. by_lt_z p.y bounds.south
-    (λ lt. odd_never (crosses p) _ (all_then (Ends (IsIn bounds)) _ _ (λ s e. south p s bounds.south lt e.0.south e.1.south) ends))
-    (λ c. by_lt_z bounds.north p.y
-    (λ lt. odd_never (crosses p) _ (all_then (Ends (IsIn bounds)) _ _ (λ s e. north p s bounds.north lt e.0.north e.1.north) ends))
+    by_lt_z p.x bounds.x0
+    (λ lt. odd_rings (crosses p) (is_low p) rings (all_then (Ends (IsIn bounds)) _ _ (λ s e. west p s bounds.x0 lt e.0.west e.1.west) ends))
+    (λ a. by_lt_z bounds.x1 p.x
+    (λ lt. odd_never (crosses p) _ (all_then (Ends (IsIn bounds)) _ _ (λ s e. east p s bounds.x1 lt e.0.east e.1.east) ends))
+    (λ b. by_lt_z p.y bounds.y0
+    (λ lt. odd_never (crosses p) _ (all_then (Ends (IsIn bounds)) _ _ (λ s e. south p s bounds.y0 lt e.0.south e.1.south) ends))
+    (λ c. by_lt_z bounds.y1 p.y
+    (λ lt. odd_never (crosses p) _ (all_then (Ends (IsIn bounds)) _ _ (λ s e. north p s bounds.y1 lt e.0.north e.1.north) ends))
     (λ d. absurd (out (record { west = a; east = b; south = c; north = d }))))))
 
 pub none_outside : (bounds : Bounds) (p : Pt) (rings : List (List Pt)) → RingsIn bounds rings → (IsIn bounds p → ⊥) → is_inside p rings ≡ false
@@ -189,8 +189,8 @@ pub inside_in_bounds : (bounds : Bounds) (p : Pt) (rings : List (List Pt)) → R
 inside_in_bounds bounds p rings all inside =
     let never_out : (IsIn bounds p → ⊥) → ⊥ = λ out. false≢true (sym (none_outside bounds p rings all out) ∙ (Decides-inside p rings).1 inside) in
     record {
-      west = by_lt_z p.x bounds.west (λ lt. absurd (never_out (λ q. omega (arith, ints, lt, q.west)))) (λ le. le);
-      east = by_lt_z bounds.east p.x (λ lt. absurd (never_out (λ q. omega (arith, ints, lt, q.east)))) (λ le. le);
-      south = by_lt_z p.y bounds.south (λ lt. absurd (never_out (λ q. omega (arith, ints, lt, q.south)))) (λ le. le);
-      north = by_lt_z bounds.north p.y (λ lt. absurd (never_out (λ q. omega (arith, ints, lt, q.north)))) (λ le. le);
+      west = by_lt_z p.x bounds.x0 (λ lt. absurd (never_out (λ q. omega (arith, ints, lt, q.west)))) (λ le. le);
+      east = by_lt_z bounds.x1 p.x (λ lt. absurd (never_out (λ q. omega (arith, ints, lt, q.east)))) (λ le. le);
+      south = by_lt_z p.y bounds.y0 (λ lt. absurd (never_out (λ q. omega (arith, ints, lt, q.south)))) (λ le. le);
+      north = by_lt_z bounds.y1 p.y (λ lt. absurd (never_out (λ q. omega (arith, ints, lt, q.north)))) (λ le. le);
     }

@@ -1,20 +1,33 @@
--- A box whose borders moved out, as far as a point.
-use Rattle.std.proofs.Common.{◌≤ℤ◌}
+-- A box with one more point.
+use Rattle.std.proofs.Common.{arith}
+use Rattle.std.proofs.lemmas.Int.{ints, clamps}
 use Rattle.plane_geometry.specs.declared.point.Pt.{Pt}
 use Rattle.plane_bounds.specs.declared.bounds.Bounds.{Bounds}
-use Rattle.plane_bounds.specs.Bounds.{Holds, IsIn}
+use Rattle.plane_bounds.specs.Bounds.{Holds, IsIn, with_point}
 
--- each border lies beyond the old one and beyond the point
-pub record IsWidened (old widened : Bounds) (p : Pt) : Type 0 where
-  pub west : (widened.west ≤ℤ old.west) × (widened.west ≤ℤ p.x)
-  pub east : (old.east ≤ℤ widened.east) × (p.x ≤ℤ widened.east)
-  pub south : (widened.south ≤ℤ old.south) × (widened.south ≤ℤ p.y)
-  pub north : (old.north ≤ℤ widened.north) × (p.y ≤ℤ widened.north)
-
--- so it holds the old box
-pub holds_old : (old widened : Bounds) (p : Pt) → IsWidened old widened p → Holds widened old
-holds_old old widened p is = record { west = is.west.0; east = is.east.0; south = is.south.0; north = is.north.0 }
+-- it holds the old box
+pub holds_old : (old : Bounds) (p : Pt) → Holds (with_point old p) old
+holds_old old p = record {
+  west = omega (arith, ints, clamps);
+  east = omega (arith, ints, clamps);
+  south = omega (arith, ints, clamps);
+  north = omega (arith, ints, clamps);
+}
 
 -- and the point
-pub holds_point : (old widened : Bounds) (p : Pt) → IsWidened old widened p → IsIn widened p
-holds_point old widened p is = record { west = is.west.1; east = is.east.1; south = is.south.1; north = is.north.1 }
+pub holds_point : (old : Bounds) (p : Pt) → IsIn (with_point old p) p
+holds_point old p = record {
+  west = omega (arith, ints, clamps);
+  east = omega (arith, ints, clamps);
+  south = omega (arith, ints, clamps);
+  north = omega (arith, ints, clamps);
+}
+
+-- and each box that holds both holds it
+pub held_by : (old : Bounds) (p : Pt) (other : Bounds) → Holds other old → IsIn other p → Holds other (with_point old p)
+held_by old p other h q = record {
+  west = omega (arith, ints, clamps, h.west, q.west);
+  east = omega (arith, ints, clamps, h.east, q.east);
+  south = omega (arith, ints, clamps, h.south, q.south);
+  north = omega (arith, ints, clamps, h.north, q.north);
+}

@@ -1,45 +1,87 @@
-//! The box round rings.
+//! Boxes, and the box round rings.
 
-ghost use Rattle.std.specs.Prelude.{◌↔◌, ◌≤ℤ◌, IsTrue};
+ghost use Rattle.std.specs.Prelude.{◌≡◌, ◌↔◌, ◌≤ℤ◌, IsTrue};
+ghost use Rattle.std.specs.Int.{int_min, int_max};
 ghost use Rattle.plane_bounds.specs.declared.bounds.Bounds.{Bounds};
-ghost use Rattle.plane_bounds.specs.Bounds.{HasGrown, Holds, IsBox, RingsIn};
+ghost use Rattle.plane_bounds.specs.Bounds.{HasGrown, HaveCommon, Holds, IsBox, RingsIn};
 
 use plane_geometry::{Pt, Ring, inside_even_odd};
 
-/// The least and the greatest coordinates of some points, in degrees times 10,000,000.
-#[derive(Clone, Copy, Debug)]
+/// A box: all points from one longitude to another and from one latitude to another, both ends included, in degrees
+/// times 10,000,000. It has 64 bits, since a box that is widened reaches past the coordinates of points.
+#[derive(Clone, Copy, Debug, PartialEq, Eq)]
 pub struct Bounds {
-    pub west: i32,
-    pub south: i32,
-    pub east: i32,
-    pub north: i32,
+    /// The west border.
+    pub x0: i64,
+    /// The south border.
+    pub y0: i64,
+    /// The east border.
+    pub x1: i64,
+    /// The north border.
+    pub y1: i64,
 }
 
 /// Whether a number lies from one to another.
-fn is_from_to(low: i32, n: i32, high: i32) -> bool
+fn is_from_to(low: i64, n: i32, high: i64) -> bool
     ensures { IsTrue result ↔ ((low ≤ℤ n) × (n ≤ℤ high)) }
 {
-    low <= n && n <= high
+    low <= i64::from(n) && i64::from(n) <= high
+}
+
+/// Whether two numbers are at most two others.
+fn are_in_order(a: i64, b: i64, c: i64, d: i64) -> bool
+    ensures { IsTrue result ↔ ((a ≤ℤ b) × (c ≤ℤ d)) }
+{
+    a <= b && c <= d
+}
+
+/// Whether a number is from one to another and from a third to a fourth.
+fn have_common(low: i64, high: i64, from: i64, to: i64) -> bool
+    ensures { IsTrue result ↔ HaveCommon low high from to }
+{
+    are_in_order(low, high, from, to) && are_in_order(low, to, from, high)
+}
+
+/// The lesser of a border and a coordinate.
+fn lesser(border: i64, n: i32) -> i64
+    ensures { result ≡ int_min border n }
+{
+    border.min(i64::from(n))
+}
+
+/// The greater of a border and a coordinate.
+fn greater(border: i64, n: i32) -> i64
+    ensures { result ≡ int_max border n }
+{
+    border.max(i64::from(n))
 }
 
 impl Bounds {
     ghost use Rattle.std.specs.Prelude.{◌≡◌, ◌↔◌, IsTrue};
-    ghost use Rattle.plane_bounds.specs.Bounds.{IsIn, Holds, RingsIn};
+    ghost use Rattle.plane_bounds.specs.Bounds.{IsIn, Holds, Meets, RingsIn, with_point};
     ghost use Rattle.plane_bounds.specs.Inside.{is_inside};
 
     /// The bounds of no point.
     pub const NOTHING: Bounds = Bounds {
-        west: i32::MAX,
-        south: i32::MAX,
-        east: i32::MIN,
-        north: i32::MIN,
+        x0: i64::MAX,
+        y0: i64::MAX,
+        x1: i64::MIN,
+        y1: i64::MIN,
     };
 
     /// Whether a point is in the box. It takes no memory.
     pub fn holds(self, p: Pt) -> bool
         ensures { IsTrue result ↔ IsIn self p }
     {
-        is_from_to(self.west, p.x, self.east) && is_from_to(self.south, p.y, self.north)
+        is_from_to(self.x0, p.x, self.x1) && is_from_to(self.y0, p.y, self.y1)
+    }
+
+    /// Whether the box has a point in common with another: boxes that touch meet. It takes no memory.
+    pub fn meets(self, other: Bounds) -> bool
+        ensures { IsTrue result ↔ Meets self other }
+    {
+        have_common(self.x0, self.x1, other.x0, other.x1)
+            && have_common(self.y0, self.y1, other.y0, other.y1)
     }
 
     /// Whether a point is inside rings, by the even-odd rule, whose points are all in the box: the box is asked first.
@@ -53,15 +95,16 @@ impl Bounds {
 
     /// The box with one more point. It takes no memory.
     pub fn with(self, p: Pt) -> Bounds
+        ensures value { result ≡ with_point self p }
         ensures kept { Holds result self }
         ensures there { IsIn result p }
         ensures least { (other : Bounds) → Holds other self → IsIn other p → Holds other result }
     {
         Bounds {
-            west: self.west.min(p.x),
-            south: self.south.min(p.y),
-            east: self.east.max(p.x),
-            north: self.north.max(p.y),
+            x0: lesser(self.x0, p.x),
+            y0: lesser(self.y0, p.y),
+            x1: greater(self.x1, p.x),
+            y1: greater(self.y1, p.y),
         }
     }
 }

@@ -48,10 +48,10 @@ module _ (leg : Leg) (bounds : Bounds) (west south east north : ℤ) (reach : Is
   -- a segment in the box is met only where the reach overlaps it
   pub met_overlaps : (c e : Pt) → IsIn bounds c → IsIn bounds e → MeetsSegment leg c e → Overlaps bounds west south east north
   met_overlaps c e c_in e_in m = record {
-    from_west = near_low m.d m.t m.s leg.w west east bounds.east leg.a.x leg.b.x c.x e.x m.parts m.on_leg m.on_segment reach.across c_in.east e_in.east m.near_x;
-    from_east = near_high m.d m.t m.s leg.w west east bounds.west leg.a.x leg.b.x c.x e.x m.parts m.on_leg m.on_segment reach.across c_in.west e_in.west m.near_x;
-    from_south = near_low m.d m.t m.s leg.h south north bounds.north leg.a.y leg.b.y c.y e.y m.parts m.on_leg m.on_segment reach.along c_in.north e_in.north m.near_y;
-    from_north = near_high m.d m.t m.s leg.h south north bounds.south leg.a.y leg.b.y c.y e.y m.parts m.on_leg m.on_segment reach.along c_in.south e_in.south m.near_y;
+    from_west = near_low m.d m.t m.s leg.w west east bounds.x1 leg.a.x leg.b.x c.x e.x m.parts m.on_leg m.on_segment reach.across c_in.east e_in.east m.near_x;
+    from_east = near_high m.d m.t m.s leg.w west east bounds.x0 leg.a.x leg.b.x c.x e.x m.parts m.on_leg m.on_segment reach.across c_in.west e_in.west m.near_x;
+    from_south = near_low m.d m.t m.s leg.h south north bounds.y1 leg.a.y leg.b.y c.y e.y m.parts m.on_leg m.on_segment reach.along c_in.north e_in.north m.near_y;
+    from_north = near_high m.d m.t m.s leg.h south north bounds.y0 leg.a.y leg.b.y c.y e.y m.parts m.on_leg m.on_segment reach.along c_in.south e_in.south m.near_y;
   }
 
   -- the leg begins in the box only where the reach overlaps it

@@ -17,7 +17,7 @@ pub record IsReach (leg : Leg) (west south east north : ℤ) : Type 0 where
 
 -- two boxes have a point in common
 pub record Overlaps (bounds : Bounds) (west south east north : ℤ) : Type 0 where
-  pub from_west : west ≤ℤ bounds.east
-  pub from_east : bounds.west ≤ℤ east
-  pub from_south : south ≤ℤ bounds.north
-  pub from_north : bounds.south ≤ℤ north
+  pub from_west : west ≤ℤ bounds.x1
+  pub from_east : bounds.x0 ≤ℤ east
+  pub from_south : south ≤ℤ bounds.y1
+  pub from_north : bounds.y0 ≤ℤ north

@@ -39,10 +39,10 @@ pub(crate) struct Reach {
 }
 
 /// Whether two ranges of numbers have one in common.
-fn spans_meet(low: i64, high: i64, from: i32, to: i32) -> bool
+fn spans_meet(low: i64, high: i64, from: i64, to: i64) -> bool
     ensures { IsTrue result ↔ ((low ≤ℤ to) × (from ≤ℤ high)) }
 {
-    low <= i64::from(to) && i64::from(from) <= high
+    low <= to && from <= high
 }
 
 impl Reach {
@@ -68,7 +68,7 @@ impl Reach {
     pub(crate) fn overlaps(&self, bounds: Bounds) -> bool
         ensures { IsTrue result ↔ Overlaps bounds self.now.west self.now.south self.now.east self.now.north }
     {
-        spans_meet(self.west, self.east, bounds.west, bounds.east)
-            && spans_meet(self.south, self.north, bounds.south, bounds.north)
+        spans_meet(self.west, self.east, bounds.x0, bounds.x1)
+            && spans_meet(self.south, self.north, bounds.y0, bounds.y1)
     }
 }

@@ -1,42 +1,37 @@
-use Rattle.std.proofs.Common.{ℤ, of_z, to_z, w32, arith}
-use Rattle.std.proofs.lemmas.Int.{ints, clamps}
+use Rattle.std.proofs.Common.{w32, w64, rules, sym, subst}
+use mir.Val.{SFits}
+use Rattle.std.proofs.lemmas.Int.{to_z-of_z}
 use Rattle.plane_bounds.specs.declared.bounds.Bounds.{Bounds}
-use Rattle.plane_bounds.proofs.Widened.{IsWidened, holds_old, holds_point}
-use Rattle.plane_bounds.proofs.bounds.Bounds.with.Goals.{After-max-2}
+use Rattle.plane_bounds.specs.Bounds.{Holds, IsIn}
+use Rattle.plane_bounds.proofs.Widened.{holds_old, holds_point, held_by}
 use Rattle.plane_bounds.proofs.bounds.Bounds.with.Goals as goal
 
--- a number, by way of 32 bits
-abbrev in_32_bits : ℤ → ℤ
-in_32_bits z = to_z w32 (of_z w32 z)
-
--- the new borders
-abbrev widened : After-max-2 → Bounds
-widened c = record {
-  west = in_32_bits c.min.result;
-  south = in_32_bits c.min-2.result;
-  east = in_32_bits c.max.result;
-  north = in_32_bits c.max-2.result;
-}
-
--- they are the lesser and the greater coordinates
-is_widened : (c : After-max-2) → IsWidened c.args.self (widened c) c.args.p
-is_widened c = record {
-  west = (omega (arith, ints, clamps), omega (arith, ints, clamps));
-  east = (omega (arith, ints, clamps), omega (arith, ints, clamps));
-  south = (omega (arith, ints, clamps), omega (arith, ints, clamps));
-  north = (omega (arith, ints, clamps), omega (arith, ints, clamps));
-}
+pub returns-clause-value : goal.returns-clause-value
+returns-clause-value c =
+    let x : SFits w32 c.args.p.x = search rules in
+    let y : SFits w32 c.args.p.y = search rules in
+    let x0 : SFits w64 c.args.self.x0 = search rules in
+    let y0 : SFits w64 c.args.self.y0 = search rules in
+    let x1 : SFits w64 c.args.self.x1 = search rules in
+    let y1 : SFits w64 c.args.self.y1 = search rules in
+    let rx0 : SFits w64 c.lesser.result = search rules in
+    let ry0 : SFits w64 c.lesser-2.result = search rules in
+    let rx1 : SFits w64 c.greater.result = search rules in
+    let ry1 : SFits w64 c.greater-2.result = search rules in
+    let west = simp to_z-of_z at c.lesser.ensures in
+    let south = simp to_z-of_z at c.lesser-2.ensures in
+    let east = simp to_z-of_z at c.greater.ensures in
+    let north = simp to_z-of_z at c.greater-2.ensures in
+    simp to_z-of_z (λ i. record { x0 = west i; y0 = south i; x1 = east i; y1 = north i })
 
 pub returns-clause-kept : goal.returns-clause-kept
-returns-clause-kept c = holds_old c.args.self _ c.args.p (is_widened c)
+returns-clause-kept c =
+    subst (λ (b : Bounds). Holds b c.args.self) (sym (returns-clause-value c)) (holds_old c.args.self c.args.p)
 
 pub returns-clause-there : goal.returns-clause-there
-returns-clause-there c = holds_point c.args.self _ c.args.p (is_widened c)
+returns-clause-there c =
+    subst (λ (b : Bounds). IsIn b c.args.p) (sym (returns-clause-value c)) (holds_point c.args.self c.args.p)
 
 pub returns-clause-least : goal.returns-clause-least
-returns-clause-least c = λ other h q. record {
-  west = omega (arith, ints, clamps, h.west, q.west);
-  east = omega (arith, ints, clamps, h.east, q.east);
-  south = omega (arith, ints, clamps, h.south, q.south);
-  north = omega (arith, ints, clamps, h.north, q.north);
-}
+returns-clause-least c = λ other h q.
+    subst (λ (b : Bounds). Holds other b) (sym (returns-clause-value c)) (held_by c.args.self c.args.p other h q)
