@@ -1,0 +1,11 @@
+pub mod Folds
+pub mod Leasts
+pub mod Found
+pub mod Grids
+pub mod Axes
+pub mod Standing
+pub mod Telling
+pub mod Meeting
+pub mod Once
+pub mod Parted
+pub mod Asked

@@ -1,0 +1,15 @@
+use Rattle.std.proofs.Common.{arith}
+use Rattle.spatial_grid.proofs.Telling.{told_none_yet, told_next, told_all}
+use Rattle.spatial_grid.proofs.candidates.push_entries.Goals as goal
+
+pub loop-entry-init : goal.loop-entry-init
+loop-entry-init c = told_none_yet c.args.boxes.now c.args.area c.args.entries.now c.args.names.now.items
+
+pub loop-entry-preserved : goal.loop-entry-preserved
+loop-entry-preserved c =
+    told_next c.args.boxes.now c.args.area c.args.entries.now c.loop-entry.entry-index _ c.args.names.now.items c.loop-entry.names.items _ c.loop-entry-test.true c.loop-entry.invariant
+    c.in_ok-push_at.ensures
+
+pub returns : goal.returns
+returns c =
+    told_all c.args.boxes.now c.args.area c.args.entries.now c.loop-entry.entry-index c.args.names.now.items c.loop-entry.names.items (omega (arith, c.loop-entry-test.false)) c.loop-entry.invariant

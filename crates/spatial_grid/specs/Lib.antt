@@ -1,0 +1,5 @@
+pub mod Box
+pub mod Candidates
+pub mod Boxes
+pub mod Buckets
+pub mod Met
