@@ -1,0 +1,2 @@
+mod extremes;
+mod walk;
