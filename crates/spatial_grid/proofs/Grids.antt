@@ -16,7 +16,7 @@ use Rattle.area_rings.specs.declared.shape.Shape.{Shape}
 use Rattle.area_rings.specs.Shape.{shape_of}
 use Rattle.plane_bounds.specs.declared.bounds.Bounds.{Bounds}
 use Rattle.spatial_grid.specs.Box.{points_in, IsLeastBox, HasBox, IsGridOf}
-use Rattle.spatial_grid.specs.Boxes.{box_in, named, entry_at, boxes_in}
+use Rattle.spatial_grid.specs.Boxes.{box_in, under_name, entry_at, boxes_in}
 use Rattle.spatial_grid.proofs.Leasts.{found_least, least_found}
 use Rattle.spatial_grid.proofs.Found.{Has, picked, picks, found_there, there_found}
 
@@ -31,7 +31,7 @@ module _ (cell : CellValue) where
   below_kept name [] h = tt
   below_kept name (e ∷ es) h = by (box_in (shape_of cell e.1)) (below_kept name es (second _ _ h))
     where
-      by : (o : Option Bounds) → T (below_all name_cmp name (filter_map (entry_at cell) es)) → T (below_all name_cmp name (cons_option (named e.0 o) (filter_map (entry_at cell) es)))
+      by : (o : Option Bounds) → T (below_all name_cmp name (filter_map (entry_at cell) es)) → T (below_all name_cmp name (cons_option (under_name e.0 o) (filter_map (entry_at cell) es)))
       by None others = others
       by (Some box) others = both _ _ (first _ _ h) others
 
@@ -39,7 +39,7 @@ module _ (cell : CellValue) where
   sorted_kept [] h = tt
   sorted_kept (e ∷ es) h = by (box_in (shape_of cell e.1)) (sorted_kept es (second _ _ h))
     where
-      by : (o : Option Bounds) → T (is_sorted name_cmp (filter_map (entry_at cell) es)) → T (is_sorted name_cmp (cons_option (named e.0 o) (filter_map (entry_at cell) es)))
+      by : (o : Option Bounds) → T (is_sorted name_cmp (filter_map (entry_at cell) es)) → T (is_sorted name_cmp (cons_option (under_name e.0 o) (filter_map (entry_at cell) es)))
       by None others = others
       by (Some box) others = both _ _ (below_kept e.0 es (first _ _ h)) others
 
@@ -64,7 +64,7 @@ record IsNamed (name : Name) (found : Option Bounds) (entry : Name × Bounds) : 
   same : name ≡ entry.0
   is : found ≡ Some entry.1
 
-named_is : (name : Name) (found : Option Bounds) (entry : Name × Bounds) → named name found ≡ Some entry → IsNamed name found entry
+named_is : (name : Name) (found : Option Bounds) (entry : Name × Bounds) → under_name name found ≡ Some entry → IsNamed name found entry
 named_is name None entry e = absurd (let no : ◌≡◌ {A = Option (Name × Bounds)} None (Some entry) = e in cc)
 named_is name (Some box) entry e =
     let same : (name, box) ≡ entry = some_is (name, box) entry e in
@@ -98,7 +98,7 @@ module _ (cell : CellValue) where
       let among : Has (name, h.feature) (finite.entries cell.features) =
       found_there name_cmp-total name_cmp-IsAntisymmetric name h.feature (finite.entries cell.features) (sym (finite.get-entries cell.features name) ∙ h.there) in
       picks (entry_at cell) (finite.entries cell.features) (name, h.feature) (name, box) among
-      (ap (λ (o : Option Shape). named name (box_in o)) h.shaped ∙ ap (named name) (least_found (points_in h.shape) box h.boxed))
+      (ap (λ (o : Option Shape). under_name name (box_in o)) h.shaped ∙ ap (under_name name) (least_found (points_in h.shape) box h.boxed))
 
   pub boxes_are_grid : IsGridOf cell (finite.from_sorted {R = name_cmp} Boxes)
   boxes_are_grid name box = (

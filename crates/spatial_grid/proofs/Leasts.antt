@@ -11,7 +11,7 @@ use Rattle.plane_bounds.specs.Bounds.{IsIn, with_point}
 use Rattle.plane_bounds.proofs.Growth.{still_in}
 use Rattle.plane_bounds.proofs.Widened.{holds_old, holds_point, held_by}
 use Rattle.spatial_grid.specs.Box.{IsLeastBox}
-use Rattle.spatial_grid.specs.Boxes.{box_at, box_of, grown}
+use Rattle.spatial_grid.specs.Boxes.{box_at, box_of, box_with}
 
 filled : {X : Type 0} (xs : List X) (x : X) → xs ++ x ∷ [] ≢ []
 filled [] x e = cc
@@ -56,7 +56,7 @@ record IsRound (points : List Pt) (found : Option Bounds) : Type 0 where
   is : found ≡ Some box
   least : IsLeastBox points box
 
-folded : (done rest : List Pt) (box : Bounds) → IsLeastBox done box → IsRound (done ++ rest) (fold grown (Some box) rest)
+folded : (done rest : List Pt) (box : Bounds) → IsLeastBox done box → IsRound (done ++ rest) (fold box_with (Some box) rest)
 folded done [] box h = record { box = box; is = refl; least = subst (λ l. IsLeastBox l box) (sym (append-nil done)) h }
 folded done (p ∷ rest) box h =
     let r = folded (done ++ p ∷ []) rest (with_point box p) (grows done box p h) in

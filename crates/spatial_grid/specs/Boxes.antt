@@ -17,24 +17,24 @@ abbrev pub box_at : Pt → Bounds
 box_at p = record { x0 = p.x; y0 = p.y; x1 = p.x; y1 = p.y }
 
 -- the box with one more point; without a box, that of the point
-abbrev pub grown : Option Bounds → Pt → Option Bounds
-grown None p = Some (box_at p)
-grown (Some box) p = Some (with_point box p)
+abbrev pub box_with : Option Bounds → Pt → Option Bounds
+box_with None p = Some (box_at p)
+box_with (Some box) p = Some (with_point box p)
 
 abbrev pub box_of : List Pt → Option Bounds
-box_of points = fold grown None points
+box_of points = fold box_with None points
 
 abbrev pub box_in : Option Shape → Option Bounds
 box_in None = None
 box_in (Some shape) = box_of (points_in shape)
 
-abbrev pub named : Name → Option Bounds → Option (Name × Bounds)
-named name None = None
-named name (Some box) = Some (name, box)
+abbrev pub under_name : Name → Option Bounds → Option (Name × Bounds)
+under_name name None = None
+under_name name (Some box) = Some (name, box)
 
 -- the name of a feature and its box
 abbrev pub entry_at : CellValue → Name × Feature → Option (Name × Bounds)
-entry_at cell entry = named entry.0 (box_in (shape_of cell entry.1))
+entry_at cell entry = under_name entry.0 (box_in (shape_of cell entry.1))
 
 -- those of all features, in the order of their names
 abbrev pub boxes_in : CellValue → List (Name × Bounds)

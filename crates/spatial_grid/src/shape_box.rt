@@ -4,7 +4,7 @@ ghost use Rattle.std.specs.Prelude.{◌≡◌, None};
 ghost use Rattle.std.specs.List.{fold};
 ghost use Rattle.area_rings.specs.Edge.{point_of};
 ghost use Rattle.spatial_grid.specs.Box.{points_in};
-ghost use Rattle.spatial_grid.specs.Boxes.{box_at, box_of, grown};
+ghost use Rattle.spatial_grid.specs.Boxes.{box_at, box_of, box_with};
 
 use area_rings::{Shape, point};
 use chart_model::{Coord, Sequence};
@@ -26,8 +26,8 @@ fn box_at(p: Pt) -> Bounds
 }
 
 /// The box with one more point; without a box, that of the point.
-fn grown(found: Option<Bounds>, p: Pt) -> Option<Bounds>
-    ensures { result ≡ grown found p }
+fn box_with(found: Option<Bounds>, p: Pt) -> Option<Bounds>
+    ensures { result ≡ box_with found p }
 {
     match found {
         Some(bounds) => Some(bounds.with(p)),
@@ -37,18 +37,18 @@ fn grown(found: Option<Bounds>, p: Pt) -> Option<Bounds>
 
 /// The box with more points.
 fn with_points(found: Option<Bounds>, points: &[Pt]) -> Option<Bounds>
-    ensures { result ≡ fold grown found points.now }
+    ensures { result ≡ fold box_with found points.now }
 {
     let mut bounds = found;
     for p in points {
-        bounds = grown(bounds, *p);
+        bounds = box_with(bounds, *p);
     }
     bounds
 }
 
 /// The box round the points of lines or of rings.
 fn box_of_parts(parts: &[Sequence<Pt>]) -> Option<Bounds>
-    ensures { result ≡ fold (fold grown) None parts.now }
+    ensures { result ≡ fold (fold box_with) None parts.now }
 {
     let mut bounds: Option<Bounds> = None;
     for part in parts {
@@ -59,11 +59,11 @@ fn box_of_parts(parts: &[Sequence<Pt>]) -> Option<Bounds>
 
 /// The box round the points of coordinates.
 fn box_of_coords(coords: &[Coord]) -> Option<Bounds>
-    ensures { result ≡ fold (λ found coord. grown found (point_of coord)) None coords.now }
+    ensures { result ≡ fold (λ found coord. box_with found (point_of coord)) None coords.now }
 {
     let mut bounds: Option<Bounds> = None;
     for coord in coords {
-        bounds = grown(bounds, point(coord));
+        bounds = box_with(bounds, point(coord));
     }
     bounds
 }
