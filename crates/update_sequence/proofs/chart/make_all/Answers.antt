@@ -11,8 +11,8 @@ loop-change-preserved c = (
       c.in_ok-apply_within.ensures.ok c.in_ok-apply_within.ensures.spent c.loop-change.invariant.1,
 )
 
-pub returns-in_err-apply_within : goal.returns-in_err-apply_within
-returns-in_err-apply_within c =
+pub returns-in_err-apply_within-clause-made : goal.returns-in_err-apply_within-clause-made
+returns-in_err-apply_within-clause-made c =
     let p = err_from_is_err_and c.from_residual.result c.from_residual.ensures.1 in
     rw (p.1, p.2) (rw (sym c.loop-change.invariant.0)
     (folded-refused _ _ _ c.change-item.result c.in_err-apply_within.field-0.0 c.loop-change-test.true c.change-item.is
