@@ -1,5 +1,6 @@
 pub mod Same
-pub mod Additions
+pub mod NameSets
+pub mod Uses
+pub mod Cells
 pub mod Walks
-pub mod Ordered
-pub mod Parts
+pub mod Changes

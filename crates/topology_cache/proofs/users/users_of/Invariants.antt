@@ -5,6 +5,6 @@ use Rattle.topology_cache.proofs.users.users_of.Given as goal
 
 abbrev pub invariant-loop-name : goal.invariant-loop-name
 invariant-loop-name g l = record {
-  walked : Walked l.cell l.uses.items l.name-iterator;
+  walked : Walked l.cell l.users l.name-iterator;
   counted : l.steps + length l.name-iterator ≡ l.initial.steps + finite.len l.cell.features;
 }
