@@ -29,7 +29,10 @@ below_among : (x edge : Name) (es : List (Name × Feature)) → T (below_all nam
 below_among x edge [] h = tt
 below_among x edge (e ∷ es) h =
     let rest = below_among x edge es (second _ _ h) in
-    elim (points_to_any edge e.1.pointers) as (λ b. T (below_all name_cmp x (marked (map (λ (p : Name × Feature). p.0) (cond b (e ∷ filter (λ (p : Name × Feature). points_to_any edge p.1.pointers) es) (filter (λ (p : Name × Feature). points_to_any edge p.1.pointers) es)))))) [
+    elim (points_to_any edge e.1.pointers) as (λ b. T (below_all name_cmp x
+    (marked (map (λ (p : Name × Feature). p.0) (cond b (e ∷ filter
+    (λ (p : Name × Feature). points_to_any edge p.1.pointers) es)
+    (filter (λ (p : Name × Feature). points_to_any edge p.1.pointers) es)))))) [
       | true ↦ both _ _ (first _ _ h) rest
       | false ↦ rest
     ]
@@ -39,7 +42,10 @@ rising_among : (edge : Name) (es : List (Name × Feature)) → T (is_sorted name
 rising_among edge [] h = tt
 rising_among edge (e ∷ es) h =
     let rest = rising_among edge es (second _ _ h) in
-    elim (points_to_any edge e.1.pointers) as (λ b. T (is_sorted name_cmp (marked (map (λ (p : Name × Feature). p.0) (cond b (e ∷ filter (λ (p : Name × Feature). points_to_any edge p.1.pointers) es) (filter (λ (p : Name × Feature). points_to_any edge p.1.pointers) es)))))) [
+    elim (points_to_any edge e.1.pointers) as (λ b. T (is_sorted name_cmp
+    (marked (map (λ (p : Name × Feature). p.0) (cond b (e ∷ filter
+    (λ (p : Name × Feature). points_to_any edge p.1.pointers) es)
+    (filter (λ (p : Name × Feature). points_to_any edge p.1.pointers) es)))))) [
       | true ↦ both _ _ (below_among e.0 edge es (first _ _ h)) rest
       | false ↦ rest
     ]
@@ -49,12 +55,15 @@ rising_among edge (e ∷ es) h =
 pub find-below : {X : Type 0} (x : Name) (es : List (Name × X)) → T (below_all name_cmp x es)
     → find name_cmp x es ≡ None
 find-below x [] h = refl
-find-below x (e ∷ es) h = ap (λ r. cond (is_eq r) (Some e.1) (find name_cmp x es)) (less _ (first _ _ h)) ∙ find-below x es (second _ _ h)
+find-below x (e ∷ es) h = ap (λ r. cond (is_eq r) (Some e.1) (find name_cmp x es)) (less _ (first _ _ h))
+    ∙ find-below x es (second _ _ h)
 
 one_among : (p t : Bool) (e : Name × Feature) (kept : List (Name × Feature)) (edge name : Name) (rest : Option Feature)
     → points_to_any edge e.1.pointers ≡ p → eq_by_cmp name_cmp name e.0 ≡ t
-    → list_any (eq_by_cmp name_cmp name) (map (λ (p : Name × Feature). p.0) kept) ≡ points_to_any edge (pointers_in rest) → (t ≡ true → rest ≡ None)
-    → list_any (eq_by_cmp name_cmp name) (map (λ (p : Name × Feature). p.0) (cond p (e ∷ kept) kept)) ≡ points_to_any edge (pointers_in (cond t (Some e.1) rest))
+    → list_any (eq_by_cmp name_cmp name) (map (λ (p : Name × Feature). p.0) kept)
+    ≡ points_to_any edge (pointers_in rest) → (t ≡ true → rest ≡ None)
+    → list_any (eq_by_cmp name_cmp name) (map (λ (p : Name × Feature). p.0) (cond p (e ∷ kept) kept))
+    ≡ points_to_any edge (pointers_in (cond t (Some e.1) rest))
 one_among true true e kept edge name rest points tie others none =
     ap (λ b. b || list_any (eq_by_cmp name_cmp name) (map (λ (p : Name × Feature). p.0) kept)) tie ∙ sym points
 one_among true false e kept edge name rest points tie others none =
@@ -64,11 +73,14 @@ one_among false true e kept edge name rest points tie others none =
 one_among false false e kept edge name rest points tie others none = others
 
 found_among : (edge name : Name) (es : List (Name × Feature)) → T (is_sorted name_cmp es)
-    → list_any (eq_by_cmp name_cmp name) (users_among edge es) ≡ points_to_any edge (pointers_in (find name_cmp name es))
+    → list_any (eq_by_cmp name_cmp name) (users_among edge es)
+    ≡ points_to_any edge (pointers_in (find name_cmp name es))
 found_among edge name [] h = refl
 found_among edge name (e ∷ es) h =
-    one_among _ _ e (filter (λ (p : Name × Feature). points_to_any edge p.1.pointers) es) edge name (find name_cmp name es) refl refl (found_among edge name es (second _ _ h))
-    (λ tie. ap (λ (n : Name). find name_cmp n es) (name_cmp-IsAntisymmetric name e.0 (tied (name_cmp name e.0) tie)) ∙ find-below e.0 es (first _ _ h))
+    one_among _ _ e (filter (λ (p : Name × Feature). points_to_any edge p.1.pointers) es) edge name
+    (find name_cmp name es) refl refl (found_among edge name es (second _ _ h))
+    (λ tie. ap (λ (n : Name). find name_cmp n es) (name_cmp-IsAntisymmetric name e.0 (tied (name_cmp name e.0) tie))
+    ∙ find-below e.0 es (first _ _ h))
 
 among-in : (cell : CellValue) (edge name : Name)
     → list_any (eq_by_cmp name_cmp name) (users_in cell edge) ≡ points_to_any edge (pointers_at cell name)
@@ -98,7 +110,8 @@ pub are-users : (cell : CellValue) (users : UsersValue) → PointTo cell users �
 are-users cell users point edge =
     let rising = rising_among edge (finite.entries cell.features) (finite.entries_sorted cell.features) in
     let listed = keys-set (users_in cell edge) rising in
-    ap finite.keys (finite.same_map name_cmp-total name_cmp-IsAntisymmetric (set_at users edge) (set_of (users_in cell edge)) (λ name.
+    ap finite.keys (finite.same_map name_cmp-total name_cmp-IsAntisymmetric (set_at users edge)
+    (set_of (users_in cell edge)) (λ name.
     alike _ _ (point edge name
     ∙ sym (among-in cell edge name)
     ∙ ap (list_any (eq_by_cmp name_cmp name)) (sym listed)

@@ -53,7 +53,8 @@ renewed false false false false u so = so
 
 at-name : (f : Name → Bool) (tie p : Bool) (other name : Name) → eq_by_cmp name_cmp other name ≡ tie
     → (f name && tie) ≡ (f other && tie)
-at-name f true p other name e = ap (λ (n : Name). f n && true) (sym (name_cmp-IsAntisymmetric other name (tied (name_cmp other name) e)))
+at-name f true p other name e = ap (λ (n : Name). f n && true)
+    (sym (name_cmp-IsAntisymmetric other name (tied (name_cmp other name) e)))
 at-name f false p other name e = off (f name) ∙ sym (off (f other))
   where
     off : (b : Bool) → (b && false) ≡ false
@@ -62,8 +63,10 @@ at-name f false p other name e = off (f name) ∙ sym (off (f other))
 
 pub between-goes : (old new : CellValue) (done : List Name) (name : Name) (before left after : UsersValue)
     → AreBetween old new done before
-    → ((edge other : Name) → is_user left edge other ≡ (not (points_to_any edge (pointers_at old name) && same_name name other) && is_user before edge other))
-    → ((edge other : Name) → is_user after edge other ≡ ((points_to_any edge (pointers_at new name) && same_name name other) || is_user left edge other))
+    → ((edge other : Name) → is_user left edge other ≡ (not (points_to_any edge (pointers_at old name)
+    && same_name name other) && is_user before edge other))
+    → ((edge other : Name) → is_user after edge other ≡ ((points_to_any edge (pointers_at new name)
+    && same_name name other) || is_user left edge other))
     → AreBetween old new (done ++ name ∷ []) after
 between-goes old new done name before left after so taken put edge other =
     let tie = eq_by_cmp name_cmp other name in
@@ -71,7 +74,8 @@ between-goes old new done name before left after so taken put edge other =
     let olds : Name → Bool = λ n. points_to_any edge (pointers_at old n) in
     put edge other
     ∙ (λ i. (news name && sym (ties-same other name) i) || taken edge other i)
-    ∙ (λ i. (at-name news tie true other name refl i) || (not (olds name && sym (ties-same other name) i) && is_user before edge other))
+    ∙ (λ i. (at-name news tie true other name refl i) || (not (olds name && sym (ties-same other name) i)
+    && is_user before edge other))
     ∙ (λ i. (news other && tie) || (not (at-name olds tie true other name refl i) && is_user before edge other))
     ∙ renewed (is_among done other) tie (news other) (olds other) (is_user before edge other) (so edge other)
     ∙ ap (λ b. cond b (news other) (olds other)) (sym (among-push done name other))
@@ -90,11 +94,13 @@ between-ends old new changed users has so =
     are-users new users (λ edge name. so edge name ∙ all_done edge name (is_among changed name) refl)
   where
     all_done : (edge name : Name) (b : Bool) → is_among changed name ≡ b
-        → cond b (points_to_any edge (pointers_at new name)) (points_to_any edge (pointers_at old name)) ≡ points_to_any edge (pointers_at new name)
+        → cond b (points_to_any edge (pointers_at new name)) (points_to_any edge (pointers_at old name))
+        ≡ points_to_any edge (pointers_at new name)
     all_done edge name true e = refl
     all_done edge name false e =
         same-or-not _ _ (λ differ.
-        let there = list_any-from_Contains (eq_by_cmp_equiv name_cmp-total) name changed (has name (λ same. differ (ap (λ o. points_to_any edge (pointers_in o)) same))) in
+        let there = list_any-from_Contains (eq_by_cmp_equiv name_cmp-total) name changed
+        (has name (λ same. differ (ap (λ o. points_to_any edge (pointers_in o)) same))) in
         let clash : true ≡ false = sym there ∙ e in
         cc)
 
@@ -106,16 +112,20 @@ on-ok (Err e) to h = tt
 
 -- the names that are done and the next are among all
 pub counted-next : (names : List Name) (i : ℕ) (d : Name) → i < length names
-    → length (feature_names (take i names)) + length (feature_names (get_or names i d ∷ [])) ≤ length (feature_names names)
+    → length (feature_names (take i names)) + length (feature_names (get_or names i d ∷ [])) ≤ length
+    (feature_names names)
 counted-next [] i d fits = absurd (omega (arith, fits))
 counted-next (x ∷ names) zero d fits =
-    elim (x.rcnm == 100) as (λ b. 0 + length (cond b (x ∷ []) []) ≤ length (cond b (x ∷ feature_names names) (feature_names names))) [
+    elim (x.rcnm == 100) as (λ b. 0 + length (cond b (x ∷ []) []) ≤ length
+    (cond b (x ∷ feature_names names) (feature_names names))) [
       | true ↦ omega arith
       | false ↦ omega arith
     ]
 counted-next (x ∷ names) (suc i) d fits =
     let rest = counted-next names i d (omega (arith, fits)) in
-    elim (x.rcnm == 100) as (λ b. length (cond b (x ∷ feature_names (take i names)) (feature_names (take i names))) + length (feature_names (get_or names i d ∷ [])) ≤ length (cond b (x ∷ feature_names names) (feature_names names))) [
+    elim (x.rcnm == 100) as (λ b. length (cond b (x ∷ feature_names (take i names)) (feature_names (take i names))) +
+    length (feature_names (get_or names i d ∷ [])) ≤ length
+    (cond b (x ∷ feature_names names) (feature_names names))) [
       | true ↦ omega (arith, rest)
       | false ↦ rest
     ]

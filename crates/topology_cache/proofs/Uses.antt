@@ -24,13 +24,15 @@ pub set-insert : (users : UsersValue) (edge other : Name) (names : Names)
     → set_at (finite.insert users edge names) other ≡ cond (eq_by_cmp name_cmp other edge) names (set_at users other)
 set-insert users edge other names =
     ap (λ o. unwrap_or o finite.empty) (finite.get-insert name_cmp-total users edge names other)
-    ∙ elim (eq_by_cmp name_cmp other edge) as (λ b. unwrap_or (cond b (Some names) (finite.get users other)) finite.empty ≡ cond b names (set_at users other)) [ true ↦ refl | false ↦ refl ]
+    ∙ elim (eq_by_cmp name_cmp other edge) as (λ b. unwrap_or (cond b (Some names) (finite.get users other))
+    finite.empty ≡ cond b names (set_at users other)) [ true ↦ refl | false ↦ refl ]
 
 pub set-remove : (users : UsersValue) (edge other : Name)
     → set_at (finite.remove users edge) other ≡ cond (eq_by_cmp name_cmp other edge) finite.empty (set_at users other)
 set-remove users edge other =
     ap (λ o. unwrap_or o finite.empty) (finite.get-remove name_cmp-total users edge other)
-    ∙ elim (eq_by_cmp name_cmp other edge) as (λ b. unwrap_or (cond b None (finite.get users other)) finite.empty ≡ cond b finite.empty (set_at users other)) [ true ↦ refl | false ↦ refl ]
+    ∙ elim (eq_by_cmp name_cmp other edge) as (λ b. unwrap_or (cond b None (finite.get users other)) finite.empty
+    ≡ cond b finite.empty (set_at users other)) [ true ↦ refl | false ↦ refl ]
 
 both-or : (a b u v : Bool) → (a ≡ true → v ≡ u) → cond a (b || v) u ≡ ((a && b) || u)
 both-or true b u v same = ap (λ (w : Bool). b || w) (same refl)
@@ -64,7 +66,8 @@ named : (edge other user name : Name)
 named edge other user name i = ties-same other edge i && ties-same name user i
 
 pub user-insert : (users : UsersValue) (edge user other name : Name)
-    → is_user (finite.insert users edge (finite.insert (set_at users edge) user tt)) other name ≡ ((same_name edge other && same_name user name) || is_user users other name)
+    → is_user (finite.insert users edge (finite.insert (set_at users edge) user tt)) other name
+    ≡ ((same_name edge other && same_name user name) || is_user users other name)
 user-insert users edge user other name =
     let put = finite.insert (set_at users edge) user tt in
     let here : finite.contains_key put name ≡ (eq_by_cmp name_cmp name user || is_user users edge name) =
@@ -76,7 +79,8 @@ user-insert users edge user other name =
     ∙ ap (λ b. b || is_user users other name) (named edge other user name)
 
 pub user-remove : (users : UsersValue) (edge user other name : Name)
-    → is_user (finite.insert users edge (finite.remove (set_at users edge) user)) other name ≡ (not (same_name edge other && same_name user name) && is_user users other name)
+    → is_user (finite.insert users edge (finite.remove (set_at users edge) user)) other name
+    ≡ (not (same_name edge other && same_name user name) && is_user users other name)
 user-remove users edge user other name =
     let left = finite.remove (set_at users edge) user in
     let here : finite.contains_key left name ≡ (not (eq_by_cmp name_cmp name user) && is_user users edge name) =
@@ -108,32 +112,39 @@ one-more-not false false s u = refl
 module _ (start : UsersValue) (user : Name) (pointers : List Pointer) where
   -- the user was put to those of the records that the first pointers name
   abbrev pub ArePut : UsersValue → ℕ → Type 0
-  ArePut users i = (edge name : Name) → is_user users edge name ≡ ((points_to_any edge (take i pointers) && same_name user name) || is_user start edge name)
+  ArePut users i = (edge name : Name) → is_user users edge name
+      ≡ ((points_to_any edge (take i pointers) && same_name user name) || is_user start edge name)
 
   -- it was taken from them
   abbrev pub AreTaken : UsersValue → ℕ → Type 0
-  AreTaken users i = (edge name : Name) → is_user users edge name ≡ (not (points_to_any edge (take i pointers) && same_name user name) && is_user start edge name)
+  AreTaken users i = (edge name : Name) → is_user users edge name
+      ≡ (not (points_to_any edge (take i pointers) && same_name user name) && is_user start edge name)
 
   one-more : (edge : Name) (i : ℕ) (d : Pointer) → i < length pointers
-      → points_to_any edge (take (i + 1) pointers) ≡ (points_to_any edge (take i pointers) || same_name (get_or pointers i d).target edge)
+      → points_to_any edge (take (i + 1) pointers) ≡ (points_to_any edge (take i pointers)
+      || same_name (get_or pointers i d).target edge)
   one-more edge i d fits = list_any_more (λ (p : Pointer). same_name p.target edge) pointers i d fits
 
   pub put-more : (users after : UsersValue) (i : ℕ) (d : Pointer) → i < length pointers → ArePut users i
-      → after ≡ finite.insert users (get_or pointers i d).target (finite.insert (set_at users (get_or pointers i d).target) user tt) → ArePut after (i + 1)
+      → after ≡ finite.insert users (get_or pointers i d).target
+      (finite.insert (set_at users (get_or pointers i d).target) user tt) → ArePut after (i + 1)
   put-more users after i d fits so more edge name =
       ap (λ (u : UsersValue). is_user u edge name) more
       ∙ user-insert users (get_or pointers i d).target user edge name
       ∙ ap (λ b. (same_name (get_or pointers i d).target edge && same_name user name) || b) (so edge name)
-      ∙ one-more-or (points_to_any edge (take i pointers)) (same_name (get_or pointers i d).target edge) (same_name user name) (is_user start edge name)
+      ∙ one-more-or (points_to_any edge (take i pointers)) (same_name (get_or pointers i d).target edge)
+      (same_name user name) (is_user start edge name)
       ∙ ap (λ b. (b && same_name user name) || is_user start edge name) (sym (one-more edge i d fits))
 
   pub take-more : (users after : UsersValue) (i : ℕ) (d : Pointer) → i < length pointers → AreTaken users i
-      → ((other : Name) → set_at after other ≡ set_at (finite.insert users (get_or pointers i d).target (finite.remove (set_at users (get_or pointers i d).target) user)) other) → AreTaken after (i + 1)
+      → ((other : Name) → set_at after other ≡ set_at (finite.insert users (get_or pointers i d).target
+      (finite.remove (set_at users (get_or pointers i d).target) user)) other) → AreTaken after (i + 1)
   take-more users after i d fits so less edge name =
       ap (λ (s : Names). finite.contains_key s name) (less edge)
       ∙ user-remove users (get_or pointers i d).target user edge name
       ∙ ap (λ b. not (same_name (get_or pointers i d).target edge && same_name user name) && b) (so edge name)
-      ∙ one-more-not (points_to_any edge (take i pointers)) (same_name (get_or pointers i d).target edge) (same_name user name) (is_user start edge name)
+      ∙ one-more-not (points_to_any edge (take i pointers)) (same_name (get_or pointers i d).target edge)
+      (same_name user name) (is_user start edge name)
       ∙ ap (λ b. not (b && same_name user name) && is_user start edge name) (sym (one-more edge i d fits))
 
 -- ---- no set is empty
@@ -155,7 +166,8 @@ filled-insert names user none =
 pub filled-put : {E : Type 0} (r : Result (Unit {0}) E) (old new : Names) (user : Name)
     → OnOk r (new ≡ finite.insert old user tt) → OnErr r (new ≡ old)
     → finite.len old ≢ 0 → finite.len new ≢ 0
-filled-put (Ok u) old new user put kept some = subst (λ (s : Names). finite.len s ≢ 0) (sym put) (filled-insert old user)
+filled-put (Ok u) old new user put kept some = subst (λ (s : Names). finite.len s ≢ 0) (sym put)
+    (filled-insert old user)
 filled-put (Err e) old new user put kept some = subst (λ (s : Names). finite.len s ≢ 0) (sym kept) some
 
 pub filled-one : (user : Name) → finite.len (finite.insert (finite.empty {X = Unit {0}} {R = name_cmp}) user tt) ≢ 0
@@ -163,7 +175,8 @@ filled-one user = filled-insert finite.empty user
 
 pub none-empty-insert : (users : UsersValue) (edge : Name) (names : Names) → HasNoEmpty users → finite.len names ≢ 0
     → HasNoEmpty (finite.insert users edge names)
-none-empty-insert users edge names filled some = each-insert name_cmp-total name_cmp-IsAntisymmetric IsFilled users edge names filled some
+none-empty-insert users edge names filled some = each-insert name_cmp-total name_cmp-IsAntisymmetric IsFilled users
+    edge names filled some
 
 -- the set under a name that has one is filled
 pub filled-there : (users : UsersValue) (edge : Name) (names : Names) → HasNoEmpty users
@@ -193,7 +206,8 @@ take-absent users edge user other absent =
 -- with the record itself, where it was the last
 pub take-last : (users : UsersValue) (edge user other : Name) (names : Names)
     → names ≡ finite.remove (set_at users edge) user → finite.len names ≡ 0
-    → set_at (finite.remove (finite.insert users edge names) edge) other ≡ set_at (finite.insert users edge (finite.remove (set_at users edge) user)) other
+    → set_at (finite.remove (finite.insert users edge names) edge) other
+    ≡ set_at (finite.insert users edge (finite.remove (set_at users edge) user)) other
 take-last users edge user other names left none =
     let tie = eq_by_cmp name_cmp other edge in
     set-remove (finite.insert users edge names) edge other
@@ -211,13 +225,16 @@ take-last users edge user other names left none =
 -- what stands in the tree under an edge after names were written there
 pub tree-written : (old new : List (Name × Names)) (m : UsersValue) (edge : Name) (names : Names)
     → finite.from_entries old ≡ m
-    → ((q : Name) → lookup (is_at (name_cmp q)) new ≡ cond (is_at (name_cmp edge) q) (Some names) (lookup (is_at (name_cmp q)) old))
+    → ((q : Name) → lookup (is_at (name_cmp q)) new ≡ cond (is_at (name_cmp edge) q) (Some names)
+    (lookup (is_at (name_cmp q)) old))
     → finite.from_entries new ≡ finite.insert m edge names
 tree-written old new m edge names seen is =
-    insert-tree name_cmp-total name_cmp-IsAntisymmetric old new edge names is ∙ ap (λ n. finite.insert n edge names) seen
+    insert-tree name_cmp-total name_cmp-IsAntisymmetric old new edge names is
+    ∙ ap (λ n. finite.insert n edge names) seen
 
 -- a user that was put to those that an edge has, or for which there was no memory
-pub written-put : {E : Type 0} (r : Result (Unit {0}) E) (m after : UsersValue) (edge user : Name) (names new : Names) → finite.get m edge ≡ Some names
+pub written-put : {E : Type 0} (r : Result (Unit {0}) E) (m after : UsersValue) (edge user : Name) (names new : Names)
+    → finite.get m edge ≡ Some names
     → after ≡ finite.insert m edge new → OnOk r (new ≡ finite.insert names user tt)
     → OnOk r (after ≡ finite.insert m edge (finite.insert (set_at m edge) user tt))
 written-put (Ok u) m after edge user names new found written put =
@@ -230,13 +247,15 @@ pub written-first : (m : UsersValue) (edge user : Name) (names : Names) → fini
     → names ≡ finite.insert finite.empty user tt
     → finite.insert m edge names ≡ finite.insert m edge (finite.insert (set_at m edge) user tt)
 written-first m edge user names absent first =
-    ap (finite.insert m edge) (first ∙ ap (λ (o : Option Names). finite.insert (unwrap_or o finite.empty) user tt) (sym absent))
+    ap (finite.insert m edge) (first ∙ ap (λ (o : Option Names). finite.insert (unwrap_or o finite.empty) user tt)
+    (sym absent))
 
 -- a user taken from those that an edge has
 pub written-left : (m : UsersValue) (edge user : Name) (names new : Names) → finite.get m edge ≡ Some names
     → new ≡ finite.remove names user
     → new ≡ finite.remove (set_at m edge) user
-written-left m edge user names new found less = less ∙ ap (λ (o : Option Names). finite.remove (unwrap_or o finite.empty) user) (sym found)
+written-left m edge user names new found less = less ∙ ap (λ (o : Option Names). finite.remove
+    (unwrap_or o finite.empty) user) (sym found)
 
 -- whatever was put under an edge, without it no set is empty
 pub none-empty-without : (m : UsersValue) (edge : Name) (names : Names) → HasNoEmpty m
@@ -244,8 +263,10 @@ pub none-empty-without : (m : UsersValue) (edge : Name) (names : Names) → HasN
 none-empty-without m edge names filled q =
     subst (λ (o : Option Names). IfSome o (λ (s : Names). finite.len s ≢ 0))
     (sym (finite.get-remove name_cmp-total (finite.insert m edge names) edge q
-    ∙ ap (λ (o : Option Names). cond (eq_by_cmp name_cmp q edge) None o) (finite.get-insert name_cmp-total m edge names q)))
-    (elim (eq_by_cmp name_cmp q edge) as (λ b. IfSome (cond b None (cond b (Some names) (finite.get m q))) (λ (s : Names). finite.len s ≢ 0)) [
+    ∙ ap (λ (o : Option Names). cond (eq_by_cmp name_cmp q edge) None o)
+    (finite.get-insert name_cmp-total m edge names q)))
+    (elim (eq_by_cmp name_cmp q edge) as (λ b. IfSome (cond b None (cond b (Some names) (finite.get m q)))
+    (λ (s : Names). finite.len s ≢ 0)) [
       | true ↦ tt
       | false ↦ filled q
     ])

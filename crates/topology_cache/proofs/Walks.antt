@@ -62,34 +62,44 @@ one_more false true u none = refl
 one_more false false u none = refl
 
 chosen : (tie : Bool) (edge : Name) (feature : Feature) (rest : Option Feature)
-    → cond tie (points_to_any edge feature.pointers) (points_to_any edge (pointers_in rest)) ≡ points_to_any edge (pointers_in (cond tie (Some feature) rest))
+    → cond tie (points_to_any edge feature.pointers) (points_to_any edge (pointers_in rest))
+    ≡ points_to_any edge (pointers_in (cond tie (Some feature) rest))
 chosen true edge feature rest = refl
 chosen false edge feature rest = refl
 
-pub walk-goes : (cell : CellValue) (before after : UsersValue) (name : Name) (feature : Feature) (all left : List (Name × Feature))
+pub walk-goes : (cell : CellValue) (before after : UsersValue) (name : Name) (feature : Feature)
+    (all left : List (Name × Feature))
     → Walked cell before all → all ≡ (name, feature) ∷ left
-    → ((edge other : Name) → is_user after edge other ≡ ((points_to_any edge feature.pointers && same_name name other) || is_user before edge other))
+    → ((edge other : Name) → is_user after edge other ≡ ((points_to_any edge feature.pointers && same_name name other)
+    || is_user before edge other))
     → Walked cell after left
 walk-goes cell before after name feature all left w next more =
     let sorted : T (is_sorted name_cmp (w.seen ++ (name, feature) ∷ left)) =
-    subst (λ (es : List (Name × Feature)). T (is_sorted name_cmp es)) (w.parts ∙ ap (λ (l : List (Name × Feature)). w.seen ++ l) next) (finite.entries_sorted cell.features) in
+    subst (λ (es : List (Name × Feature)). T (is_sorted name_cmp es))
+    (w.parts ∙ ap (λ (l : List (Name × Feature)). w.seen ++ l) next) (finite.entries_sorted cell.features) in
     let new : find name_cmp name w.seen ≡ None = not_seen w.seen left (name, feature) sorted in
     record {
       seen = w.seen ++ (name, feature) ∷ [];
-      parts = w.parts ∙ ap (λ (l : List (Name × Feature)). w.seen ++ l) next ∙ sym (append_assoc w.seen ((name, feature) ∷ []) left);
+      parts = w.parts ∙ ap (λ (l : List (Name × Feature)). w.seen ++ l) next
+          ∙ sym (append_assoc w.seen ((name, feature) ∷ []) left);
       kept = λ edge other.
           more edge other
-          ∙ ap (λ b. (points_to_any edge feature.pointers && b) || is_user before edge other) (sym (ties-same other name))
+          ∙ ap (λ b. (points_to_any edge feature.pointers && b) || is_user before edge other)
+          (sym (ties-same other name))
           ∙ ap (λ b. (points_to_any edge feature.pointers && eq_by_cmp name_cmp other name) || b) (w.kept edge other)
           ∙ one_more (eq_by_cmp name_cmp other name) (points_to_any edge feature.pointers) _
-          (λ tie. ap (λ o. points_to_any edge (pointers_in o)) (ap (λ (n : Name). find name_cmp n w.seen) (name_cmp-IsAntisymmetric other name (tied (name_cmp other name) tie)) ∙ new))
+          (λ tie. ap (λ o. points_to_any edge (pointers_in o))
+          (ap (λ (n : Name). find name_cmp n w.seen) (name_cmp-IsAntisymmetric other name
+          (tied (name_cmp other name) tie)) ∙ new))
           ∙ chosen (eq_by_cmp name_cmp other name) edge feature (find name_cmp other w.seen)
-          ∙ ap (λ o. points_to_any edge (pointers_in o)) (sym (find-append name_cmp name_cmp-total w.seen name feature other new));
+          ∙ ap (λ o. points_to_any edge (pointers_in o)) (sym
+          (find-append name_cmp name_cmp-total w.seen name feature other new));
     }
 
 pub walk-ends : (cell : CellValue) (users : UsersValue) → Walked cell users [] → AreUsersOf cell users
 walk-ends cell users w =
     are-users cell users (λ edge name.
     w.kept edge name
-    ∙ ap (λ (es : List (Name × Feature)). points_to_any edge (pointers_in (find name_cmp name es))) (sym (append-nil w.seen) ∙ sym w.parts)
+    ∙ ap (λ (es : List (Name × Feature)). points_to_any edge (pointers_in (find name_cmp name es)))
+    (sym (append-nil w.seen) ∙ sym w.parts)
     ∙ ap (λ o. points_to_any edge (pointers_in o)) (sym (finite.get-entries cell.features name)))

@@ -8,4 +8,5 @@ pub of-requires : goal.of-requires
 of-requires c = subst (λ (row : NameRow). c.args.place ≤ length (names_of row)) c.in-One.is c.requires
 
 pub returns-in-One-clause-ok : goal.returns-in-One-clause-ok
-returns-in-One-clause-ok c = c.of.ensures ∙ sym (ap (λ (row : NameRow). insert (names_of row) c.args.place c.args.name) c.in-One.is)
+returns-in-One-clause-ok c = c.of.ensures ∙ sym (ap (λ (row : NameRow). insert (names_of row) c.args.place
+    c.args.name) c.in-One.is)

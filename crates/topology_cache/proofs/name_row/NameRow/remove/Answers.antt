@@ -21,11 +21,13 @@ below-two n m fits two = omega (arith, fits, two)
 
 pub other-requires : goal.other-requires
 other-requires c =
-    below-two c.args.place _ (subst (λ (row : NameRow). c.args.place < length (names_of row)) c.in-Two.is c.requires) c.in-Two.pair.two
+    below-two c.args.place _ (subst (λ (row : NameRow). c.args.place < length (names_of row)) c.in-Two.is c.requires)
+    c.in-Two.pair.two
 
 pub returns-in-One : goal.returns-in-One
 returns-in-One c =
-    none-left c.in-One.field-0 c.args.place (subst (λ (row : NameRow). c.args.place < length (names_of row)) c.in-One.is c.requires)
+    none-left c.in-One.field-0 c.args.place (subst (λ (row : NameRow). c.args.place < length (names_of row))
+    c.in-One.is c.requires)
     ∙ sym (ap (λ (row : NameRow). remove (names_of row) c.args.place) c.in-One.is)
 
 pub returns-in-Two : goal.returns-in-Two

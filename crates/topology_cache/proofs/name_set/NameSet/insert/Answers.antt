@@ -19,6 +19,7 @@ returns-in-Ok-clause-ok c =
 
 pub returns-in-Err-clause-ok : goal.returns-in-Err-clause-ok
 returns-in-Err-clause-ok c =
-    set-put c.insert.result (names_of c.self.inside.row) _ c.args.self.now c.args.name c.in-Err.place c.self.invariant c.self.view_is
+    set-put c.insert.result (names_of c.self.inside.row) _ c.args.self.now c.args.name c.in-Err.place c.self.invariant
+    c.self.view_is
     (rw (← c.as_slice.ensures) c.in-Err.ensures.bound) (rw (← c.as_slice.ensures) c.in-Err.ensures.parted)
     c.insert.ensures.ok

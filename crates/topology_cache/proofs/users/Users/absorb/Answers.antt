@@ -18,13 +18,17 @@ returns-in_err-renew-clause-at_most g c =
       arith,
       c.count.ensures,
       c.loop-name.invariant.counted,
-      counted-next c.as_slice-names.result.now c.loop-name.name-index (record { rcnm = 0; rcid = 0 }) c.loop-name-test.true,
+      counted-next c.as_slice-names.result.now c.loop-name.name-index (record { rcnm = 0; rcid = 0 })
+          c.loop-name-test.true,
       ap (λ (names : List Name). length (feature_names names)) c.as_slice-names.ensures,
     )
 
 pub returns-clause-users : goal.returns-clause-users
 returns-clause-users g c =
-    let last : c.loop-name.name-index ≡ length c.as_slice-names.result.now = omega (arith, c.loop-name-test.false, c.loop-name.auto.name-index-end) in
-    let all = ap (λ (n : ℕ). take n c.as_slice-names.result.now) last ∙ take-length c.as_slice-names.result.now ∙ c.as_slice-names.ensures in
+    let last : c.loop-name.name-index ≡ length c.as_slice-names.result.now = omega
+    (arith, c.loop-name-test.false, c.loop-name.auto.name-index-end) in
+    let all = ap (λ (n : ℕ). take n c.as_slice-names.result.now) last ∙ take-length c.as_slice-names.result.now
+    ∙ c.as_slice-names.ensures in
     between-ends c.args.old.now c.args.new.now c.args.changed.now c.loop-name.self c.requires.changed
-    (subst (λ (names : List Name). AreBetween c.args.old.now c.args.new.now names c.loop-name.self) all c.loop-name.invariant.between)
+    (subst (λ (names : List Name). AreBetween c.args.old.now c.args.new.now names c.loop-name.self) all
+    c.loop-name.invariant.between)

@@ -9,4 +9,5 @@ use Rattle.topology_cache.proofs.users.Users.new.Goals as goal
 
 pub invariant_of-result : goal.invariant_of-result
 invariant_of-result c =
-    subst (λ (es : List (Name × Names)). HasNoEmpty (finite.from_entries es)) (sym c.new.ensures.empty) (each-empty name_cmp IsFilled)
+    subst (λ (es : List (Name × Names)). HasNoEmpty (finite.from_entries es)) (sym c.new.ensures.empty)
+    (each-empty name_cmp IsFilled)
