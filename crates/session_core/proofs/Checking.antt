@@ -16,7 +16,7 @@ use Rattle.session_core.specs.declared.fault.EventFault.{EventFault}
 use Rattle.session_core.specs.declared.refusal.LineRefusal.{LineRefusal}
 use Rattle.session_core.specs.Answers.{Gives}
 use Rattle.session_core.specs.Fetch.{file_in}
-use Rattle.session_core.specs.Route.{ROUTE_LIMIT, checked, fault_of_route, or_refused, reply_along, route_of}
+use Rattle.session_core.specs.Route.{ROUTE_LIMIT, report_in, fault_of_route, or_refused, reply_along, route_of}
 use Rattle.session_core.proofs.Fetching.{next-stopped, passed-gives}
 
 abbrev reply_by : StateValue → Settings → Result Route RouteFault → Result Reply LineRefusal
@@ -31,20 +31,20 @@ unread-fails state settings of_route.NoMemory wanted h = tt
 
 -- a route that isn't read
 pub unread : (state : StateValue) (settings : Settings) (bytes : List ℕ) (r : Result Reply EventFault) (fault : RouteFault)
-    → IsErrAnd r (λ passed. passed ≡ fault_of_route fault) → Answers (Err fault) (route_in bytes) → Gives r (checked settings state bytes)
+    → IsErrAnd r (λ passed. passed ≡ fault_of_route fault) → Answers (Err fault) (route_in bytes) → Gives r (report_in settings state bytes)
 unread state settings bytes r fault passed h =
-    passed-gives r (fault_of_route fault) (checked settings state bytes) passed (unread-fails state settings fault (route_in bytes) h)
+    passed-gives r (fault_of_route fault) (report_in settings state bytes) passed (unread-fails state settings fault (route_in bytes) h)
 
 -- a route that is read, with its dangers
 pub along : (state : StateValue) (settings : Settings) (bytes : List ℕ) (route : Route) (reply : Reply)
     → Answers (Ok route) (route_in bytes) → reply ≡ reply_along route (report_of state settings route)
-    → Gives (Ok reply) (checked settings state bytes)
+    → Gives (Ok reply) (report_in settings state bytes)
 along state settings bytes route reply h is = ap (reply_by state settings) h ∙ ap Ok (sym is)
 
 -- ---- the file
 
 by_file : (settings : Settings) (state : StateValue) (name : List ℕ) (o : Option Fetched)
-    → route_of settings state name o ≡ (file_in ROUTE_LIMIT name o >>= checked settings state)
+    → route_of settings state name o ≡ (file_in ROUTE_LIMIT name o >>= report_in settings state)
 unfolding route_of
 by_file settings state name o = refl
 
@@ -53,12 +53,12 @@ pub unfetched : (settings : Settings) (state : StateValue) (name : List ℕ) (o 
     → IsErrAnd r (λ passed. passed ≡ fault) → Gives (Err fault) (file_in ROUTE_LIMIT name o) → Gives r (route_of settings state name o)
 unfetched settings state name o r fault passed h =
     subst (Gives r) (sym (by_file settings state name o))
-    (next-stopped (checked settings state) (file_in ROUTE_LIMIT name o) r fault passed h)
+    (next-stopped (report_in settings state) (file_in ROUTE_LIMIT name o) r fault passed h)
 
 -- one that is
 pub fetched-checked : (settings : Settings) (state : StateValue) (name : List ℕ) (o : Option Fetched) (bytes shown : List ℕ) (r : Result Reply EventFault)
-    → file_in ROUTE_LIMIT name o ≡ Ok bytes → shown ≡ bytes → Gives r (checked settings state shown) → Gives r (route_of settings state name o)
+    → file_in ROUTE_LIMIT name o ≡ Ok bytes → shown ≡ bytes → Gives r (report_in settings state shown) → Gives r (route_of settings state name o)
 fetched-checked settings state name o bytes shown r found same h =
     subst (Gives r)
-    (ap (checked settings state) same ∙ sym (ap (λ (f : Result (List ℕ) LineRefusal). f >>= checked settings state) found) ∙ sym (by_file settings state name o))
+    (ap (report_in settings state) same ∙ sym (ap (λ (f : Result (List ℕ) LineRefusal). f >>= report_in settings state) found) ∙ sym (by_file settings state name o))
     h

@@ -33,7 +33,7 @@ use Rattle.session_core.specs.Listing.{cells_reply}
 use Rattle.session_core.specs.Order.{drop_order, load_order, make_order, order_of_file, reissue_order, reply_to, rollback_order}
 use Rattle.session_core.specs.Model.{Model, model_with}
 use Rattle.session_core.specs.Refusal.{store_code}
-use Rattle.session_core.specs.Route.{ROUTE_LIMIT, checked, or_refused as or_unread, reply_along, route_of}
+use Rattle.session_core.specs.Route.{ROUTE_LIMIT, or_refused as or_unread, reply_along, route_of}
 use Rattle.route_check.specs.Reading.{route_in}
 use Rattle.route_check.specs.Report.{report_of}
 use Rattle.route_check.specs.declared.fault.RouteFault.{RouteFault}
@@ -45,7 +45,7 @@ use Rattle.cell_bytes.specs.Written.{data_records, written}
 use Rattle.cell_bytes.specs.declared.fault.WriteFault.{WriteFault}
 use Rattle.cell_bytes.specs.declared.fault.WriteFault.TheVariants as of_write
 use Rattle.session_core.specs.declared.changes.written.MadeFile.{MadeFile}
-use Rattle.session_core.specs.Written.{file_with, made_file, or_refused as or_unwritten, reissued, update_of}
+use Rattle.session_core.specs.Written.{file_with, made_file, or_refused as or_unwritten, reissue_file, update_of}
 use Rattle.session_core.specs.Turn.{decision_turn, order_turn, reply_turn, turn_of}
 
 -- ---- commands
@@ -327,7 +327,7 @@ made-apart model values areas (suc before) e =
     ordered-apart model values (order_of_file (orders.Make file.records) file.bytes) e
 
 reissued-apart : (model : Model) (key values : List ℕ) → Is72 values (order_turn model (reissue_order model.state.cells key)).reply → ⊥
-unfolding reissued
+unfolding reissue_file
 reissued-apart model key values e =
     elim (chart_of model.state.cells key) as (λ o. Is72 values (order_turn model (written_by o >>= λ file. Ok (order_of_file orders.Reissue file))).reply → ⊥) [
       | None ↦ λ f. store-apart (refuses.NoCell key) (code_is f)

@@ -4,3 +4,4 @@ pub mod Turning
 pub mod Following
 pub mod Checking
 pub mod Writing
+pub mod Reissuing

@@ -23,7 +23,7 @@ use Rattle.session_core.specs.Listing.{cells_reply}
 use Rattle.session_core.specs.Model.{Model}
 use Rattle.session_core.specs.Order.{drop_order, load_order, make_order, reissue_order, rollback_order}
 use Rattle.session_core.specs.Route.{ROUTE_LIMIT, route_of}
-use Rattle.session_core.specs.Session.{GivesEvent, Turned}
+use Rattle.session_core.specs.Session.{GivesEvent, TakesTurn}
 use Rattle.session_core.specs.Turn.{Turn, order_turn, reply_turn, turn_of}
 use Rattle.session_core.proofs.Fetching.{passed-is}
 
@@ -64,7 +64,7 @@ module _ (A : Fetches → Type 0) (L : (Images → List ℕ → Type 0) → Type
   pub question-turns : (fetches : Fetches) (wanted : Result Reply LineRefusal) (r : Result Reply EventFault) → A fetches
       → turn_of fetches before event ≡ reply_turn before wanted → Gives {A = Reply} r wanted
       → ((after : StateValue) → L (StandsForEither said before.state after))
-      → Turned A L said event before (GivesEvent r before before)
+      → TakesTurn A L said event before (GivesEvent r before before)
   question-turns fetches wanted r answers is given leaves = record {
     fetches = fetches;
     answers = answers;
@@ -76,7 +76,7 @@ module _ (A : Fetches → Type 0) (L : (Images → List ℕ → Type 0) → Type
   pub order-fails : (fetches : Fetches) (wanted : Result Order LineRefusal) (r : Result Reply EventFault) (fault : EventFault) → A fetches
       → turn_of fetches before event ≡ order_turn before wanted → IsErrAnd r (λ passed. passed ≡ fault)
       → Gives {A = Order} (Err fault) wanted → ((after : StateValue) → L (StandsForEither said before.state after))
-      → Turned A L said event before (GivesEvent r before before)
+      → TakesTurn A L said event before (GivesEvent r before before)
   order-fails fetches wanted r fault answers is passed given leaves = record {
     fetches = fetches;
     answers = answers;
@@ -89,7 +89,7 @@ module _ (A : Fetches → Type 0) (L : (Images → List ℕ → Type 0) → Type
   pub order-turns : (fetches : Fetches) (wanted : Result Order LineRefusal) (order : Order) (r : Result Reply EventFault) (now : Model) → A fetches
       → turn_of fetches before event ≡ order_turn before wanted → wanted ≡ Ok order → GivesEvent r before now (order_turn before (Ok order))
       → L (StandsForEither said before.state (order_turn before (Ok order)).model.state)
-      → Turned A L said event before (GivesEvent r before now)
+      → TakesTurn A L said event before (GivesEvent r before now)
   order-turns fetches wanted order r now answers is found given leaves =
       let same : turn_of fetches before event ≡ order_turn before (Ok order) = is ∙ ap (order_turn before) found in
       record {

@@ -14,14 +14,14 @@ use Rattle.session_core.specs.declared.fault.EventFault.{EventFault}
 use Rattle.session_core.specs.declared.fault.EventFault.TheVariants.{Refused, DeskFault, NoMemory}
 
 -- the refusal that a fault tells
-abbrev pub told : EventFault → Option LineRefusal
-told (Refused refusal) = Some refusal
-told DeskFault = None
-told NoMemory = None
+abbrev pub refusal_of_event : EventFault → Option LineRefusal
+refusal_of_event (Refused refusal) = Some refusal
+refusal_of_event DeskFault = None
+refusal_of_event NoMemory = None
 
 -- the answer is what was to be answered, unless memory ran out or the desk failed
 abbrev pub Gives : {A : Type 0} → Result A EventFault → Result A LineRefusal → Type 0
-Gives answer wanted = answers.Gives told answer wanted
+Gives answer wanted = answers.Gives refusal_of_event answer wanted
 
 -- the faults below, as those of an event
 

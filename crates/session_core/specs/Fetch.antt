@@ -1,5 +1,6 @@
 -- Files by their names, as a shelf answers with them.
-use Rattle.std.specs.Prelude.{◌≡◌, ℕ, Bool, IsTrue, List, Option, Some, None, Result, Ok, Err, if◌then◌else◌}
+use Rattle.std.specs.Prelude.{◌≡◌, ℕ, ◌≤◌, Bool, IsTrue, if◌then◌else◌}
+use Rattle.std.specs.Prelude.{List, Option, Some, None, Result, Ok, Err}
 use Rattle.chart_ports.specs.Count.{Rose}
 use Rattle.chart_ports.specs.Fetched.{fetched_of}
 use Rattle.chart_ports.specs.declared.shelf.Fetched.{Fetched}
@@ -25,6 +26,11 @@ fetches_of files failed limit name = if failed then None else Some (fetched_of l
 pub record AreFetched (tells : Bool) (files : Files) (before now : ℕ) (fetches : Fetches) : Type 0 where
   pub told : IsTrue tells → (failed : Bool) × (fetches ≡ fetches_of files failed)
   pub cause : (limit : ℕ) (name : List ℕ) → fetches limit name ≡ None → Rose before now
+
+-- The shelf's files stay, and its count of faults doesn't fall.
+pub record KeepsShelf {L : Type 0} (tells : Bool) (files : L → Files) (faults : L → ℕ) (before now : L) : Type 0 where
+  pub files_stay : IsTrue tells → files now ≡ files before
+  pub later : faults before ≤ faults now
 
 -- the bytes of the file of a name, which may have at most so many, or why a line that asks for it is refused
 abbrev pub file_in : ℕ → List ℕ → Option Fetched → Result (List ℕ) LineRefusal

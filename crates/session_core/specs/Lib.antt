@@ -12,3 +12,4 @@ pub mod Written
 pub mod Order
 pub mod Turn
 pub mod Session
+pub mod Reissue

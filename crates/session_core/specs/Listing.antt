@@ -24,9 +24,9 @@ cell_line key here = line_of (codes "cell" ∷ key ∷ number here.held.edition 
     ∷ number (length here.files) ∷ chart_word here.chart ∷ [])
 
 -- the lines, in the order of the keys
-abbrev pub listing : HoldingsByKey → List ℕ
-listing cells = flat_map (λ (entry : List ℕ × Holding). cell_line entry.0 entry.1) (map.entries cells)
+abbrev pub cell_lines : HoldingsByKey → List ℕ
+cell_lines cells = flat_map (λ (entry : List ℕ × Holding). cell_line entry.0 entry.1) (map.entries cells)
 
 -- their number and their lines, as a reply
 abbrev pub cells_reply : HoldingsByKey → Reply
-cells_reply cells = Cells (map.len cells) (listing cells)
+cells_reply cells = Cells (map.len cells) (cell_lines cells)

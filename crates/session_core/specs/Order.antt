@@ -13,7 +13,7 @@ use Rattle.session_core.specs.declared.changes.order.Success.TheVariants.{Load, 
 use Rattle.session_core.specs.declared.changes.written.MadeFile.{MadeFile}
 use Rattle.session_core.specs.declared.refusal.LineRefusal.{LineRefusal}
 use Rattle.session_core.specs.Fetch.{file_in}
-use Rattle.session_core.specs.Written.{made_file, reissued}
+use Rattle.session_core.specs.Written.{made_file, reissue_file}
 
 -- The reply to a line whose command is accepted, by the key of the cell and the numbers that are held of it then. A
 -- file is taken over, or has cancelled its cell.
@@ -45,8 +45,9 @@ drop_order key = record { command = commands.Drop key; success = Drop }
 
 -- `make`: so many areas, and the number of an update
 abbrev pub make_order : ℕ → ℕ → Result Order LineRefusal
-make_order areas update = made_file areas update >>= λ (made : MadeFile). Ok (order_of_file (Make made.records) made.bytes)
+make_order areas update =
+    made_file areas update >>= λ (made : MadeFile). Ok (order_of_file (Make made.records) made.bytes)
 
 -- `reissue`: a cell
 abbrev pub reissue_order : HoldingsByKey → List ℕ → Result Order LineRefusal
-reissue_order cells key = reissued cells key >>= λ file. Ok (order_of_file Reissue file)
+reissue_order cells key = reissue_file cells key >>= λ file. Ok (order_of_file Reissue file)

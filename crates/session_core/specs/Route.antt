@@ -1,5 +1,5 @@
 -- What the line `route` answers.
-use Rattle.std.specs.Prelude.{ℕ, List, [], ◌∷◌, length, codes, Option, Some, None, unwrap_or, Result, Ok, Err}
+use Rattle.std.specs.Prelude.{ℕ, List, [], ◌∷◌, length, codes, Option, Some, None, unwrap_or, Result, Ok}
 use Rattle.std.specs.List.{flat_map}
 use Rattle.chart_model.specs.Answers.{◌>>=◌, or_fault_as}
 use Rattle.chart_model.specs.State.{StateValue}
@@ -61,10 +61,10 @@ abbrev pub reply_along : Route → List Danger → Reply
 reply_along route dangers = replies.Route (length (legs_of route)) (length dangers) (danger_lines dangers)
 
 -- the dangers along the route that the bytes of a file are
-abbrev pub checked : Settings → StateValue → List ℕ → Result Reply LineRefusal
-checked settings state bytes =
+abbrev pub report_in : Settings → StateValue → List ℕ → Result Reply LineRefusal
+report_in settings state bytes =
     or_refused (route_in bytes) >>= λ route. Ok (reply_along route (report_of state settings route))
 
 -- the same of the file of a name
 unfoldable pub route_of : Settings → StateValue → List ℕ → Option Fetched → Result Reply LineRefusal
-route_of settings state name fetched = file_in ROUTE_LIMIT name fetched >>= checked settings state
+route_of settings state name fetched = file_in ROUTE_LIMIT name fetched >>= report_in settings state

@@ -30,19 +30,19 @@ abbrev pub answer_turn : Model → Reply → Turn
 answer_turn model reply = record { reply = reply; command = None; model = model }
 
 -- so does what is refused
-abbrev pub refused : Model → LineRefusal → Turn
-refused model refusal = answer_turn model (reply_of refusal)
+abbrev pub refusal_turn : Model → LineRefusal → Turn
+refusal_turn model refusal = answer_turn model (reply_of refusal)
 
 -- a question that may be refused
 abbrev pub reply_turn : Model → Result Reply LineRefusal → Turn
 reply_turn model (Ok reply) = answer_turn model reply
-reply_turn model (Err refusal) = refused model refusal
+reply_turn model (Err refusal) = refusal_turn model refusal
 
 -- a command is accepted, or refused
 abbrev pub decision_turn : Model → Command → (Outcome → Reply) → Result Outcome of_store.Refusal → Turn
 decision_turn model command reply (Ok done) =
     record { reply = reply done; command = Some command; model = model_with model command done.state }
-decision_turn model command reply (Err refusal) = refused model (Store refusal)
+decision_turn model command reply (Err refusal) = refusal_turn model (Store refusal)
 
 abbrev pub command_turn : Model → Command → (Outcome → Reply) → Turn
 command_turn model command reply = decision_turn model command reply (accepted model.state model.room command)
@@ -50,7 +50,7 @@ command_turn model command reply = decision_turn model command reply (accepted m
 -- so is one that a line orders, unless the line is refused before
 abbrev pub order_turn : Model → Result Order LineRefusal → Turn
 order_turn model (Ok order) = command_turn model order.command (λ done. reply_to order.success done.key done.held)
-order_turn model (Err refusal) = refused model refusal
+order_turn model (Err refusal) = refusal_turn model refusal
 
 -- the turn of each event, by what the shelf answers
 unfoldable pub turn_of : Fetches → Model → Event → Turn

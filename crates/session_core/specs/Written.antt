@@ -56,7 +56,7 @@ made_file areas (suc before) = Ok (update_of areas (suc before))
 -- ---- the line `reissue`
 
 -- the base file of the chart of a cell, where the cell is held and not cancelled
-unfoldable pub reissued : HoldingsByKey → List ℕ → Result (List ℕ) LineRefusal
-reissued cells key = do
+unfoldable pub reissue_file : HoldingsByKey → List ℕ → Result (List ℕ) LineRefusal
+reissue_file cells key = do
   chart ← or_fault (Store (NoCell key)) (chart_of cells key)
   or_refused (written chart)

@@ -3,7 +3,7 @@
 ghost use Rattle.std.specs.Prelude.{◌≡◌, ◌≢◌, ◌≤◌, Some, Err, IsTrue};
 ghost use Rattle.session_core.specs.declared.fault.EventFault.TheVariants.{DeskFault};
 ghost use Rattle.session_core.specs.Answers.{Gives};
-ghost use Rattle.session_core.specs.Fetch.{AreFetched, Fetches, file_in};
+ghost use Rattle.session_core.specs.Fetch.{AreFetched, Fetches, KeepsShelf, file_in};
 
 use crate::fault::EventFault;
 use crate::refusal::LineRefusal;
@@ -39,8 +39,7 @@ pub fn fetch<L: Shelf>(
         × AreFetched L.tells (L.files shelf.old) (L.faults shelf.old) (L.faults shelf.new) fetches
         × Gives result (file_in limit name (fetches limit name)) }
     ensures desk { result ≢ Err DeskFault }
-    ensures same { IsTrue L.tells → L.files shelf.new ≡ L.files shelf.old }
-    ensures later { L.faults shelf.old ≤ L.faults shelf.new }
+    ensures keeps { KeepsShelf L.tells L.files L.faults shelf.old shelf.new }
 {
     let fetched = shelf.fetch(alloc, name.as_str(), limit)?;
     file_in(name, limit, fetched)

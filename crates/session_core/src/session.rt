@@ -21,18 +21,19 @@ pub struct Session {
 }
 
 impl Session {
-    ghost use Rattle.std.specs.Prelude.{◌≡◌, ◌≢◌, ◌+◌, ◌<◌, ◌≤◌, ◌^◌, Ok, Err, IfOk, IsTrue, OnOk, OnErr};
-    ghost use Rattle.bank_journal.specs.Fault.{HasDeskCause};
-    ghost use Rattle.chart_ports.specs.Disk.{LeavesNoMoreOfOthers, SameOthers};
+    ghost use Rattle.std.specs.Prelude.{◌≡◌, ◌≢◌, ◌+◌, ◌<◌, ◌^◌, ℕ, List, Ok, Err, IfOk, IsTrue, OnOk};
     ghost use Rattle.chart_ports.specs.Moments.{LeavesOnly};
-    ghost use Rattle.chart_store.specs.Store.{IsKept, StandsForEither, count_of, is_sound};
+    ghost use Rattle.chart_store.specs.Store.{StandsForEither, count_of, is_sound};
     ghost use Rattle.script_reader.specs.Line.{AreInRange};
+    ghost use Rattle.script_reader.specs.declared.event.Event.TheVariants.{Reissue};
     ghost use Rattle.session_core.specs.declared.fault.EventFault.TheVariants.{DeskFault as EventFailed};
+    ghost use Rattle.session_core.specs.declared.fault.EventFault.TheVariants.{NoMemory as NoMemoryForEvent};
     ghost use Rattle.session_core.specs.declared.fault.TurnFault.TheVariants.{DeskFault};
-    ghost use Rattle.session_core.specs.Fetch.{AreFetched};
-    ghost use Rattle.session_core.specs.Session.{GivesEvent, GivesTurn, Turned, model_of};
-    ghost use Rattle.session_core.specs.Session.{portrayal_of, store_of};
+    ghost use Rattle.session_core.specs.Fetch.{AreFetched, KeepsShelf};
     ghost use Rattle.session_core.specs.Model.{portrayal_with};
+    ghost use Rattle.session_core.specs.Reissue.{ReissueKeepsChart};
+    ghost use Rattle.session_core.specs.Session.{GivesEvent, GivesTurn, IsReady, KeepsDesk, TakesTurn};
+    ghost use Rattle.session_core.specs.Session.{model_of, portrayal_of, store_of};
     ghost use Rattle.session_core.specs.Turn.{order_turn};
 
     /// A session over a store that was just opened, which draws cells by a table and by what the mariner set.
@@ -62,25 +63,18 @@ impl Session {
         desk: &mut D,
         steps: &mut Steps<C>,
     ) -> Result<Reply, EventFault>
-        requires sound { IsTrue (is_sound (store_of self.old)) }
+        requires ready { IsReady D.tells (D.contents desk.old) (D.may_leave desk.old) self.old }
         requires count { count_of (store_of self.old) < 2 ^ 63 }
-        requires kept { IsTrue D.tells → IsKept (D.contents desk.old) (D.may_leave desk.old) (store_of self.old) }
         ensures given { GivesEvent result (model_of self.old) (model_of self.new)
             (order_turn (model_of self.old) (Ok order)) }
         ensures moments { IsTrue D.tells → LeavesOnly D.clock D.might desk.old desk.new
             (StandsForEither (D.said desk.old) (model_of self.old).state
             (order_turn (model_of self.old) (Ok order)).model.state) }
-        ensures count { count_of (store_of self.new) ≤ count_of (store_of self.old) + 1 }
-        ensures count_err { OnErr result (count_of (store_of self.new) ≡ count_of (store_of self.old)) }
-        ensures count_ok { OnOk result (count_of (store_of self.new) ≡ count_of (store_of self.old) + 1) }
-        ensures untouched { result ≢ Err EventFailed → OnErr result (desk.new ≡ desk.old) }
-        ensures sound { result ≢ Err EventFailed → IsTrue (is_sound (store_of self.new)) }
-        ensures kept { IsTrue D.tells → result ≢ Err EventFailed →
-            IsKept (D.contents desk.new) (D.may_leave desk.new) (store_of self.new) }
-        ensures said { IsTrue D.tells → D.said desk.new ≡ D.said desk.old }
-        ensures others { IsTrue D.tells → SameOthers 1 (D.contents desk.old) (D.contents desk.new) }
-        ensures crash_others { IsTrue D.tells → LeavesNoMoreOfOthers 1 (D.may_leave desk.old) (D.may_leave desk.new) }
-        ensures cause { HasDeskCause EventFailed (D.faults desk.old) (D.faults desk.new) result }
+        ensures accepted { OnOk result (count_of (store_of self.new) ≡ count_of (store_of self.old) + 1) }
+        ensures keeps { KeepsDesk D.tells D.said D.contents D.may_leave D.faults EventFailed result self.old self.new
+            desk.old desk.new }
+        ensures ready { result ≢ Err EventFailed →
+            IsReady D.tells (D.contents desk.new) (D.may_leave desk.new) self.new }
     {
         let Order { command, success } = order;
         let done = self.store.submit(alloc, command, desk, steps)?;
@@ -96,26 +90,19 @@ impl Session {
         desk: &mut D,
         steps: &mut Steps<C>,
     ) -> Result<Reply, EventFault>
-        requires sound { IsTrue (is_sound (store_of self.old)) }
+        requires ready { IsReady D.tells (D.contents desk.old) (D.may_leave desk.old) self.old }
         requires count { count_of (store_of self.old) < 2 ^ 63 }
-        requires kept { IsTrue D.tells → IsKept (D.contents desk.old) (D.may_leave desk.old) (store_of self.old) }
         requires ranges { AreInRange event }
-        ensures turned { Turned (AreFetched L.tells (L.files shelf.old) (L.faults shelf.old) (L.faults shelf.new))
+        ensures turned { TakesTurn (AreFetched L.tells (L.files shelf.old) (L.faults shelf.old) (L.faults shelf.new))
             (λ P. IsTrue D.tells → LeavesOnly D.clock D.might desk.old desk.new P) (D.said desk.old)
             event (model_of self.old) (GivesEvent result (model_of self.old) (model_of self.new)) }
-        ensures count { count_of (store_of self.new) ≤ count_of (store_of self.old) + 1 }
-        ensures count_err { OnErr result (count_of (store_of self.new) ≡ count_of (store_of self.old)) }
-        ensures untouched { result ≢ Err EventFailed →
-            count_of (store_of self.new) ≡ count_of (store_of self.old) → desk.new ≡ desk.old }
-        ensures sound { result ≢ Err EventFailed → IsTrue (is_sound (store_of self.new)) }
-        ensures kept { IsTrue D.tells → result ≢ Err EventFailed →
-            IsKept (D.contents desk.new) (D.may_leave desk.new) (store_of self.new) }
-        ensures said { IsTrue D.tells → D.said desk.new ≡ D.said desk.old }
-        ensures others { IsTrue D.tells → SameOthers 1 (D.contents desk.old) (D.contents desk.new) }
-        ensures crash_others { IsTrue D.tells → LeavesNoMoreOfOthers 1 (D.may_leave desk.old) (D.may_leave desk.new) }
-        ensures files { IsTrue L.tells → L.files shelf.new ≡ L.files shelf.old }
-        ensures cause { HasDeskCause EventFailed (D.faults desk.old) (D.faults desk.new) result }
-        ensures shelf_later { L.faults shelf.old ≤ L.faults shelf.new }
+        ensures reissue { result ≢ Err NoMemoryForEvent → (key : List ℕ) → event ≡ Reissue key →
+            ReissueKeepsChart (model_of self.old) key }
+        ensures keeps { KeepsDesk D.tells D.said D.contents D.may_leave D.faults EventFailed result self.old self.new
+            desk.old desk.new }
+        ensures ready { result ≢ Err EventFailed →
+            IsReady D.tells (D.contents desk.new) (D.may_leave desk.new) self.new }
+        ensures shelf { KeepsShelf L.tells L.files L.faults shelf.old shelf.new }
     {
         kept_stores_are_read::<D>();
         match event {
@@ -165,40 +152,30 @@ impl Session {
         desk: &mut D,
         steps: &mut Steps<C>,
     ) -> Result<Reply, TurnFault>
-        requires sound { IsTrue (is_sound (store_of self.old)) }
+        requires ready { IsReady D.tells (D.contents desk.old) (D.may_leave desk.old) self.old }
         requires count { count_of (store_of self.old) < 2 ^ 63 }
-        requires kept { IsTrue D.tells → IsKept (D.contents desk.old) (D.may_leave desk.old) (store_of self.old) }
 
         // As of every event that a line asks for.
         requires ranges { AreInRange event }
 
         // The reply and what is held after it are those of the event, by what the shelf answered. A crash at any
         // moment leaves what stands for what was held, or for what the event leaves.
-        ensures turned { Turned (AreFetched L.tells (L.files shelf.old) (L.faults shelf.old) (L.faults shelf.new))
+        ensures turned { TakesTurn (AreFetched L.tells (L.files shelf.old) (L.faults shelf.old) (L.faults shelf.new))
             (λ P. IsTrue D.tells → LeavesOnly D.clock D.might desk.old desk.new P) (D.said desk.old)
             event (model_of self.old) (GivesTurn result (model_of self.old) (model_of self.new)) }
 
-        // One command at most is accepted, and none where there is no reply.
-        ensures count { count_of (store_of self.new) ≤ count_of (store_of self.old) + 1 }
-        ensures count_err { OnErr result (count_of (store_of self.new) ≡ count_of (store_of self.old)) }
+        // A held chart is re-issued, unless there is no room, and stays as it is.
+        ensures reissue { OnOk result ((key : List ℕ) → event ≡ Reissue key →
+            ReissueKeepsChart (model_of self.old) key) }
 
-        // A turn in which none is accepted leaves the disk as it is, unless the disk fails.
-        ensures untouched { result ≢ Err DeskFault →
-            count_of (store_of self.new) ≡ count_of (store_of self.old) → desk.new ≡ desk.old }
+        // One command at most is accepted, and only with a reply. Where none is, the disk is left as it is, unless it
+        // fails. Nothing is said.
+        ensures keeps { KeepsDesk D.tells D.said D.contents D.may_leave D.faults DeskFault result self.old self.new
+            desk.old desk.new }
 
-        // The desk keeps the store for the next turn.
-        ensures sound { OnOk result (IsTrue (is_sound (store_of self.new))) }
-        ensures kept { IsTrue D.tells → OnOk result
-            (IsKept (D.contents desk.new) (D.may_leave desk.new) (store_of self.new)) }
-
-        // Nothing is said.
-        ensures said { IsTrue D.tells → D.said desk.new ≡ D.said desk.old }
-        ensures others { IsTrue D.tells → SameOthers 1 (D.contents desk.old) (D.contents desk.new) }
-        ensures crash_others { IsTrue D.tells → LeavesNoMoreOfOthers 1 (D.may_leave desk.old) (D.may_leave desk.new) }
-        ensures files { IsTrue L.tells → L.files shelf.new ≡ L.files shelf.old }
-
-        ensures cause { HasDeskCause DeskFault (D.faults desk.old) (D.faults desk.new) result }
-        ensures shelf_later { L.faults shelf.old ≤ L.faults shelf.new }
+        // The next turn may follow.
+        ensures ready { OnOk result (IsReady D.tells (D.contents desk.new) (D.may_leave desk.new) self.new) }
+        ensures shelf { KeepsShelf L.tells L.files L.faults shelf.old shelf.new }
     {
         match self.carry_out(alloc, event, shelf, desk, steps) {
             Ok(reply) => Ok(reply),

@@ -1,9 +1,9 @@
 //! Turns of a session.
 
-ghost use Rattle.std.specs.Prelude.{◌≡◌, ◌<◌, IsTrue};
+ghost use Rattle.std.specs.Prelude.{◌≡◌, ◌<◌, true};
 ghost use Rattle.chart_ports.specs.MemoryDesk.{contents_of, leaves_of};
-ghost use Rattle.chart_store.specs.Store.{IsKept, count_of, is_sound};
-ghost use Rattle.session_core.specs.Session.{store_of};
+ghost use Rattle.chart_store.specs.Store.{count_of};
+ghost use Rattle.session_core.specs.Session.{IsReady, store_of};
 
 use chart_model::{Settings, Shades};
 use chart_ports::{FailingCalls, FileBytes, MemoryDesk, MemoryShelf, Steps};
@@ -142,9 +142,8 @@ fn replies<C: Ledger>(
     steps: &mut Steps<C>,
     lines: &[&[u8]],
 ) -> Result<Vec<u8>, AllocError>
-    requires sound { IsTrue (is_sound (store_of session)) }
+    requires ready { IsReady true (contents_of desk.old) (leaves_of desk.old) session }
     requires count { count_of (store_of session) ≡ 0 }
-    requires kept { IsKept (contents_of desk.old) (leaves_of desk.old) (store_of session) }
 {
     let mut said = Vec::new(alloc);
     for line in lines {

@@ -3,7 +3,7 @@
 ghost use Rattle.std.specs.Prelude.{◌≡◌, ◌≢◌, ◌≤◌, Err, IsTrue};
 ghost use Rattle.session_core.specs.declared.fault.EventFault.TheVariants.{DeskFault};
 ghost use Rattle.session_core.specs.Answers.{Gives};
-ghost use Rattle.session_core.specs.Fetch.{AreFetched, Fetches};
+ghost use Rattle.session_core.specs.Fetch.{AreFetched, Fetches, KeepsShelf};
 ghost use Rattle.chart_store.specs.Loaded.{FILE_LIMIT as LIMIT};
 ghost use Rattle.session_core.specs.Order.{load_order};
 
@@ -22,8 +22,7 @@ pub fn load_order<L: Shelf>(alloc: Global, name: Word, shelf: &mut L) -> Result<
         × AreFetched L.tells (L.files shelf.old) (L.faults shelf.old) (L.faults shelf.new) fetches
         × Gives result (load_order name (fetches LIMIT name)) }
     ensures desk { result ≢ Err DeskFault }
-    ensures same { IsTrue L.tells → L.files shelf.new ≡ L.files shelf.old }
-    ensures later { L.faults shelf.old ≤ L.faults shelf.new }
+    ensures keeps { KeepsShelf L.tells L.files L.faults shelf.old shelf.new }
 {
     let file = fetch(alloc, name, FILE_LIMIT, shelf)?;
     Ok(Order {

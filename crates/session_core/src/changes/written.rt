@@ -1,14 +1,19 @@
 //! The lines `make` and `reissue`: files that are written here.
 
-ghost use Rattle.std.specs.Prelude.{◌≡◌, ◌≢◌, ◌≤◌, length, Err, IfOk};
+ghost use Rattle.std.specs.Prelude.{◌≡◌, ◌≢◌, ◌≤◌, length, Err, IfOk, IfSome};
 ghost use Rattle.std.specs.FinMap as map;
 ghost use Rattle.std.specs.Int.{IsInRange};
 ghost use Rattle.cell_bytes.specs.Generator.{made_cell};
 ghost use Rattle.cell_bytes.specs.Written.{data_records};
-ghost use Rattle.session_core.specs.declared.fault.EventFault.TheVariants.{DeskFault};
+ghost use Rattle.chart_closure.specs.Closed.{IsClosed};
+ghost use Rattle.chart_store.specs.Live.{AreLive};
+ghost use Rattle.session_core.specs.declared.fault.EventFault.TheVariants.{DeskFault, NoMemory};
 ghost use Rattle.session_core.specs.Answers.{Gives};
+ghost use Rattle.session_core.specs.Held.{chart_of};
+ghost use Rattle.session_core.specs.Model.{Model};
+ghost use Rattle.session_core.specs.Reissue.{ReadsBack, ReissueKeepsChart};
 ghost use Rattle.session_core.specs.Order.{make_order, reissue_order};
-ghost use Rattle.session_core.specs.Written.{base_of, made_file, reissued, update_of};
+ghost use Rattle.session_core.specs.Written.{base_of, made_file, reissue_file, update_of};
 
 use crate::changes::order::{Order, Success};
 use crate::fault::EventFault;
@@ -17,7 +22,7 @@ use crate::refusal::LineRefusal;
 use cell_bytes::modified_count;
 use cell_writer::{make_cell, make_update, write_cell};
 use chart_model::{Cell, Command, HoldingMap, Key, Octets};
-use chart_store::Refusal as StoreRefusal;
+use chart_store::{Refusal as StoreRefusal, reissues_keep_the_chart};
 use std::alloc::{AllocError, Global};
 
 /// A file that was made.
@@ -96,9 +101,11 @@ pub fn make_order(alloc: Global, areas: u32, update: u32) -> Result<Order, Event
 }
 
 /// The base file of the chart of the cell of this key.
-#[tactic(auto, unfolding(crate::specs::Written::reissued))]
+#[tactic(auto, unfolding(crate::specs::Written::reissue_file))]
 fn reissue(alloc: Global, key: Key, cells: &HoldingMap) -> Result<Octets, EventFault>
-    ensures given { Gives result (reissued cells.now key) }
+    requires closed { IfSome (chart_of cells.now key) IsClosed }
+    ensures given { Gives result (reissue_file cells.now key) }
+    ensures reads_back { result ≢ Err NoMemory → ReadsBack cells.now key }
     ensures desk { result ≢ Err DeskFault }
 {
     let Some(chart) = chart_of(cells, key) else {
@@ -109,9 +116,14 @@ fn reissue(alloc: Global, key: Key, cells: &HoldingMap) -> Result<Octets, EventF
 
 /// What the line `reissue` orders.
 pub fn reissue_order(alloc: Global, key: Key, cells: &HoldingMap) -> Result<Order, EventFault>
+    requires live { AreLive cells.now }
+    requires closed { IfSome (chart_of cells.now key) IsClosed }
     ensures given { Gives result (reissue_order cells.now key) }
+    ensures keeps { result ≢ Err NoMemory → (model : Model) → model.state.cells ≡ cells.now →
+        ReissueKeepsChart model key }
     ensures desk { result ≢ Err DeskFault }
 {
+    reissues_keep_the_chart();
     let file = reissue(alloc, key, cells)?;
     Ok(Order {
         command: Command::Load(file),

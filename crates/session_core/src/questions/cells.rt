@@ -4,7 +4,7 @@ ghost use Rattle.std.specs.Prelude.{◌≡◌, ◌≢◌, ◌++◌, ◌∷◌, p
 ghost use Rattle.script_reader.specs.Reply.{number};
 ghost use Rattle.session_core.specs.declared.fault.EventFault.TheVariants.{DeskFault};
 ghost use Rattle.session_core.specs.Answers.{Gives};
-ghost use Rattle.session_core.specs.Listing.{records_of, chart_word, cell_line, cells_reply, listing};
+ghost use Rattle.session_core.specs.Listing.{records_of, chart_word, cell_line, cells_reply, cell_lines};
 
 use crate::fault::EventFault;
 use chart_model::{Cell, Holding, HoldingMap, Key, Octets};
@@ -52,7 +52,7 @@ fn push_cell(
 
 /// A line for each cell that is held, in the order of their keys.
 fn list(alloc: Global, cells: &HoldingMap) -> Result<Octets, AllocError>
-    ensures { IfOk result (λ lines. lines ≡ listing cells.now) }
+    ensures { IfOk result (λ lines. lines ≡ cell_lines cells.now) }
 {
     let mut lines = Octets::from_vec(Vec::new(alloc));
     for (key, holding) in cells.iter() {

@@ -3,7 +3,7 @@
 ghost use Rattle.std.specs.Prelude.{◌≡◌, ◌≢◌, ◌≤◌, Err, IsTrue};
 ghost use Rattle.session_core.specs.declared.fault.EventFault.TheVariants.{DeskFault};
 ghost use Rattle.session_core.specs.Answers.{Gives};
-ghost use Rattle.session_core.specs.Fetch.{AreFetched, Fetches};
+ghost use Rattle.session_core.specs.Fetch.{AreFetched, Fetches, KeepsShelf};
 ghost use Rattle.chart_store.specs.Loaded.{FILE_LIMIT as LIMIT};
 ghost use Rattle.session_core.specs.Info.{info_of};
 
@@ -27,8 +27,7 @@ pub fn inform<L: Shelf, C: Ledger>(
         × AreFetched L.tells (L.files shelf.old) (L.faults shelf.old) (L.faults shelf.new) fetches
         × Gives result (info_of name (fetches LIMIT name)) }
     ensures desk { result ≢ Err DeskFault }
-    ensures same { IsTrue L.tells → L.files shelf.new ≡ L.files shelf.old }
-    ensures later { L.faults shelf.old ≤ L.faults shelf.new }
+    ensures keeps { KeepsShelf L.tells L.files L.faults shelf.old shelf.new }
 {
     let bytes = fetch(alloc, name, FILE_LIMIT, shelf)?;
     let info = read_info(alloc, bytes.as_slice(), steps)?;

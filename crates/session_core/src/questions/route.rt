@@ -3,8 +3,8 @@
 ghost use Rattle.std.specs.Prelude.{◌≡◌, ◌≢◌, ◌++◌, ◌≤◌, Err, IfOk, IsTrue, OnOk};
 ghost use Rattle.session_core.specs.declared.fault.EventFault.TheVariants.{DeskFault};
 ghost use Rattle.session_core.specs.Answers.{Gives};
-ghost use Rattle.session_core.specs.Fetch.{AreFetched, Fetches};
-ghost use Rattle.session_core.specs.Route.{ROUTE_LIMIT as LIMIT, checked, danger_line, danger_lines, route_of};
+ghost use Rattle.session_core.specs.Fetch.{AreFetched, Fetches, KeepsShelf};
+ghost use Rattle.session_core.specs.Route.{ROUTE_LIMIT as LIMIT, report_in, danger_line, danger_lines, route_of};
 
 use crate::fault::EventFault;
 use crate::fetch::fetch;
@@ -47,7 +47,7 @@ fn check(
     state: &State,
     settings: &Settings,
 ) -> Result<Reply, EventFault>
-    ensures given { Gives result (checked settings.now state.now bytes.now) }
+    ensures given { Gives result (report_in settings.now state.now bytes.now) }
     ensures desk { result ≢ Err DeskFault }
 {
     let route = read_route(alloc, bytes)?;
@@ -69,8 +69,7 @@ pub fn check_route<L: Shelf>(
         × AreFetched L.tells (L.files shelf.old) (L.faults shelf.old) (L.faults shelf.new) fetches
         × Gives result (route_of settings.now state.now name (fetches LIMIT name)) }
     ensures desk { result ≢ Err DeskFault }
-    ensures same { IsTrue L.tells → L.files shelf.new ≡ L.files shelf.old }
-    ensures later { L.faults shelf.old ≤ L.faults shelf.new }
+    ensures keeps { KeepsShelf L.tells L.files L.faults shelf.old shelf.new }
 {
     let bytes = fetch(alloc, name, ROUTE_LIMIT, shelf)?;
     check(alloc, bytes.as_slice(), state, settings)

@@ -2,8 +2,8 @@
 use Rattle.std.proofs.Common.{◌≡◌, ◌++◌, List, ℕ}
 use Rattle.std.specs.List.{flat_map}
 use Rattle.chart_model.specs.declared.state.Holding.{Holding}
-use Rattle.session_core.specs.Listing.{cell_line, listing}
+use Rattle.session_core.specs.Listing.{cell_line, cell_lines}
 use Rattle.session_core.proofs.questions.cells.list.Given as goal
 
 abbrev pub invariant-loop-key : goal.invariant-loop-key
-invariant-loop-key l = l.lines ++ flat_map (λ (entry : List ℕ × Holding). cell_line entry.0 entry.1) l.key-iterator ≡ listing l.cells
+invariant-loop-key l = l.lines ++ flat_map (λ (entry : List ℕ × Holding). cell_line entry.0 entry.1) l.key-iterator ≡ cell_lines l.cells

@@ -1,20 +1,26 @@
 -- Each event is answered, or stopped by a fault.
 use Rattle.std.proofs.Common.{◌≡◌, ℕ, false, Ok, Err, sym, ◌∙◌, ap, subst}
+use Rattle.std.specs.Prelude.{IfSome}
+use Rattle.chart_closure.specs.Closed.{IsClosed}
 use Rattle.chart_model.specs.State.{StateValue}
+use Rattle.chart_store.specs.Live.{AreLive}
 use Rattle.chart_store.specs.Loaded.{HoldingsByKey}
 use Rattle.script_reader.specs.Line.{AreInRange, CanBeMade}
 use Rattle.script_reader.specs.declared.event.Event.{Event}
 use Rattle.script_reader.specs.declared.event.Event.TheVariants.{Make}
 use Rattle.script_reader.specs.declared.reply.Reply.{Reply}
 use Rattle.session_core.specs.declared.changes.order.Order.{Order}
+use Rattle.session_core.specs.declared.fault.EventFault.TheVariants.{NoMemory}
 use Rattle.session_core.specs.Answers.{Gives}
 use Rattle.session_core.specs.Draw.{draw_of}
 use Rattle.session_core.specs.Fetch.{fetches_of}
+use Rattle.session_core.specs.Held.{chart_of}
 use Rattle.session_core.specs.Listing.{cells_reply}
 use Rattle.session_core.specs.Order.{reissue_order}
 use Rattle.session_core.specs.Route.{ROUTE_LIMIT, route_of}
 use Rattle.session_core.specs.Session.{model_of, store_of}
 use Rattle.session_core.proofs.Fetching.{are-served}
+use Rattle.session_core.proofs.Reissuing.{event-keeps, not-passed}
 use Rattle.session_core.proofs.Turning.{no-call, question-turns, order-fails, order-turns, info-is, cells-is, draw-is, route-is, load-is, rollback-is, drop-is, make-is, reissue-is}
 use Rattle.session_core.proofs.session.Session.carry_out.Goals as goal
 
@@ -27,7 +33,7 @@ returns-in-Info-clause-turned g c =
     no-call g.D.Desk.clock g.D.Desk.might c.args.desk.now (g.D.Desk.may_leave c.args.desk.now) (g.D.Desk.said c.args.desk.now)
     (model_of c.args.self.now).state after
     (λ images bytes left. g.met.D.Desk.only_now c.args.desk.now images bytes tells left)
-    (λ images left. c.kept_stores_are_read.ensures.stands c.args.desk.now (store_of c.args.self.now) images (c.requires.kept tells) left))
+    (λ images left. c.kept_stores_are_read.ensures.stands c.args.desk.now (store_of c.args.self.now) images (c.requires.ready.kept tells) left))
 
 pub returns-in-Cells-clause-turned : goal.returns-in-Cells-clause-turned
 returns-in-Cells-clause-turned g c =
@@ -37,7 +43,7 @@ returns-in-Cells-clause-turned g c =
     no-call g.D.Desk.clock g.D.Desk.might c.args.desk.now (g.D.Desk.may_leave c.args.desk.now) (g.D.Desk.said c.args.desk.now)
     (model_of c.args.self.now).state after
     (λ images bytes left. g.met.D.Desk.only_now c.args.desk.now images bytes tells left)
-    (λ images left. c.kept_stores_are_read.ensures.stands c.args.desk.now (store_of c.args.self.now) images (c.requires.kept tells) left))
+    (λ images left. c.kept_stores_are_read.ensures.stands c.args.desk.now (store_of c.args.self.now) images (c.requires.ready.kept tells) left))
 
 pub returns-in-Draw-clause-turned : goal.returns-in-Draw-clause-turned
 returns-in-Draw-clause-turned g c =
@@ -47,7 +53,7 @@ returns-in-Draw-clause-turned g c =
     no-call g.D.Desk.clock g.D.Desk.might c.args.desk.now (g.D.Desk.may_leave c.args.desk.now) (g.D.Desk.said c.args.desk.now)
     (model_of c.args.self.now).state after
     (λ images bytes left. g.met.D.Desk.only_now c.args.desk.now images bytes tells left)
-    (λ images left. c.kept_stores_are_read.ensures.stands c.args.desk.now (store_of c.args.self.now) images (c.requires.kept tells) left))
+    (λ images left. c.kept_stores_are_read.ensures.stands c.args.desk.now (store_of c.args.self.now) images (c.requires.ready.kept tells) left))
 
 pub returns-in-Route-clause-turned : goal.returns-in-Route-clause-turned
 returns-in-Route-clause-turned g c =
@@ -58,7 +64,7 @@ returns-in-Route-clause-turned g c =
     no-call g.D.Desk.clock g.D.Desk.might c.args.desk.now (g.D.Desk.may_leave c.args.desk.now) (g.D.Desk.said c.args.desk.now)
     (model_of c.args.self.now).state after
     (λ images bytes left. g.met.D.Desk.only_now c.args.desk.now images bytes tells left)
-    (λ images left. c.kept_stores_are_read.ensures.stands c.args.desk.now (store_of c.args.self.now) images (c.requires.kept tells) left))
+    (λ images left. c.kept_stores_are_read.ensures.stands c.args.desk.now (store_of c.args.self.now) images (c.requires.ready.kept tells) left))
 
 -- ---- changes
 
@@ -70,7 +76,7 @@ returns-in_err-order-in-Load-clause-turned g c =
     no-call g.D.Desk.clock g.D.Desk.might c.args.desk.now (g.D.Desk.may_leave c.args.desk.now) (g.D.Desk.said c.args.desk.now)
     (model_of c.args.self.now).state after
     (λ images bytes left. g.met.D.Desk.only_now c.args.desk.now images bytes tells left)
-    (λ images left. c.kept_stores_are_read.ensures.stands c.args.desk.now (store_of c.args.self.now) images (c.requires.kept tells) left))
+    (λ images left. c.kept_stores_are_read.ensures.stands c.args.desk.now (store_of c.args.self.now) images (c.requires.ready.kept tells) left))
 
 pub returns-in_ok-order-in-Load-clause-turned : goal.returns-in_ok-order-in-Load-clause-turned
 returns-in_ok-order-in-Load-clause-turned g c =
@@ -108,7 +114,7 @@ returns-in_err-order-in-Make-clause-turned g c =
     no-call g.D.Desk.clock g.D.Desk.might c.args.desk.now (g.D.Desk.may_leave c.args.desk.now) (g.D.Desk.said c.args.desk.now)
     (model_of c.args.self.now).state after
     (λ images bytes left. g.met.D.Desk.only_now c.args.desk.now images bytes tells left)
-    (λ images left. c.kept_stores_are_read.ensures.stands c.args.desk.now (store_of c.args.self.now) images (c.requires.kept tells) left))
+    (λ images left. c.kept_stores_are_read.ensures.stands c.args.desk.now (store_of c.args.self.now) images (c.requires.ready.kept tells) left))
 
 pub returns-in_ok-order-in-Make-clause-turned : goal.returns-in_ok-order-in-Make-clause-turned
 returns-in_ok-order-in-Make-clause-turned g c =
@@ -125,7 +131,7 @@ returns-in_err-order-in-Reissue-clause-turned g c =
     no-call g.D.Desk.clock g.D.Desk.might c.args.desk.now (g.D.Desk.may_leave c.args.desk.now) (g.D.Desk.said c.args.desk.now)
     (model_of c.args.self.now).state after
     (λ images bytes left. g.met.D.Desk.only_now c.args.desk.now images bytes tells left)
-    (λ images left. c.kept_stores_are_read.ensures.stands c.args.desk.now (store_of c.args.self.now) images (c.requires.kept tells) left))
+    (λ images left. c.kept_stores_are_read.ensures.stands c.args.desk.now (store_of c.args.self.now) images (c.requires.ready.kept tells) left))
 
 pub returns-in_ok-order-in-Reissue-clause-turned : goal.returns-in_ok-order-in-Reissue-clause-turned
 returns-in_ok-order-in-Reissue-clause-turned g c =
@@ -134,3 +140,26 @@ returns-in_ok-order-in-Reissue-clause-turned g c =
     (reissue-is (fetches_of (g.L.Shelf.files c.args.shelf.now) false) (model_of c.args.self.now) c.args.event c.in-Reissue.key c.in-Reissue.is)
     (ap (λ (held : HoldingsByKey). reissue_order held c.in-Reissue.key) (sym same) ∙ c.in_ok-order-in-Reissue.ensures.given)
     c.obey-in-Reissue.ensures.given c.obey-in-Reissue.ensures.moments
+
+-- ---- a re-issue
+
+pub reissue_order-requires-clause-live : goal.reissue_order-requires-clause-live
+reissue_order-requires-clause-live g c =
+    subst (λ (state : StateValue). AreLive state.cells) (sym c.behind-self-in-Reissue.view_is) c.state-in-Reissue.ensures.live
+
+pub reissue_order-requires-clause-closed : goal.reissue_order-requires-clause-closed
+reissue_order-requires-clause-closed g c =
+    subst (λ (state : StateValue). IfSome (chart_of state.cells c.in-Reissue.key) IsClosed) (sym c.behind-self-in-Reissue.view_is)
+    (c.state-in-Reissue.ensures.closed c.in-Reissue.key)
+
+pub returns-in_err-order-in-Reissue-clause-reissue : goal.returns-in_err-order-in-Reissue-clause-reissue
+returns-in_err-order-in-Reissue-clause-reissue g c = λ other key is.
+    let same : c.behind-self-in-Reissue.inside.cells ≡ (model_of c.args.self.now).state.cells = ap (λ (s : StateValue). s.cells) (c.behind-self-in-Reissue.view_is ∙ c.state-in-Reissue.ensures.state) in
+    event-keeps (model_of c.args.self.now) _ c.in-Reissue.key key c.args.event
+    (c.in_err-order-in-Reissue.ensures.keeps (not-passed c.from_residual-in_err-order-in-Reissue.result c.in_err-order-in-Reissue.field-0.0 NoMemory
+    c.from_residual-in_err-order-in-Reissue.ensures.1 other)) (sym same) c.in-Reissue.is is
+
+pub returns-in_ok-order-in-Reissue-clause-reissue : goal.returns-in_ok-order-in-Reissue-clause-reissue
+returns-in_ok-order-in-Reissue-clause-reissue g c = λ other key is.
+    let same : c.behind-self-in-Reissue.inside.cells ≡ (model_of c.args.self.now).state.cells = ap (λ (s : StateValue). s.cells) (c.behind-self-in-Reissue.view_is ∙ c.state-in-Reissue.ensures.state) in
+    event-keeps (model_of c.args.self.now) _ c.in-Reissue.key key c.args.event (c.in_ok-order-in-Reissue.ensures.keeps (λ e. cc)) (sym same) c.in-Reissue.is is
