@@ -18,16 +18,16 @@ use Rattle.script_reader.specs.declared.event.Event.{Event}
 use Rattle.script_reader.specs.declared.fault.LineFault.{LineFault}
 use Rattle.script_reader.specs.declared.reply.Reply.{Reply}
 use Rattle.session_core.specs.Fetch.{AreFetched, Files, Fetches, fetches_of}
-use Rattle.session_core.specs.Session.{GivesTurn, Turned}
+use Rattle.session_core.specs.Session.{GivesTurn, TakesTurn}
 use Rattle.session_core.specs.Model.{Model, model_with}
 use Rattle.session_core.specs.Turn.{Turn, turn_of}
 use Rattle.ecdis_cli.specs.Crash.{LeavesPrefix}
-use Rattle.ecdis_cli.specs.Progress.{Answered, Interrupted, IsAfter, IsSpoken, Taken}
+use Rattle.ecdis_cli.specs.Progress.{LineIsAnswered, ReplyIsInterrupted, IsAfter, IsSpoken, StepsAreTaken, step_at}
 use Rattle.ecdis_cli.specs.declared.run.stop.Stop.{Stop}
-use Rattle.ecdis_cli.specs.Replied.{GivesStep, LeavesSaying, Replied}
-use Rattle.ecdis_cli.specs.Script.{IsAnswer, commands_in, listed, output}
-use Rattle.ecdis_cli.specs.Step.{Step, said_in, said_of, spoken, step_by, step_to}
-use Rattle.ecdis_cli.specs.World.{World}
+use Rattle.ecdis_cli.specs.Replied.{GivesStep, LeavesSaying, ReplyIsFound}
+use Rattle.ecdis_cli.specs.Script.{IsAnswer, commands_in, commands_of, output_of}
+use Rattle.ecdis_cli.specs.Step.{Step, said_in, said_of, step_by, step_of, step_to}
+use Rattle.ecdis_cli.specs.Standing.{Standing}
 use Rattle.ecdis_cli.proofs.Crashes.{prefix-saying, prefix-turn}
 use Rattle.ecdis_cli.proofs.Failures.{TellsFailure, failed-one}
 use Rattle.ecdis_cli.proofs.Lists.{after-none, after-one}
@@ -49,7 +49,7 @@ abbrev pub Speaks : Type 0
 Speaks = (reply : Reply) → 0 < length (printed reply)
 
 turn-held : Rests → Follows → (fetches : Fetches) (model : Model) (event : Event) (command : Option Command) → (turn_of fetches model event).command ≡ command
-    → (turn_of fetches model event).model.state ≡ after model.state (listed command ++ [])
+    → (turn_of fetches model event).model.state ≡ after model.state (commands_of command ++ [])
 turn-held rests follows fetches model event None e = ap (λ (m : Model). m.state) (rests fetches model event e) ∙ sym (after-none model.state)
 turn-held rests follows fetches model event (Some command) e =
     ap (λ (m : Model). m.state) (follows fetches model event command e) ∙ sym (after-one model.state command)
@@ -77,50 +77,50 @@ step-spoken speaks fetches model number line = spoken-by speaks fetches model nu
 -- ---- the step is taken
 
 pub Taken-one : Rests → Follows → Speaks → TellsFailure → (tells : Bool) (files : Files) (Leaves : (Images → List ℕ → Type 0) → Type 0)
-    (number : ℕ) (line : List ℕ) (before : World) (faults : ℕ) (fetches : Fetches) → before.faults ≤ faults
+    (before : Standing) (faults : ℕ) (fetches : Fetches) → before.faults ≤ faults
     → AreFetched tells files before.faults faults fetches
-    → Leaves (LeavesPrefix before.model.state (step_to fetches before.model number line ∷ []) before.said)
-    → Taken tells files Leaves before faults (fetches ∷ []) (step_to fetches before.model number line ∷ [])
-Taken-one rests follows speaks law tells files Leaves number line before faults fetches later answers crash =
-    let step : Step = step_to fetches before.model number line in
+    → Leaves (LeavesPrefix before.model.state (step_at fetches before ∷ []) before.said)
+    → StepsAreTaken tells files Leaves before faults (fetches ∷ []) (step_at fetches before ∷ [])
+Taken-one rests follows speaks law tells files Leaves before faults fetches later answers crash =
+    let step : Step = step_at fetches before in
     record {
       told = All-cons (IsAnswer tells files) fetches [] answers.told (All-nil (IsAnswer tells files));
-      spoken = All-cons IsSpoken step [] (step-spoken speaks fetches before.model number line) (All-nil IsSpoken);
-      held = step-held rests follows fetches before.model number line;
-      failed = failed-one law fetches before.model number line before.faults faults later answers.cause;
+      spoken = All-cons IsSpoken step [] (step-spoken speaks fetches before.model before.number before.line) (All-nil IsSpoken);
+      held = step-held rests follows fetches before.model before.number before.line;
+      failed = failed-one law fetches before.model before.number before.line before.faults faults later answers.cause;
       later = later;
       crash = crash;
     }
 
 -- the output of a step that has a reply
-output-replied : (step : Step) (reply : Reply) → step.reply ≡ Some reply → output (step ∷ []) ≡ printed reply
+output-replied : (step : Step) (reply : Reply) → step.reply ≡ Some reply → output_of (step ∷ []) ≡ printed reply
 output-replied step reply is = append-nil (said_in step) ∙ ap said_of is
 
 module _ {D : Type 0} (clock : D → ℕ) (might : D → ℕ → Images → List ℕ → Type 0)
     (rests : Rests) (follows : Follows) (speaks : Speaks) (law : TellsFailure)
-    (tells : Bool) (files : Files) (number : ℕ) (line : List ℕ) (before : World) (faults : ℕ) (later : before.faults ≤ faults) where
+    (tells : Bool) (files : Files) (before : Standing) (faults : ℕ) (later : before.faults ≤ faults) where
   -- the moments of a turn
   turn-crash : (d0 d1 : D) (fetches : Fetches)
-      → LeavesOnly clock might d0 d1 (StandsForEither before.said before.model.state (step_to fetches before.model number line).model.state)
-      → LeavesOnly clock might d0 d1 (LeavesPrefix before.model.state (step_to fetches before.model number line ∷ []) before.said)
+      → LeavesOnly clock might d0 d1 (StandsForEither before.said before.model.state (step_at fetches before).model.state)
+      → LeavesOnly clock might d0 d1 (LeavesPrefix before.model.state (step_at fetches before ∷ []) before.said)
   turn-crash d0 d1 fetches moments =
-      let step : Step = step_to fetches before.model number line in
+      let step : Step = step_at fetches before in
       weaker clock might d0 d1 (StandsForEither before.said before.model.state step.model.state) (LeavesPrefix before.model.state (step ∷ []) before.said)
       (λ images so_far x. prefix-turn before.model.state step.model.state step before.said so_far images
-      (step-held rests follows fetches before.model number line) x) moments
+      (step-held rests follows fetches before.model before.number before.line) x) moments
 
   -- there is no reply
-  pub answered-silent : (IsGiven : Step → Type 0) (d0 d1 : D) (now : World) → now.faults ≡ faults → now.said ≡ before.said
+  pub answered-silent : (IsGiven : Step → Type 0) (d0 d1 : D) (now : Standing) → now.faults ≡ faults → now.said ≡ before.said
       → ((step : Step) → IsGiven step → (step.reply ≡ None) × (step.model ≡ now.model))
-      → Replied tells files (LeavesOnly clock might d0 d1) number line before faults IsGiven
-      → Answered tells files (LeavesOnly clock might d0 d1) number line before now
+      → ReplyIsFound tells files (LeavesOnly clock might d0 d1) before faults IsGiven
+      → LineIsAnswered tells files (LeavesOnly clock might d0 d1) before now
   answered-silent IsGiven d0 d1 now counted silent gives x =
-      let step : Step = step_to x.fetches before.model number line in
+      let step : Step = step_at x.fetches before in
       let given : (step.reply ≡ None) × (step.model ≡ now.model) = gives step x.gives in
       record {
         fetches = x.fetches;
-        taken = subst (λ (n : ℕ). Taken tells files (LeavesOnly clock might d0 d1) before n (x.fetches ∷ []) (step ∷ [])) (sym counted)
-            (Taken-one rests follows speaks law tells files (LeavesOnly clock might d0 d1) number line before faults x.fetches later x.answers (turn-crash d0 d1 x.fetches x.leaves));
+        taken = subst (λ (n : ℕ). StepsAreTaken tells files (LeavesOnly clock might d0 d1) before n (x.fetches ∷ []) (step ∷ [])) (sym counted)
+            (Taken-one rests follows speaks law tells files (LeavesOnly clock might d0 d1) before faults x.fetches later x.answers (turn-crash d0 d1 x.fetches x.leaves));
         after = record {
           said = silent ∙ sym (append-nil before.said) ∙ ap (λ (o : Option Reply). before.said ++ (said_of o ++ [])) (sym given.0);
           reached = sym given.1;
@@ -128,60 +128,60 @@ module _ {D : Type 0} (clock : D → ℕ) (might : D → ℕ → Images → List
       }
 
   -- it isn't come to
-  pub interrupted-before : (IsGiven : Step → Type 0) (d0 d1 : D) (now : World) → now.faults ≡ faults → now.said ≡ before.said
-      → Replied tells files (LeavesOnly clock might d0 d1) number line before faults IsGiven
-      → Interrupted tells files (LeavesOnly clock might d0 d1) number line before now
+  pub interrupted-before : (IsGiven : Step → Type 0) (d0 d1 : D) (now : Standing) → now.faults ≡ faults → now.said ≡ before.said
+      → ReplyIsFound tells files (LeavesOnly clock might d0 d1) before faults IsGiven
+      → ReplyIsInterrupted tells files (LeavesOnly clock might d0 d1) before now
   interrupted-before IsGiven d0 d1 now counted silent x =
-      let step : Step = step_to x.fetches before.model number line in
+      let step : Step = step_at x.fetches before in
       record {
         fetches = x.fetches;
-        taken = subst (λ (n : ℕ). Taken tells files (LeavesOnly clock might d0 d1) before n (x.fetches ∷ []) (step ∷ [])) (sym counted)
-            (Taken-one rests follows speaks law tells files (LeavesOnly clock might d0 d1) number line before faults x.fetches later x.answers (turn-crash d0 d1 x.fetches x.leaves));
-        front = front-none before.said (output (step ∷ [])) now.said silent;
+        taken = subst (λ (n : ℕ). StepsAreTaken tells files (LeavesOnly clock might d0 d1) before n (x.fetches ∷ []) (step ∷ [])) (sym counted)
+            (Taken-one rests follows speaks law tells files (LeavesOnly clock might d0 d1) before faults x.fetches later x.answers (turn-crash d0 d1 x.fetches x.leaves));
+        front = front-none before.said (output_of (step ∷ [])) now.said silent;
       }
 
   -- the moments of a turn, and of its reply
   said-crash : (d0 d1 d2 : D) (may_leave : ℕ → List ℕ → Type 0) (fetches : Fetches) (left : Model) (reply : Reply) (middle : List ℕ) → middle ≡ before.said
-      → (step_to fetches before.model number line).reply ≡ Some reply → (step_to fetches before.model number line).model ≡ left
+      → (step_at fetches before).reply ≡ Some reply → (step_at fetches before).model ≡ left
       → ((images : Images) → MayBeLeft may_leave images → StandFor images left.state)
-      → LeavesOnly clock might d0 d1 (StandsForEither before.said before.model.state (step_to fetches before.model number line).model.state)
+      → LeavesOnly clock might d0 d1 (StandsForEither before.said before.model.state (step_at fetches before).model.state)
       → LeavesOnly clock might d1 d2 (LeavesSaying may_leave middle (printed reply))
-      → LeavesOnly clock might d0 d2 (LeavesPrefix before.model.state (step_to fetches before.model number line ∷ []) before.said)
+      → LeavesOnly clock might d0 d2 (LeavesPrefix before.model.state (step_at fetches before ∷ []) before.said)
   said-crash d0 d1 d2 may_leave fetches left reply middle silent replied reached stands first then_said =
-      let step : Step = step_to fetches before.model number line in
+      let step : Step = step_at fetches before in
       and_then clock might d0 d1 d2 (LeavesPrefix before.model.state (step ∷ []) before.said) (turn-crash d0 d1 fetches first)
       (weaker clock might d1 d2 (LeavesSaying may_leave middle (printed reply)) (LeavesPrefix before.model.state (step ∷ []) before.said)
       (λ images so_far x. prefix-saying before.model.state left.state step before.said so_far images
-      (ap (λ (m : Model). m.state) (sym reached) ∙ step-held rests follows fetches before.model number line)
+      (ap (λ (m : Model). m.state) (sym reached) ∙ step-held rests follows fetches before.model before.number before.line)
       (stands images x.left)
       (subst (λ (l : List ℕ). SaysFront before.said l so_far) (ap said_of (sym replied))
       (subst (λ (l : List ℕ). SaysFront l (printed reply) so_far) silent x.front))) then_said)
 
   -- what is taken of the script where a reply is begun
-  taken-said : (IsGiven : Step → Type 0) (d0 d1 d2 : D) (may_leave : ℕ → List ℕ → Type 0) (reply : Reply) (middle : List ℕ) (now : World)
+  taken-said : (IsGiven : Step → Type 0) (d0 d1 d2 : D) (may_leave : ℕ → List ℕ → Type 0) (reply : Reply) (middle : List ℕ) (now : Standing)
       → now.faults ≡ faults → middle ≡ before.said
       → ((step : Step) → IsGiven step → (step.reply ≡ Some reply) × (step.model ≡ now.model))
       → ((images : Images) → MayBeLeft may_leave images → StandFor images now.model.state)
-      → (x : Replied tells files (LeavesOnly clock might d0 d1) number line before faults IsGiven)
+      → (x : ReplyIsFound tells files (LeavesOnly clock might d0 d1) before faults IsGiven)
       → LeavesOnly clock might d1 d2 (LeavesSaying may_leave middle (printed reply))
-      → Taken tells files (LeavesOnly clock might d0 d2) before now.faults (x.fetches ∷ []) (step_to x.fetches before.model number line ∷ [])
+      → StepsAreTaken tells files (LeavesOnly clock might d0 d2) before now.faults (x.fetches ∷ []) (step_at x.fetches before ∷ [])
   taken-said IsGiven d0 d1 d2 may_leave reply middle now counted silent gives stands x then_said =
-      let step : Step = step_to x.fetches before.model number line in
+      let step : Step = step_at x.fetches before in
       let given : (step.reply ≡ Some reply) × (step.model ≡ now.model) = gives step x.gives in
-      subst (λ (n : ℕ). Taken tells files (LeavesOnly clock might d0 d2) before n (x.fetches ∷ []) (step ∷ [])) (sym counted)
-      (Taken-one rests follows speaks law tells files (LeavesOnly clock might d0 d2) number line before faults x.fetches later x.answers
+      subst (λ (n : ℕ). StepsAreTaken tells files (LeavesOnly clock might d0 d2) before n (x.fetches ∷ []) (step ∷ [])) (sym counted)
+      (Taken-one rests follows speaks law tells files (LeavesOnly clock might d0 d2) before faults x.fetches later x.answers
       (said-crash d0 d1 d2 may_leave x.fetches now.model reply middle silent given.0 given.1 stands x.leaves then_said))
 
   -- the reply was said
-  pub answered-said : (IsGiven : Step → Type 0) (d0 d1 d2 : D) (may_leave : ℕ → List ℕ → Type 0) (reply : Reply) (middle : List ℕ) (now : World)
+  pub answered-said : (IsGiven : Step → Type 0) (d0 d1 d2 : D) (may_leave : ℕ → List ℕ → Type 0) (reply : Reply) (middle : List ℕ) (now : Standing)
       → now.faults ≡ faults → middle ≡ before.said → now.said ≡ middle ++ printed reply
       → ((step : Step) → IsGiven step → (step.reply ≡ Some reply) × (step.model ≡ now.model))
       → ((images : Images) → MayBeLeft may_leave images → StandFor images now.model.state)
-      → Replied tells files (LeavesOnly clock might d0 d1) number line before faults IsGiven
+      → ReplyIsFound tells files (LeavesOnly clock might d0 d1) before faults IsGiven
       → LeavesOnly clock might d1 d2 (LeavesSaying may_leave middle (printed reply))
-      → Answered tells files (LeavesOnly clock might d0 d2) number line before now
+      → LineIsAnswered tells files (LeavesOnly clock might d0 d2) before now
   answered-said IsGiven d0 d1 d2 may_leave reply middle now counted silent said gives stands x then_said =
-      let step : Step = step_to x.fetches before.model number line in
+      let step : Step = step_at x.fetches before in
       let given = gives step x.gives in
       record {
         fetches = x.fetches;
@@ -193,19 +193,19 @@ module _ {D : Type 0} (clock : D → ℕ) (might : D → ℕ → Images → List
       }
 
   -- a front of the reply was said
-  pub interrupted-said : (IsGiven : Step → Type 0) (d0 d1 d2 : D) (may_leave : ℕ → List ℕ → Type 0) (reply : Reply) (middle : List ℕ) (now : World)
+  pub interrupted-said : (IsGiven : Step → Type 0) (d0 d1 d2 : D) (may_leave : ℕ → List ℕ → Type 0) (reply : Reply) (middle : List ℕ) (now : Standing)
       → now.faults ≡ faults → middle ≡ before.said → SaysFront middle (printed reply) now.said
       → ((step : Step) → IsGiven step → (step.reply ≡ Some reply) × (step.model ≡ now.model))
       → ((images : Images) → MayBeLeft may_leave images → StandFor images now.model.state)
-      → Replied tells files (LeavesOnly clock might d0 d1) number line before faults IsGiven
+      → ReplyIsFound tells files (LeavesOnly clock might d0 d1) before faults IsGiven
       → LeavesOnly clock might d1 d2 (LeavesSaying may_leave middle (printed reply))
-      → Interrupted tells files (LeavesOnly clock might d0 d2) number line before now
+      → ReplyIsInterrupted tells files (LeavesOnly clock might d0 d2) before now
   interrupted-said IsGiven d0 d1 d2 may_leave reply middle now counted silent front gives stands x then_said =
       record {
         fetches = x.fetches;
         taken = taken-said IsGiven d0 d1 d2 may_leave reply middle now counted silent gives stands x then_said;
         front = subst (λ (l : List ℕ). SaysFront before.said l now.said)
-            (sym (output-replied (step_to x.fetches before.model number line) reply (gives _ x.gives).0))
+            (sym (output-replied (step_at x.fetches before) reply (gives _ x.gives).0))
             (subst (λ (l : List ℕ). SaysFront l (printed reply) now.said) silent front);
       }
 
@@ -231,11 +231,11 @@ module _ {D : Type 0} (clock : D → ℕ) (might : D → ℕ → Images → List
       (λ images so_far left front. record { left = left; front = front })
 
   -- the same moments under a premise that holds
-  pub Replied-told : (T : Type 0) → T → (tells : Bool) (files : Files) (number : ℕ) (line : List ℕ) (before : World) (faults : ℕ)
+  pub Replied-told : (T : Type 0) → T → (tells : Bool) (files : Files) (before : Standing) (faults : ℕ)
       (IsGiven : Step → Type 0) (d0 d1 : D)
-      → Replied tells files (λ P. T → LeavesOnly clock might d0 d1 P) number line before faults IsGiven
-      → Replied tells files (LeavesOnly clock might d0 d1) number line before faults IsGiven
-  Replied-told T t tells files number line before faults IsGiven d0 d1 x =
+      → ReplyIsFound tells files (λ P. T → LeavesOnly clock might d0 d1 P) before faults IsGiven
+      → ReplyIsFound tells files (LeavesOnly clock might d0 d1) before faults IsGiven
+  Replied-told T t tells files before faults IsGiven d0 d1 x =
       record { fetches = x.fetches; answers = x.answers; gives = x.gives; leaves = x.leaves t }
 
   -- the files stand for what is held before and after, and nothing is called
@@ -256,32 +256,32 @@ gives-stopped (Err stop) now step e = tt
 
 -- the desk isn't called
 pub Replied-quiet : {D : Type 0} (clock : D → ℕ) (might : D → ℕ → Images → List ℕ → Type 0) (T : Type 0) (tells : Bool) (files : Files) (desk : D)
-    (may_leave : ℕ → List ℕ → Type 0) (number : ℕ) (line : List ℕ) (before : World) (IsGiven : Step → Type 0)
+    (may_leave : ℕ → List ℕ → Type 0) (before : Standing) (IsGiven : Step → Type 0)
     → (T → (images : Images) (so_far : List ℕ) → might desk (clock desk) images so_far → MayBeLeft may_leave images × (so_far ≡ before.said))
     → (T → (images : Images) → MayBeLeft may_leave images → StandFor images before.model.state)
-    → IsGiven (step_to (fetches_of files false) before.model number line)
-    → Replied tells files (λ P. T → LeavesOnly clock might desk desk P) number line before before.faults IsGiven
-Replied-quiet clock might T tells files desk may_leave number line before IsGiven only_now stands gives = record {
+    → IsGiven (step_at (fetches_of files false) before)
+    → ReplyIsFound tells files (λ P. T → LeavesOnly clock might desk desk P) before before.faults IsGiven
+Replied-quiet clock might T tells files desk may_leave before IsGiven only_now stands gives = record {
   fetches = fetches_of files false;
   answers = record { told = λ t. (false, refl); cause = λ limit name e. cc };
   gives = gives;
   leaves = λ t. leaves-none clock might desk may_leave before.said before.model.state
-      (step_to (fetches_of files false) before.model number line).model.state (only_now t) (stands t);
+      (step_at (fetches_of files false) before).model.state (only_now t) (stands t);
 }
 
 -- a turn is taken
-pub Replied-turn : (tells : Bool) (files : Files) (Leaves : (Images → List ℕ → Type 0) → Type 0) (number : ℕ) (line : List ℕ)
-    (before : World) (faults : ℕ) (event : Event) (IsTurn : Turn → Type 0) (IsGiven : Step → Type 0)
-    → ((fetches : Fetches) → step_to fetches before.model number line ≡ spoken (turn_of fetches before.model event))
-    → ((turn : Turn) → IsTurn turn → IsGiven (spoken turn))
-    → Turned (AreFetched tells files before.faults faults) Leaves before.said event before.model IsTurn
-    → Replied tells files Leaves number line before faults IsGiven
-Replied-turn tells files Leaves number line before faults event IsTurn IsGiven is gives x = record {
+pub Replied-turn : (tells : Bool) (files : Files) (Leaves : (Images → List ℕ → Type 0) → Type 0) (before : Standing)
+    (faults : ℕ) (event : Event) (IsTurn : Turn → Type 0) (IsGiven : Step → Type 0)
+    → ((fetches : Fetches) → step_at fetches before ≡ step_of (turn_of fetches before.model event))
+    → ((turn : Turn) → IsTurn turn → IsGiven (step_of turn))
+    → TakesTurn (AreFetched tells files before.faults faults) Leaves before.said event before.model IsTurn
+    → ReplyIsFound tells files Leaves before faults IsGiven
+Replied-turn tells files Leaves before faults event IsTurn IsGiven is gives x = record {
   fetches = x.fetches;
   answers = x.answers;
   gives = subst IsGiven (sym (is x.fetches)) (gives (turn_of x.fetches before.model event) x.gives);
   leaves = subst (λ (s : Step). Leaves (StandsForEither before.said before.model.state s.model.state)) (sym (is x.fetches)) x.leaves;
 }
 
-pub gives-spoken : (reply : Reply) (before now : Model) (turn : Turn) → GivesTurn (Ok reply) before now turn → GivesStep (Ok (Some reply)) now (spoken turn)
+pub gives-spoken : (reply : Reply) (before now : Model) (turn : Turn) → GivesTurn (Ok reply) before now turn → GivesStep (Ok (Some reply)) now (step_of turn)
 gives-spoken reply before now turn h = (ap Some h.0, h.1)

@@ -15,7 +15,7 @@ use Rattle.chart_store.specs.Outcome.{after}
 use Rattle.chart_store.specs.Store.{StandsForEither}
 use Rattle.ecdis_cli.specs.Crash.{LeavesPrefix}
 use Rattle.ecdis_cli.specs.Progress.{IsSpoken}
-use Rattle.ecdis_cli.specs.Script.{begun, commands_in, listed, output}
+use Rattle.ecdis_cli.specs.Script.{begun_steps, commands_in, commands_of, output_of}
 use Rattle.ecdis_cli.specs.Step.{Step, said_in}
 use Rattle.ecdis_cli.proofs.Lists.{acknowledged, acknowledged-behind, after-append, after-none, begun-front, begun-none, commands-append, output-append}
 
@@ -38,8 +38,8 @@ pub prefix-extended : (state : StateValue) (steps more : List Step) (said so_far
 prefix-extended state steps more said so_far images x = record {
   bytes = x.bytes;
   front = x.front ∙ ap (λ (l : List ℕ). said ++ l)
-      (sym (ap (take x.bytes) (output-append steps more) ∙ take-append-le x.bytes (output steps) (output more) x.within));
-  within = omega (arith, x.within, ap length (output-append steps more), length-append (output steps) (output more));
+      (sym (ap (take x.bytes) (output-append steps more) ∙ take-append-le x.bytes (output_of steps) (output_of more) x.within));
+  within = omega (arith, x.within, ap length (output-append steps more), length-append (output_of steps) (output_of more));
   count = x.count;
   there = omega (
     arith,
@@ -56,15 +56,15 @@ prefix-extended state steps more said so_far images x = record {
 
 -- steps whose replies were said whole may stand before
 pub prefix-behind : (state between : StateValue) (before steps : List Step) (said middle so_far : List ℕ) (images : Images)
-    → All IsSpoken before → middle ≡ said ++ output before → between ≡ after state (commands_in before)
+    → All IsSpoken before → middle ≡ said ++ output_of before → between ≡ after state (commands_in before)
     → LeavesPrefix between steps middle images so_far → LeavesPrefix state (before ++ steps) said images so_far
 prefix-behind state between before steps said middle so_far images spoken whole held x = record {
-  bytes = length (output before) + x.bytes;
-  front = x.front ∙ ap (λ (l : List ℕ). l ++ take x.bytes (output steps)) whole
-      ∙ append_assoc said (output before) (take x.bytes (output steps))
-      ∙ ap (λ (l : List ℕ). said ++ l) (sym (ap (take (length (output before) + x.bytes)) (output-append before steps)
-      ∙ take-append-add (output before) (output steps) x.bytes));
-  within = omega (arith, x.within, ap length (output-append before steps), length-append (output before) (output steps));
+  bytes = length (output_of before) + x.bytes;
+  front = x.front ∙ ap (λ (l : List ℕ). l ++ take x.bytes (output_of steps)) whole
+      ∙ append_assoc said (output_of before) (take x.bytes (output_of steps))
+      ∙ ap (λ (l : List ℕ). said ++ l) (sym (ap (take (length (output_of before) + x.bytes)) (output-append before steps)
+      ∙ take-append-add (output_of before) (output_of steps) x.bytes));
+  within = omega (arith, x.within, ap length (output-append before steps), length-append (output_of before) (output_of steps));
   count = length (commands_in before) + x.count;
   there = omega (
     arith,
@@ -87,7 +87,7 @@ prefix-behind state between before steps said middle so_far images spoken whole 
 
 -- at most one command
 one-command : (step : Step) → length (commands_in (step ∷ [])) ≤ 1
-one-command step = elim step.command as (λ (o : Option Command). length (listed o ++ []) ≤ 1) [
+one-command step = elim step.command as (λ (o : Option Command). length (commands_of o ++ []) ≤ 1) [
   | None ↦ omega arith
   | Some command ↦ omega arith
 ]

@@ -12,8 +12,8 @@ use Rattle.script_reader.specs.declared.event.Event.{Event}
 use Rattle.script_reader.specs.declared.fault.LineFault.{LineFault}
 use Rattle.session_core.specs.Fetch.{Fetches}
 use Rattle.session_core.specs.Model.{Model}
-use Rattle.ecdis_cli.specs.Ended.{ended, onto_ended}
-use Rattle.ecdis_cli.specs.Progress.{Unbroken}
+use Rattle.ecdis_cli.specs.WholeLines.{whole_lines, onto_whole_lines}
+use Rattle.ecdis_cli.specs.Progress.{HasNoLineFeed}
 use Rattle.ecdis_cli.specs.Script.{first_answer, other_answers, steps_from}
 use Rattle.ecdis_cli.specs.Step.{Step, step_by, step_to}
 
@@ -24,44 +24,44 @@ parts-cons line [] h = absurd (omega arith)
 parts-cons line (part ∷ more) h = refl
 
 -- the first line ends at the first line feed
-pub lines-feed : (line rest : List ℕ) → Unbroken line → lines (line ++ 10 ∷ rest) ≡ strip_carriage_return line ∷ lines rest
+pub lines-feed : (line rest : List ℕ) → HasNoLineFeed line → lines (line ++ 10 ∷ rest) ≡ strip_carriage_return line ∷ lines rest
 lines-feed line rest h =
     let some : 0 < length (slice_split (λ b. eqb b 10) rest) = omega (arith, length-slice_split (λ b. eqb b 10) rest) in
     ap lines_of_parts (slice_split_at (λ b. eqb b 10) line 10 rest h refl) ∙ parts-cons line (slice_split (λ b. eqb b 10) rest) some
 
 -- bytes without a line feed are one line, or none
-pub lines-last : (line : List ℕ) → Unbroken line → lines line ≡ cond (eqb (length line) 0) [] (line ∷ [])
+pub lines-last : (line : List ℕ) → HasNoLineFeed line → lines line ≡ cond (eqb (length line) 0) [] (line ∷ [])
 lines-last line h = ap lines_of_parts (slice_split_none (λ b. eqb b 10) line h)
 
 pub record Fed (bytes : List ℕ) : Type 0 where
   pub line : List ℕ
   pub rest : List ℕ
-  pub unbroken : Unbroken line
+  pub unbroken : HasNoLineFeed line
   pub whole : bytes ≡ line ++ 10 ∷ rest
 
 pub is_ten : (byte : ℕ) → eqb byte 10 ≡ true → byte ≡ 10
 is_ten byte h = grind (arith, nat_tests)
 
 -- there is no line feed, or a first one
-pub cut_at_feed : (bytes : List ℕ) → Unbroken bytes ⊎ Fed bytes
+pub cut_at_feed : (bytes : List ℕ) → HasNoLineFeed bytes ⊎ Fed bytes
 cut_at_feed [] = inl (All-nil (λ byte. eqb byte 10 ≡ false))
 cut_at_feed (byte ∷ bytes) =
-    elim (eqb byte 10) as (λ v. eqb byte 10 ≡ v → Unbroken (byte ∷ bytes) ⊎ Fed (byte ∷ bytes)) [
+    elim (eqb byte 10) as (λ v. eqb byte 10 ≡ v → HasNoLineFeed (byte ∷ bytes) ⊎ Fed (byte ∷ bytes)) [
       | true ↦ λ e. inr (record { line = []; rest = bytes; unbroken = All-nil (λ b. eqb b 10 ≡ false); whole = ap (λ (b : ℕ). b ∷ bytes) (is_ten byte e) })
-      | false ↦ λ e. elim (cut_at_feed bytes) as (λ _. Unbroken (byte ∷ bytes) ⊎ Fed (byte ∷ bytes)) [
+      | false ↦ λ e. elim (cut_at_feed bytes) as (λ _. HasNoLineFeed (byte ∷ bytes) ⊎ Fed (byte ∷ bytes)) [
         | inl h ↦ inl (All-cons (λ b. eqb b 10 ≡ false) byte bytes e h)
         | inr f ↦ inr (record { line = byte ∷ f.line; rest = f.rest; unbroken = All-cons (λ b. eqb b 10 ≡ false) byte f.line e f.unbroken; whole = ap (λ (l : List ℕ). byte ∷ l) f.whole })
       ]
     ] refl
 
-pub one_more : (line : List ℕ) (byte : ℕ) → Unbroken line → eqb byte 10 ≡ false → Unbroken (line ++ byte ∷ [])
+pub one_more : (line : List ℕ) (byte : ℕ) → HasNoLineFeed line → eqb byte 10 ≡ false → HasNoLineFeed (line ++ byte ∷ [])
 one_more line byte h ne = All-append (λ b. eqb b 10 ≡ false) line (byte ∷ []) h (All-cons (λ b. eqb b 10 ≡ false) byte [] ne (All-nil (λ b. eqb b 10 ≡ false)))
 
-pub All-front : (xs ys : List ℕ) → Unbroken (xs ++ ys) → Unbroken xs
+pub All-front : (xs ys : List ℕ) → HasNoLineFeed (xs ++ ys) → HasNoLineFeed xs
 All-front [] ys h = All-nil (λ b. eqb b 10 ≡ false)
 All-front (x ∷ xs) ys h = All-cons (λ b. eqb b 10 ≡ false) x xs (All-head (λ b. eqb b 10 ≡ false) x (xs ++ ys) h) (All-front xs ys (All-tail (λ b. eqb b 10 ≡ false) x (xs ++ ys) h))
 
-pub All-behind : (xs ys : List ℕ) → Unbroken (xs ++ ys) → Unbroken ys
+pub All-behind : (xs ys : List ℕ) → HasNoLineFeed (xs ++ ys) → HasNoLineFeed ys
 All-behind [] ys h = h
 All-behind (x ∷ xs) ys h = All-behind xs ys (All-tail (λ b. eqb b 10 ≡ false) x (xs ++ ys) h)
 
@@ -74,14 +74,14 @@ step_first model number line answers = step_to (first_answer answers) model numb
 abbrev pub steps_behind : Step → ℕ → List ℕ → List Fetches → List Step
 steps_behind step number rest answers = step ∷ steps_from step.model (number + 1) (lines rest) (other_answers answers)
 
-pub steps-feed : (model : Model) (number : ℕ) (line rest : List ℕ) (answers : List Fetches) → Unbroken line
+pub steps-feed : (model : Model) (number : ℕ) (line rest : List ℕ) (answers : List Fetches) → HasNoLineFeed line
     → steps_from model number (lines (line ++ 10 ∷ rest)) answers
     ≡ steps_behind (step_first model number (strip_carriage_return line) answers) number rest answers
 steps-feed model number line rest answers h =
     ap (λ (ls : List (List ℕ)). steps_from model number ls answers) (lines-feed line rest h)
 
 -- the last line has no line feed
-pub steps-last : (model : Model) (number : ℕ) (line : List ℕ) (answers : List Fetches) → Unbroken line → 0 < length line
+pub steps-last : (model : Model) (number : ℕ) (line : List ℕ) (answers : List Fetches) → HasNoLineFeed line → 0 < length line
     → steps_from model number (lines line) answers ≡ step_first model number line answers ∷ []
 steps-last model number line answers h some =
     let nonempty : eqb (length line) 0 ≡ false = grind (arith, nat_tests) in
@@ -143,7 +143,7 @@ step-begun_strip law fetches model number line more h =
 
 -- a long line, however it goes on, and the lines behind it
 steps-begun : ReadByFront → (model : Model) (number : ℕ) (line more rest : List ℕ) (answers : List Fetches) → 1026 ≤ length line
-    → Unbroken line → Unbroken more
+    → HasNoLineFeed line → HasNoLineFeed more
     → steps_from model number (lines (line ++ (more ++ 10 ∷ rest))) answers
     ≡ steps_behind (step_first model number (take 1025 line) answers) number rest answers
 steps-begun law model number line more rest answers long h u =
@@ -152,7 +152,7 @@ steps-begun law model number line more rest answers long h u =
     ∙ ap (λ (s : Step). steps_behind s number rest answers) (step-begun_strip law (first_answer answers) model number line more long)
 
 steps-begun_last : ReadByFront → (model : Model) (number : ℕ) (line more : List ℕ) (answers : List Fetches) → 1026 ≤ length line
-    → Unbroken line → Unbroken more
+    → HasNoLineFeed line → HasNoLineFeed more
     → steps_from model number (lines (line ++ more)) answers ≡ step_first model number (take 1025 line) answers ∷ []
 steps-begun_last law model number line more answers long h u =
     steps-last model number (line ++ more) answers (All-append (λ b. eqb b 10 ≡ false) line more h u)
@@ -161,7 +161,7 @@ steps-begun_last law model number line more answers long h u =
 
 -- the rest of a long line changes nothing
 pub steps-long : ReadByFront → (model : Model) (number : ℕ) (line : List ℕ) (byte : ℕ) (rest : List ℕ) (answers : List Fetches)
-    → 1026 ≤ length line → Unbroken line → eqb byte 10 ≡ false
+    → 1026 ≤ length line → HasNoLineFeed line → eqb byte 10 ≡ false
     → steps_from model number (lines (line ++ byte ∷ rest)) answers ≡ steps_from model number (lines (line ++ rest)) answers
 steps-long law model number line byte rest answers long h ne =
     elim (cut_at_feed rest) as (λ _. steps_from model number (lines (line ++ byte ∷ rest)) answers ≡ steps_from model number (lines (line ++ rest)) answers) [
@@ -177,23 +177,23 @@ steps-long law model number line byte rest answers long h ne =
 
 -- ---- lines that have ended
 
-pub ended-unbroken : (bytes : List ℕ) → Unbroken bytes → ended bytes ≡ []
+pub ended-unbroken : (bytes : List ℕ) → HasNoLineFeed bytes → whole_lines bytes ≡ []
 ended-unbroken [] h = refl
 ended-unbroken (byte ∷ bytes) h =
-    ap (onto_ended byte) (ended-unbroken bytes (All-tail (λ b. eqb b 10 ≡ false) byte bytes h))
+    ap (onto_whole_lines byte) (ended-unbroken bytes (All-tail (λ b. eqb b 10 ≡ false) byte bytes h))
     ∙ ap (λ (v : Bool). cond v (byte ∷ []) []) (All-head (λ b. eqb b 10 ≡ false) byte bytes h)
 
 -- bytes without a line feed end no line
-pub ended-append_unbroken : (bytes more : List ℕ) → Unbroken more → ended (bytes ++ more) ≡ ended bytes
+pub ended-append_unbroken : (bytes more : List ℕ) → HasNoLineFeed more → whole_lines (bytes ++ more) ≡ whole_lines bytes
 ended-append_unbroken [] more h = ended-unbroken more h
-ended-append_unbroken (byte ∷ bytes) more h = ap (onto_ended byte) (ended-append_unbroken bytes more h)
+ended-append_unbroken (byte ∷ bytes) more h = ap (onto_whole_lines byte) (ended-append_unbroken bytes more h)
 
 pub record IsCons (bytes : List ℕ) : Type 0 where
   pub first : ℕ
   pub others : List ℕ
   pub whole : bytes ≡ first ∷ others
 
-onto_ended-cons : (byte : ℕ) (bytes : List ℕ) → IsCons bytes → onto_ended byte bytes ≡ byte ∷ bytes
+onto_ended-cons : (byte : ℕ) (bytes : List ℕ) → IsCons bytes → onto_whole_lines byte bytes ≡ byte ∷ bytes
 onto_ended-cons byte [] x = absurd (let e : [] ≡ x.first ∷ x.others = x.whole in cc)
 onto_ended-cons byte (next ∷ more) x = refl
 
@@ -202,27 +202,27 @@ cons-front [] more x = x
 cons-front (byte ∷ bytes) more x = record { first = byte; others = bytes ++ more; whole = refl }
 
 -- where a line ends later, all that comes before has ended
-pub ended-append : (bytes more : List ℕ) → IsCons (ended more) → ended (bytes ++ more) ≡ bytes ++ ended more
+pub ended-append : (bytes more : List ℕ) → IsCons (whole_lines more) → whole_lines (bytes ++ more) ≡ bytes ++ whole_lines more
 ended-append [] more x = refl
-ended-append (byte ∷ bytes) more x = ap (onto_ended byte) (ended-append bytes more x) ∙ onto_ended-cons byte (bytes ++ ended more) (cons-front bytes (ended more) x)
+ended-append (byte ∷ bytes) more x = ap (onto_whole_lines byte) (ended-append bytes more x) ∙ onto_ended-cons byte (bytes ++ whole_lines more) (cons-front bytes (whole_lines more) x)
 
-onto_ten : (bytes : List ℕ) → IsCons (onto_ended 10 bytes)
+onto_ten : (bytes : List ℕ) → IsCons (onto_whole_lines 10 bytes)
 onto_ten [] = record { first = 10; others = []; whole = refl }
 onto_ten (next ∷ more) = record { first = 10; others = next ∷ more; whole = refl }
 
-ended-feed : (line rest : List ℕ) → IsCons (ended (line ++ 10 ∷ rest))
+ended-feed : (line rest : List ℕ) → IsCons (whole_lines (line ++ 10 ∷ rest))
 ended-feed line rest =
-    subst IsCons (sym (ended-append line (10 ∷ rest) (onto_ten (ended rest)))) (cons-front line (ended (10 ∷ rest)) (onto_ten (ended rest)))
+    subst IsCons (sym (ended-append line (10 ∷ rest) (onto_ten (whole_lines rest)))) (cons-front line (whole_lines (10 ∷ rest)) (onto_ten (whole_lines rest)))
 
-pub ended-fed : (bytes : List ℕ) → Fed bytes → IsCons (ended bytes)
-ended-fed bytes f = subst (λ (l : List ℕ). IsCons (ended l)) (sym f.whole) (ended-feed f.line f.rest)
+pub ended-fed : (bytes : List ℕ) → Fed bytes → IsCons (whole_lines bytes)
+ended-fed bytes f = subst (λ (l : List ℕ). IsCons (whole_lines l)) (sym f.whole) (ended-feed f.line f.rest)
 
 -- a line feed at the end ends all
-pub ended-line : (line : List ℕ) → ended (line ++ 10 ∷ []) ≡ line ++ 10 ∷ []
+pub ended-line : (line : List ℕ) → whole_lines (line ++ 10 ∷ []) ≡ line ++ 10 ∷ []
 ended-line line = ended-append line (10 ∷ []) (onto_ten [])
 
-pub steps-ended_none : (model : Model) (number : ℕ) (bytes : List ℕ) (answers : List Fetches) → Unbroken bytes
-    → steps_from model number (lines (ended bytes)) answers ≡ []
+pub steps-ended_none : (model : Model) (number : ℕ) (bytes : List ℕ) (answers : List Fetches) → HasNoLineFeed bytes
+    → steps_from model number (lines (whole_lines bytes)) answers ≡ []
 steps-ended_none model number bytes answers h =
     ap (λ (l : List ℕ). steps_from model number (lines l) answers) (ended-unbroken bytes h)
 

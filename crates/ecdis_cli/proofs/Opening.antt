@@ -23,7 +23,7 @@ use Rattle.ecdis_cli.specs.declared.run.status.Status.{Status}
 use Rattle.ecdis_cli.specs.declared.run.status.Status.TheVariants as status
 use Rattle.command_words.specs.Reading.{WordsValue}
 use Rattle.ecdis_cli.specs.Portrayal.{IsPortrayal}
-use Rattle.ecdis_cli.specs.Progress.{Leaving}
+use Rattle.ecdis_cli.specs.Progress.{Moments}
 use Rattle.ecdis_cli.specs.Status.{is_early}
 use Rattle.ecdis_cli.specs.Stop.{status_of_opening}
 use Rattle.ecdis_cli.specs.Crash.{LeavesPrefix}
@@ -158,7 +158,7 @@ rose-later much a b c h (inl x) = inl (omega arith)
 rose-later much a b c h (inr x) = inr x
 
 -- a run behind fetches that were made before
-pub ran-later : (tells : Bool) (files files' : Files) (model : Model) (status : Status) (Leaves : Leaving) (LeavesElse : Images → List ℕ → Type 0)
+pub ran-later : (tells : Bool) (files files' : Files) (model : Model) (status : Status) (Leaves : Moments) (LeavesElse : Images → List ℕ → Type 0)
     (Left : Images → Type 0) (left said : List ℕ) (faults faults' : ℕ) (now : Outside) → (IsTrue tells → files' ≡ files) → faults ≤ faults'
     → Ran tells files' model status Leaves LeavesElse Left (outside_of left said faults') now
     → Ran tells files model status Leaves LeavesElse Left (outside_of left said faults) now

@@ -22,14 +22,14 @@ use Rattle.ecdis_cli.specs.declared.run.status.Status.TheVariants as stops
 use Rattle.ecdis_cli.specs.declared.run.status.Status.{Status}
 use Rattle.ecdis_cli.specs.declared.run.status.Status.TheVariants.{Done}
 use Rattle.ecdis_cli.specs.Crash.{LeavesPrefix}
-use Rattle.ecdis_cli.specs.Ended.{ended}
+use Rattle.ecdis_cli.specs.WholeLines.{whole_lines}
 use Rattle.ecdis_cli.specs.Limits.{SCRIPT_LIMIT}
-use Rattle.ecdis_cli.specs.Progress.{Advanced, ComeFirst, Finished, IsAfter, Stopped, Taken, Unbroken, Unfinished}
-use Rattle.ecdis_cli.specs.Run.{AnsweredTaken, Outside, Ran, Says, outside_of, reading_of}
-use Rattle.ecdis_cli.specs.Script.{IsAnswer, failures_in, model_after, output, steps_from, steps_of}
+use Rattle.ecdis_cli.specs.Progress.{BytesAreTaken, ComeFirst, ScriptIsFinished, IsAfter, RunIsStopped, StepsAreTaken, HasNoLineFeed, ScriptIsUnfinished}
+use Rattle.ecdis_cli.specs.Run.{TakenLinesAreAnswered, Outside, Ran, Says, outside_of, reading_of}
+use Rattle.ecdis_cli.specs.Script.{IsAnswer, failures_in, model_after, output_of, steps_from, steps_of}
 use Rattle.ecdis_cli.specs.Step.{Step}
 use Rattle.ecdis_cli.specs.Stop.{status_of}
-use Rattle.ecdis_cli.specs.World.{Standing, World, at_start}
+use Rattle.ecdis_cli.specs.Standing.{Standing, at_start}
 use Rattle.ecdis_cli.proofs.Crashes.{prefix-extended}
 use Rattle.ecdis_cli.proofs.Failures.{Serves, TellsFailure, served-none}
 use Rattle.ecdis_cli.proofs.Lists.{failures-append, output-append}
@@ -76,7 +76,7 @@ steps_of-start model script answers = refl
 abbrev pub begun_at : Model → Outside → Standing
 begun_at model before = at_start model before.said before.faults
 
-begun-unbroken : Unbroken []
+begun-unbroken : HasNoLineFeed []
 begun-unbroken = All-nil (λ byte. eqb byte 10 ≡ false)
 
 -- the steps that were taken are the first of the script's, and those behind them say of no failure
@@ -107,17 +107,17 @@ pub covers-none : TellsFailure → (files : Files) (model : Model) (script : Lis
 covers-none law files model script = covers-first law files model script [] [] (record { model = model; number = 1; left = lines script; behind = refl })
 
 covers-front : (files : Files) (model : Model) (script : List ℕ) (answers : List Fetches) (steps : List Step) (said now : List ℕ)
-    → (x : Covers files model script answers steps) → SaysFront said (output steps) now
-    → SaysFront said (output (steps_of model script (answers ++ padding files script))) now
+    → (x : Covers files model script answers steps) → SaysFront said (output_of steps) now
+    → SaysFront said (output_of (steps_of model script (answers ++ padding files script))) now
 covers-front files model script answers steps said now x front =
-    front-same said (output steps ++ output x.later) (output (steps_of model script (answers ++ padding files script))) now
-    (sym (ap output x.whole ∙ output-append steps x.later)) (front-append said (output steps) (output x.later) now front)
+    front-same said (output_of steps ++ output_of x.later) (output_of (steps_of model script (answers ++ padding files script))) now
+    (sym (ap output_of x.whole ∙ output-append steps x.later)) (front-append said (output_of steps) (output_of x.later) now front)
 
 -- ---- what a run says
 
 -- a run that neither was done nor ended with its script
 pub other-says : (files : Files) (model : Model) (status : Status) (before : Outside) (left said : List ℕ) (faults : ℕ) (answers : List Fetches) (steps : List Step)
-    → IsOther status → Covers files model before.left answers steps → SaysFront before.said (output steps) said
+    → IsOther status → Covers files model before.left answers steps → SaysFront before.said (output_of steps) said
     → Says status (λ script. steps_of model script (answers ++ padding files before.left)) before (outside_of left said faults)
 other-says files model status before left said faults answers steps other x front = record {
   all = λ e. absurd (other.not_done e);
@@ -132,19 +132,19 @@ module _ {D : Type 0} (clock : D → ℕ) (might : D → ℕ → Images → List
   pub record Underway (d0 d1 : D) (left : List ℕ) (at : Standing) : Type 0 where
     pub taken : List ℕ
     pub split : before.left ≡ taken ++ left
-    pub advanced : Advanced tells files (LeavesOnly clock might d0 d1) (begun_at model before) taken at
+    pub advanced : BytesAreTaken tells files (LeavesOnly clock might d0 d1) (begun_at model before) taken at
 
   pub Underway-start : (d0 d1 : D) (at : Standing) → at ≡ begun_at model before
-      → Advanced tells files (LeavesOnly clock might d0 d1) (begun_at model before) [] (begun_at model before) → Underway d0 d1 before.left at
+      → BytesAreTaken tells files (LeavesOnly clock might d0 d1) (begun_at model before) [] (begun_at model before) → Underway d0 d1 before.left at
   Underway-start d0 d1 at is x = record {
     taken = [];
     split = refl;
-    advanced = subst (λ (p : Standing). Advanced tells files (LeavesOnly clock might d0 d1) (begun_at model before) [] p) (sym is) x;
+    advanced = subst (λ (p : Standing). BytesAreTaken tells files (LeavesOnly clock might d0 d1) (begun_at model before) [] p) (sym is) x;
   }
 
   pub Underway-next : (files' : Files) (d0 d1 d2 : D) (p q : Standing) (left0 left1 bytes : List ℕ)
       → (IsTrue tells → files' ≡ files) → left0 ≡ bytes ++ left1 → Underway d0 d1 left0 p
-      → Advanced tells files' (LeavesOnly clock might d1 d2) p bytes q → Underway d0 d2 left1 q
+      → BytesAreTaken tells files' (LeavesOnly clock might d1 d2) p bytes q → Underway d0 d2 left1 q
   Underway-next files' d0 d1 d2 p q left0 left1 bytes same e x y = record {
     taken = x.taken ++ bytes;
     split = x.split ∙ ap (λ (l : List ℕ). x.taken ++ l) e ∙ sym (append_assoc x.taken bytes left1);
@@ -155,7 +155,7 @@ module _ {D : Type 0} (clock : D → ℕ) (might : D → ℕ → Images → List
     (tells : Bool) (files : Files) (model : Model) (before : Outside) (MayBeLeft : Images → Type 0) where
   -- the run from its steps
   ran-by : (d0 d1 : D) (status : Status) (now : Outside) (answers : List Fetches) (steps : List Step)
-      → Taken tells files (LeavesOnly clock might d0 d1) (begun_at model before).world now.faults answers steps
+      → StepsAreTaken tells files (LeavesOnly clock might d0 d1) (begun_at model before) now.faults answers steps
       → Covers files model before.left answers steps
       → Says status (λ script. steps_of model script (answers ++ padding files before.left)) before now
       → (status ≡ Done → (images : Images) → MayBeLeft images
@@ -184,32 +184,32 @@ module _ {D : Type 0} (clock : D → ℕ) (might : D → ℕ → Images → List
   underway-covers d0 d1 left at x =
       let pad : List Fetches = padding files before.left in
       covers-first law files model before.left x.advanced.answers x.advanced.steps (record {
-        model = at.world.model;
+        model = at.model;
         number = at.number;
         left = lines (at.line ++ left);
         behind = ap (λ (l : List ℕ). steps_from model 1 (lines l) (x.advanced.answers ++ pad)) x.split ∙ x.advanced.ahead left pad;
       })
 
   underway-front : (d0 d1 : D) (left : List ℕ) (at : Standing) → (x : Underway clock might tells files model before d0 d1 left at)
-      → SaysFront before.said (output (steps_of model before.left (x.advanced.answers ++ padding files before.left))) at.world.said
+      → SaysFront before.said (output_of (steps_of model before.left (x.advanced.answers ++ padding files before.left))) at.said
   underway-front d0 d1 left at x =
-      covers-front files model before.left x.advanced.answers x.advanced.steps before.said at.world.said (underway-covers d0 d1 left at x)
-      (front-whole before.said (output x.advanced.steps) at.world.said x.advanced.after.said)
+      covers-front files model before.left x.advanced.answers x.advanced.steps before.said at.said (underway-covers d0 d1 left at x)
+      (front-whole before.said (output_of x.advanced.steps) at.said x.advanced.after.said)
 
   -- what was said is the replies to the lines that have ended
   underway-ended : (d0 d1 : D) (left : List ℕ) (at : Standing) → (x : Underway clock might tells files model before d0 d1 left at)
-      → at.world.said ≡ before.said ++ output (steps_of model (ended x.taken) (x.advanced.answers ++ padding files before.left))
+      → at.said ≡ before.said ++ output_of (steps_of model (whole_lines x.taken) (x.advanced.answers ++ padding files before.left))
   underway-ended d0 d1 left at x =
       let pad : List Fetches = padding files before.left in
-      x.advanced.after.said ∙ ap (λ (l : List Step). before.said ++ output l)
-      (sym (steps_of-start model (ended x.taken) (x.advanced.answers ++ pad) ∙ x.advanced.ended_lines begun-unbroken pad))
+      x.advanced.after.said ∙ ap (λ (l : List Step). before.said ++ output_of l)
+      (sym (steps_of-start model (whole_lines x.taken) (x.advanced.answers ++ pad) ∙ x.advanced.ended_lines begun-unbroken pad))
 
   -- the source fails at this place
   pub Underway-fault : (d0 d1 : D) (at : Standing) (left left' : List ℕ) → left' ≡ left → Underway clock might tells files model before d0 d1 left at
       → Ran tells files model stops.ScriptFault (LeavesOnly clock might d0 d1) (λ images so_far. ⊥) MayBeLeft before
-      (outside_of left' at.world.said at.world.faults)
+      (outside_of left' at.said at.faults)
   Underway-fault d0 d1 at left left' e x =
-      ran-by d0 d1 stops.ScriptFault (outside_of left' at.world.said at.world.faults) x.advanced.answers x.advanced.steps x.advanced.taken
+      ran-by d0 d1 stops.ScriptFault (outside_of left' at.said at.faults) x.advanced.answers x.advanced.steps x.advanced.taken
       (underway-covers d0 d1 left at x)
       (record {
         all = λ d. absurd (let f : stops.ScriptFault ≡ Done = d in cc);
@@ -225,33 +225,33 @@ module _ {D : Type 0} (clock : D → ℕ) (might : D → ℕ → Images → List
   -- the script's limit is reached in the further bytes
   pub Underway-long : (files' : Files) (d0 d1 d2 : D) (p q : Standing) (left left0 left1 bytes : List ℕ) (room : ℕ)
       → (IsTrue tells → files' ≡ files) → left0 ≡ bytes ++ left1 → length bytes ≡ room → length before.left + room ≡ SCRIPT_LIMIT + length left0
-      → Underway clock might tells files model before d0 d1 left0 p → Advanced tells files' (LeavesOnly clock might d1 d2) p bytes q
+      → Underway clock might tells files model before d0 d1 left0 p → BytesAreTaken tells files' (LeavesOnly clock might d1 d2) p bytes q
       → Ran tells files model stops.ScriptLong (LeavesOnly clock might d0 d2) (λ images so_far. ⊥) MayBeLeft before
-      (outside_of left q.world.said q.world.faults)
+      (outside_of left q.said q.faults)
   Underway-long files' d0 d1 d2 p q left left0 left1 bytes room same e fits counted x y =
       let z : Underway clock might tells files model before d0 d2 left1 q = Underway-next clock might tells files model before files' d0 d1 d2 p q left0 left1 bytes same e x y in
       let spent : length z.taken ≡ SCRIPT_LIMIT
       = omega (arith, ap length z.split, length-append z.taken left1, ap length e, length-append bytes left1, counted, fits) in
       let within : take SCRIPT_LIMIT before.left ≡ z.taken
       = ap (λ (k : ℕ). take k before.left) (sym spent) ∙ ap (λ (l : List ℕ). take (length z.taken) l) z.split ∙ take-append_seam z.taken left1 in
-      ran-by d0 d2 stops.ScriptLong (outside_of left q.world.said q.world.faults) z.advanced.answers z.advanced.steps z.advanced.taken
+      ran-by d0 d2 stops.ScriptLong (outside_of left q.said q.faults) z.advanced.answers z.advanced.steps z.advanced.taken
       (underway-covers d0 d2 left1 q z)
       (record {
         all = λ d. absurd (let f : stops.ScriptLong ≡ Done = d in cc);
         front = underway-front d0 d2 left1 q z;
         at_fault = λ d. absurd (let f : stops.ScriptLong ≡ stops.ScriptFault = d in cc);
         at_limit = λ d. underway-ended d0 d2 left1 q z
-            ∙ ap (λ (l : List ℕ). before.said ++ output (steps_of model (ended l) (z.advanced.answers ++ padding files before.left))) (sym within);
+            ∙ ap (λ (l : List ℕ). before.said ++ output_of (steps_of model (whole_lines l) (z.advanced.answers ++ padding files before.left))) (sym within);
       }) (λ d. absurd (let f : stops.ScriptLong ≡ Done = d in cc))
 
   -- the run ends within further bytes
-  pub Underway-halted : (files' : Files) (d0 d1 d2 : D) (at : Standing) (left left0 left1 bytes : List ℕ) (now : World) (stop : Stop) (status : Status)
+  pub Underway-halted : (files' : Files) (d0 d1 d2 : D) (at : Standing) (left left0 left1 bytes : List ℕ) (now : Standing) (stop : Stop) (status : Status)
       → status ≡ status_of stop → (IsTrue tells → files' ≡ files) → left0 ≡ bytes ++ left1 → Underway clock might tells files model before d0 d1 left0 at
-      → Stopped tells files' (LeavesOnly clock might d1 d2) at bytes now
+      → RunIsStopped tells files' (LeavesOnly clock might d1 d2) at bytes now
       → Ran tells files model status (LeavesOnly clock might d0 d2) (λ images so_far. ⊥) MayBeLeft before (outside_of left now.said now.faults)
   Underway-halted files' d0 d1 d2 at left left0 left1 bytes now stop status is same e x y =
       let pad : List Fetches = padding files before.left in
-      let z : Stopped tells files (LeavesOnly clock might d0 d2) (begun_at model before) (x.taken ++ bytes) now
+      let z : RunIsStopped tells files (LeavesOnly clock might d0 d2) (begun_at model before) (x.taken ++ bytes) now
       = Stopped-then clock might tells files files' d0 d1 d2 (begun_at model before) at x.taken bytes now same x.advanced y in
       let split : before.left ≡ (x.taken ++ bytes) ++ left1
       = x.split ∙ ap (λ (l : List ℕ). x.taken ++ l) e ∙ sym (append_assoc x.taken bytes left1) in
@@ -267,7 +267,7 @@ module _ {D : Type 0} (clock : D → ℕ) (might : D → ℕ → Images → List
 
   -- the steps of the last line stand behind those before it
   last-whole : (d0 d1 : D) (left : List ℕ) (at : Standing) (answers : List Fetches) (steps : List Step) → left ≡ []
-      → ((more : List Fetches) → steps_from at.world.model at.number (lines (at.line ++ [])) (answers ++ more) ≡ steps)
+      → ((more : List Fetches) → steps_from at.model at.number (lines (at.line ++ [])) (answers ++ more) ≡ steps)
       → (x : Underway clock might tells files model before d0 d1 left at)
       → steps_from model 1 (lines before.left) ((x.advanced.answers ++ answers) ++ padding files before.left) ≡ x.advanced.steps ++ steps
   last-whole d0 d1 left at answers steps none ahead x =
@@ -278,9 +278,9 @@ module _ {D : Type 0} (clock : D → ℕ) (might : D → ℕ → Images → List
       ∙ x.advanced.ahead [] (answers ++ pad)
       ∙ ap (λ (l : List Step). x.advanced.steps ++ l) (ahead pad)
 
-  pub Underway-done : (files' : Files) (d0 d1 d2 : D) (at : Standing) (left left0 : List ℕ) (now : World)
+  pub Underway-done : (files' : Files) (d0 d1 d2 : D) (at : Standing) (left left0 : List ℕ) (now : Standing)
       → (IsTrue tells → files' ≡ files) → left0 ≡ [] → Underway clock might tells files model before d0 d1 left0 at
-      → Finished tells files' (LeavesOnly clock might d1 d2) at now
+      → ScriptIsFinished tells files' (LeavesOnly clock might d1 d2) at now
       → ((images : Images) → MayBeLeft images → read_of images ≡ Ok (reading_of now.model))
       → Ran tells files model Done (LeavesOnly clock might d0 d2) (λ images so_far. ⊥) MayBeLeft before (outside_of left now.said now.faults)
   Underway-done files' d0 d1 d2 at left left0 now same none x y reads =
@@ -289,23 +289,23 @@ module _ {D : Type 0} (clock : D → ℕ) (might : D → ℕ → Images → List
       let steps : List Step = x.advanced.steps ++ y.steps in
       let whole : steps_from model 1 (lines before.left) (answers ++ pad) ≡ steps = last-whole d0 d1 left0 at y.answers y.steps none y.ahead x in
       let is : steps_of model before.left (answers ++ pad) ≡ steps = steps_of-start model before.left (answers ++ pad) ∙ whole in
-      let after : IsAfter (begun_at model before).world steps now = IsAfter-then (begun_at model before).world at.world now x.advanced.steps y.steps x.advanced.after y.after in
-      let said : now.said ≡ before.said ++ output (steps_of model before.left (answers ++ pad)) = after.said ∙ ap (λ (l : List Step). before.said ++ output l) (sym is) in
+      let after : IsAfter (begun_at model before) steps now = IsAfter-then (begun_at model before) at now x.advanced.steps y.steps x.advanced.after y.after in
+      let said : now.said ≡ before.said ++ output_of (steps_of model before.left (answers ++ pad)) = after.said ∙ ap (λ (l : List Step). before.said ++ output_of l) (sym is) in
       ran-by d0 d2 Done (outside_of left now.said now.faults) answers steps
-      (Taken-then clock might tells files files' d0 d1 d2 (begun_at model before).world at.world now.faults x.advanced.answers y.answers x.advanced.steps y.steps same x.advanced.after x.advanced.taken y.taken)
+      (Taken-then clock might tells files files' d0 d1 d2 (begun_at model before) at now.faults x.advanced.answers y.answers x.advanced.steps y.steps same x.advanced.after x.advanced.taken y.taken)
       (covers-all files model before.left answers steps whole)
       (record {
         all = λ d. said;
-        front = front-whole before.said (output (steps_of model before.left (answers ++ pad))) now.said said;
+        front = front-whole before.said (output_of (steps_of model before.left (answers ++ pad))) now.said said;
         at_fault = λ d. absurd (let e : Done ≡ stops.ScriptFault = d in cc);
         at_limit = λ d. absurd (let e : Done ≡ stops.ScriptLong = d in cc);
       })
       (λ d images left_so. reads images left_so
       ∙ ap (λ (m : Model). Ok (reading_of m)) (after.reached ∙ ap (model_after model) (sym is)))
 
-  pub Underway-cut : (files' : Files) (d0 d1 d2 : D) (at : Standing) (left left0 : List ℕ) (now : World) (stop : Stop) (status : Status)
+  pub Underway-cut : (files' : Files) (d0 d1 d2 : D) (at : Standing) (left left0 : List ℕ) (now : Standing) (stop : Stop) (status : Status)
       → status ≡ status_of stop → (IsTrue tells → files' ≡ files) → left0 ≡ [] → Underway clock might tells files model before d0 d1 left0 at
-      → Unfinished tells files' (LeavesOnly clock might d1 d2) at now
+      → ScriptIsUnfinished tells files' (LeavesOnly clock might d1 d2) at now
       → Ran tells files model status (LeavesOnly clock might d0 d2) (λ images so_far. ⊥) MayBeLeft before (outside_of left now.said now.faults)
   Underway-cut files' d0 d1 d2 at left left0 now stop status is same none x y =
       let answers : List Fetches = x.advanced.answers ++ y.answers in
@@ -314,11 +314,11 @@ module _ {D : Type 0} (clock : D → ℕ) (might : D → ℕ → Images → List
       = covers-all files model before.left answers steps (last-whole d0 d1 left0 at y.answers y.steps none y.ahead x) in
       let other : IsOther status = status_of-other stop status is in
       ran-by d0 d2 status (outside_of left now.said now.faults) answers steps
-      (Taken-then clock might tells files files' d0 d1 d2 (begun_at model before).world at.world now.faults x.advanced.answers y.answers x.advanced.steps y.steps same x.advanced.after x.advanced.taken y.taken)
+      (Taken-then clock might tells files files' d0 d1 d2 (begun_at model before) at now.faults x.advanced.answers y.answers x.advanced.steps y.steps same x.advanced.after x.advanced.taken y.taken)
       covers
       (other-says files model status before left now.said now.faults answers steps other covers
-      (front-same before.said (output x.advanced.steps ++ output y.steps) (output steps) now.said (sym (output-append x.advanced.steps y.steps))
-      (front-after before.said (output x.advanced.steps) (output y.steps) at.world.said now.said x.advanced.after.said y.front)))
+      (front-same before.said (output_of x.advanced.steps ++ output_of y.steps) (output_of steps) now.said (sym (output-append x.advanced.steps y.steps))
+      (front-after before.said (output_of x.advanced.steps) (output_of y.steps) at.said now.said x.advanced.after.said y.front)))
       (λ d. absurd (other.not_done d))
 
 -- a script that was read to its end has at most its limit

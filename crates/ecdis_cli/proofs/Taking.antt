@@ -17,10 +17,10 @@ use Rattle.chart_store.specs.Outcome.{after}
 use Rattle.session_core.specs.Fetch.{Files, Fetches, fetches_of}
 use Rattle.session_core.specs.Model.{Model}
 use Rattle.ecdis_cli.specs.Crash.{LeavesPrefix}
-use Rattle.ecdis_cli.specs.Progress.{IsAfter, IsSpoken, Taken}
-use Rattle.ecdis_cli.specs.Script.{IsAnswer, commands_in, failures_in, model_after, output}
+use Rattle.ecdis_cli.specs.Progress.{IsAfter, IsSpoken, StepsAreTaken}
+use Rattle.ecdis_cli.specs.Script.{IsAnswer, commands_in, failures_in, model_after, output_of}
 use Rattle.ecdis_cli.specs.Step.{Step}
-use Rattle.ecdis_cli.specs.World.{World}
+use Rattle.ecdis_cli.specs.Standing.{Standing}
 use Rattle.ecdis_cli.proofs.Crashes.{prefix-behind, prefix-extended, prefix-none}
 use Rattle.ecdis_cli.proofs.Lists.{after-append, after-none, commands-append, failures-append, model_after-append, output-append}
 
@@ -78,8 +78,8 @@ answers-same tells files files' answers same told =
 -- ---- steps
 
 -- no step
-pub Taken-none : (tells : Bool) (files : Files) (Leaves : (Images → List ℕ → Type 0) → Type 0) (before : World)
-    → Leaves (LeavesPrefix before.model.state [] before.said) → Taken tells files Leaves before before.faults [] []
+pub Taken-none : (tells : Bool) (files : Files) (Leaves : (Images → List ℕ → Type 0) → Type 0) (before : Standing)
+    → Leaves (LeavesPrefix before.model.state [] before.said) → StepsAreTaken tells files Leaves before before.faults [] []
 Taken-none tells files Leaves before crash = record {
   told = All-nil (IsAnswer tells files);
   spoken = All-nil IsSpoken;
@@ -100,12 +100,12 @@ module _ {D : Type 0} (clock : D → ℕ) (might : D → ℕ → Images → List
       (λ images so_far left. let now = only_now images so_far left in prefix-none state said so_far images now.1 (stands images now.0))
 
   -- steps after steps
-  pub Taken-then : (tells : Bool) (files files' : Files) (d0 d1 d2 : D) (before mid : World) (faults : ℕ)
+  pub Taken-then : (tells : Bool) (files files' : Files) (d0 d1 d2 : D) (before mid : Standing) (faults : ℕ)
       (answers more : List Fetches) (steps others : List Step) → (IsTrue tells → files' ≡ files)
       → IsAfter before steps mid
-      → Taken tells files (LeavesOnly clock might d0 d1) before mid.faults answers steps
-      → Taken tells files' (LeavesOnly clock might d1 d2) mid faults more others
-      → Taken tells files (LeavesOnly clock might d0 d2) before faults (answers ++ more) (steps ++ others)
+      → StepsAreTaken tells files (LeavesOnly clock might d0 d1) before mid.faults answers steps
+      → StepsAreTaken tells files' (LeavesOnly clock might d1 d2) mid faults more others
+      → StepsAreTaken tells files (LeavesOnly clock might d0 d2) before faults (answers ++ more) (steps ++ others)
   Taken-then tells files files' d0 d1 d2 before mid faults answers more steps others same is x y =
       let between : mid.model.state ≡ after before.model.state (commands_in steps)
       = ap (λ (m : Model). m.state) is.reached ∙ x.held in
@@ -130,10 +130,10 @@ module _ {D : Type 0} (clock : D → ℕ) (might : D → ℕ → Images → List
             x.spoken is.said between) y.crash);
       }
 
-pub IsAfter-then : (before mid now : World) (steps others : List Step) → IsAfter before steps mid → IsAfter mid others now
+pub IsAfter-then : (before mid now : Standing) (steps others : List Step) → IsAfter before steps mid → IsAfter mid others now
     → IsAfter before (steps ++ others) now
 IsAfter-then before mid now steps others x y = record {
-  said = y.said ∙ ap (λ (l : List ℕ). l ++ output others) x.said ∙ append_assoc before.said (output steps) (output others)
+  said = y.said ∙ ap (λ (l : List ℕ). l ++ output_of others) x.said ∙ append_assoc before.said (output_of steps) (output_of others)
       ∙ ap (λ (l : List ℕ). before.said ++ l) (sym (output-append steps others));
   reached = y.reached ∙ ap (λ (m : Model). model_after m others) x.reached ∙ sym (model_after-append before.model steps others);
 }

@@ -1,25 +1,20 @@
 -- What is seen of the devices that a run works with, and what each call leaves of them.
-use Rattle.std.specs.Prelude.{◌≡◌, ℕ, ◌≤◌, Bool, IsTrue, List}
+use Rattle.std.specs.Prelude.{◌≡◌, ℕ, ◌≤◌, Bool, List}
 use Rattle.chart_ports.specs.Moments.{LeavesOnly}
 use Rattle.chart_ports.specs.declared.images.Images.{Images}
-use Rattle.session_core.specs.Fetch.{Files}
+use Rattle.session_core.specs.Fetch.{Files, KeepsShelf}
 use Rattle.ecdis_cli.specs.declared.run.devices.Devices.{Devices}
 
--- The shelf's files stay, and its count of faults doesn't fall.
-pub record KeepsShelf {L : Type 0} (tells : Bool) (files : L → Files) (faults : L → ℕ) (before now : L) : Type 0 where
-  pub files_stay : IsTrue tells → files now ≡ files before
-  pub later : faults before ≤ faults now
-
 -- They are the same ones: the shelf's files stay, and no count of faults falls.
-pub record KeepsDevices {L D C : Type 0} (tells : Bool) (files : L → Files) (shelf_faults : L → ℕ) (desk_faults : D → ℕ)
-    (before now : Devices L D C) : Type 0 where
+pub record KeepsDevices {L D C : Type 0} (tells : Bool) (files : L → Files) (shelf_faults : L → ℕ)
+    (desk_faults : D → ℕ) (before now : Devices L D C) : Type 0 where
   pub same_shelf : now.shelf.ghost_name ≡ before.shelf.ghost_name
   pub same_desk : now.desk.ghost_name ≡ before.desk.ghost_name
   pub same_steps : now.steps.ghost_name ≡ before.steps.ghost_name
   pub shelf : KeepsShelf tells files shelf_faults before.shelf.now now.shelf.now
   pub desk_later : desk_faults before.desk.now ≤ desk_faults now.desk.now
 
--- what a crash leaves at every moment from the desk before to the desk now
-abbrev pub leaving : {L D C : Type 0} → (D → ℕ) → (D → ℕ → Images → List ℕ → Type 0) → Devices L D C → Devices L D C
-    → (Images → List ℕ → Type 0) → Type 0
-leaving clock might before now = LeavesOnly clock might before.desk.now now.desk.now
+-- a crash leaves nothing else, at any moment from the desk before to the desk now
+abbrev pub LeavesBetween : {L D C : Type 0} → (D → ℕ) → (D → ℕ → Images → List ℕ → Type 0)
+    → Devices L D C → Devices L D C → (Images → List ℕ → Type 0) → Type 0
+LeavesBetween clock might before now = LeavesOnly clock might before.desk.now now.desk.now

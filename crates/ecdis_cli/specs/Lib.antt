@@ -1,13 +1,13 @@
 pub mod Limits
-pub mod Ended
+pub mod WholeLines
 pub mod Step
 pub mod Script
 pub mod Crash
 pub mod Devices
-pub mod World
+pub mod Standing
 pub mod Progress
 pub mod Replied
-pub mod Standing
+pub mod ReaderStanding
 pub mod Run
 pub mod Status
 pub mod TablesFault

@@ -1,5 +1,5 @@
 -- How far the answering of a script has come.
-use Rattle.std.specs.Prelude.{◌≡◌, ℕ, ◌≤◌, ◌<◌, ◌⊎◌, ◌==◌, Bool, false, List, [], ◌∷◌, ◌++◌, length, All, None}
+use Rattle.std.specs.Prelude.{◌≡◌, ◌⊎◌, ℕ, ◌≤◌, ◌<◌, ◌==◌, Bool, false, List, [], ◌∷◌, ◌++◌, length, All, None}
 use Rattle.std.specs.Str.Lines.{lines}
 use Rattle.chart_ports.specs.Count.{RoseBy}
 use Rattle.chart_ports.specs.Said.{SaysFront}
@@ -8,14 +8,14 @@ use Rattle.chart_store.specs.Outcome.{after}
 use Rattle.session_core.specs.Fetch.{Files, Fetches}
 use Rattle.session_core.specs.Model.{Model}
 use Rattle.ecdis_cli.specs.Crash.{LeavesPrefix}
-use Rattle.ecdis_cli.specs.Ended.{ended}
-use Rattle.ecdis_cli.specs.Script.{IsAnswer, commands_in, failures_in, model_after, output, steps_from}
+use Rattle.ecdis_cli.specs.WholeLines.{whole_lines}
+use Rattle.ecdis_cli.specs.Script.{IsAnswer, commands_in, failures_in, model_after, output_of, steps_from}
+use Rattle.ecdis_cli.specs.Standing.{Standing}
 use Rattle.ecdis_cli.specs.Step.{Step, said_in, step_to}
-use Rattle.ecdis_cli.specs.World.{Standing, World}
 
--- what a crash leaves from one desk to a later one
-abbrev pub Leaving : Type 1
-Leaving = (Images → List ℕ → Type 0) → Type 0
+-- that a crash leaves nothing else, at any moment from one desk to a later one
+abbrev pub Moments : Type 1
+Moments = (Images → List ℕ → Type 0) → Type 0
 
 -- ---- steps
 
@@ -24,7 +24,7 @@ abbrev pub IsSpoken : Step → Type 0
 IsSpoken step = (step.command ≡ None) ⊎ (0 < length (said_in step))
 
 -- Steps were taken, with what was said then and what a crash leaves of them.
-pub record Taken (tells : Bool) (files : Files) (Leaves : Leaving) (before : World) (faults : ℕ)
+pub record StepsAreTaken (tells : Bool) (files : Files) (Leaves : Moments) (before : Standing) (faults : ℕ)
     (answers : List Fetches) (steps : List Step) : Type 0 where
   pub told : All (IsAnswer tells files) answers
   pub spoken : All IsSpoken steps
@@ -33,68 +33,68 @@ pub record Taken (tells : Bool) (files : Files) (Leaves : Leaving) (before : Wor
   pub later : before.faults ≤ faults
   pub crash : Leaves (LeavesPrefix before.model.state steps before.said)
 
--- the world after steps whose replies were said
-pub record IsAfter (before : World) (steps : List Step) (now : World) : Type 0 where
-  pub said : now.said ≡ before.said ++ output steps
+-- what steps leave whose replies were said
+pub record IsAfter (before : Standing) (steps : List Step) (now : Standing) : Type 0 where
+  pub said : now.said ≡ before.said ++ output_of steps
   pub reached : now.model ≡ model_after before.model steps
 
 -- ---- a line
 
+-- the step of the line that has begun, by what the shelf answers
+abbrev pub step_at : Fetches → Standing → Step
+step_at fetches at = step_to fetches at.model at.number at.line
+
 -- The line was answered: its step was taken, and its reply said.
-pub record Answered (tells : Bool) (files : Files) (Leaves : Leaving) (number : ℕ) (line : List ℕ)
-    (before now : World) : Type 0 where
+pub record LineIsAnswered (tells : Bool) (files : Files) (Leaves : Moments) (before now : Standing) : Type 0 where
   pub fetches : Fetches
-  pub taken : Taken tells files Leaves before now.faults (fetches ∷ [])
-      (step_to fetches before.model number line ∷ [])
-  pub after : IsAfter before (step_to fetches before.model number line ∷ []) now
+  pub taken : StepsAreTaken tells files Leaves before now.faults (fetches ∷ []) (step_at fetches before ∷ [])
+  pub after : IsAfter before (step_at fetches before ∷ []) now
 
 -- no more than a front of the line's reply was said
-pub record Interrupted (tells : Bool) (files : Files) (Leaves : Leaving) (number : ℕ) (line : List ℕ)
-    (before now : World) : Type 0 where
+pub record ReplyIsInterrupted (tells : Bool) (files : Files) (Leaves : Moments) (before now : Standing) : Type 0 where
   pub fetches : Fetches
-  pub taken : Taken tells files Leaves before now.faults (fetches ∷ [])
-      (step_to fetches before.model number line ∷ [])
-  pub front : SaysFront before.said (output (step_to fetches before.model number line ∷ [])) now.said
+  pub taken : StepsAreTaken tells files Leaves before now.faults (fetches ∷ []) (step_at fetches before ∷ [])
+  pub front : SaysFront before.said (output_of (step_at fetches before ∷ [])) now.said
 
 -- ---- bytes of the script
 
 -- no line feed is among the bytes
-abbrev pub Unbroken : List ℕ → Type 0
-Unbroken bytes = All (λ byte. (byte == 10) ≡ false) bytes
+abbrev pub HasNoLineFeed : List ℕ → Type 0
+HasNoLineFeed bytes = All (λ byte. (byte == 10) ≡ false) bytes
 
 -- the steps of the rest of a script, from where its reading stands
 abbrev pub steps_at : Standing → List ℕ → List Fetches → List Step
-steps_at at rest answers = steps_from at.world.model at.number (lines (at.line ++ rest)) answers
+steps_at at rest answers = steps_from at.model at.number (lines (at.line ++ rest)) answers
 
--- Further bytes were taken, from one standing to another: the steps of the lines that ended in them come first,
--- however the script goes on.
-pub record Advanced (tells : Bool) (files : Files) (Leaves : Leaving) (at : Standing) (bytes : List ℕ)
+-- Further bytes were taken, from where the answering stood to where it stands: the steps of the lines that ended in
+-- them come first, however the script goes on.
+pub record BytesAreTaken (tells : Bool) (files : Files) (Leaves : Moments) (at : Standing) (bytes : List ℕ)
     (at' : Standing) : Type 0 where
   pub answers : List Fetches
   pub steps : List Step
-  pub taken : Taken tells files Leaves at.world at'.world.faults answers steps
-  pub after : IsAfter at.world steps at'.world
+  pub taken : StepsAreTaken tells files Leaves at at'.faults answers steps
+  pub after : IsAfter at steps at'
   pub ahead : (rest : List ℕ) (more : List Fetches)
       → steps_at at (bytes ++ rest) (answers ++ more) ≡ steps ++ steps_at at' rest more
-  pub ended_lines : Unbroken at.line → (more : List Fetches)
-      → steps_from at.world.model at.number (lines (ended (at.line ++ bytes))) (answers ++ more) ≡ steps
-  pub unended : Unbroken bytes → answers ≡ []
-  pub open_line : Unbroken at.line → Unbroken at'.line
+  pub ended_lines : HasNoLineFeed at.line → (more : List Fetches)
+      → steps_from at.model at.number (lines (whole_lines (at.line ++ bytes))) (answers ++ more) ≡ steps
+  pub unended : HasNoLineFeed bytes → answers ≡ []
+  pub open_line : HasNoLineFeed at.line → HasNoLineFeed at'.line
 
 -- the script has ended here, and its last line was answered
-pub record Finished (tells : Bool) (files : Files) (Leaves : Leaving) (at : Standing) (now : World) : Type 0 where
+pub record ScriptIsFinished (tells : Bool) (files : Files) (Leaves : Moments) (at now : Standing) : Type 0 where
   pub answers : List Fetches
   pub steps : List Step
-  pub taken : Taken tells files Leaves at.world now.faults answers steps
-  pub after : IsAfter at.world steps now
+  pub taken : StepsAreTaken tells files Leaves at now.faults answers steps
+  pub after : IsAfter at steps now
   pub ahead : (more : List Fetches) → steps_at at [] (answers ++ more) ≡ steps
 
 -- the script has ended here, and no more than a front of the reply to its last line was said
-pub record Unfinished (tells : Bool) (files : Files) (Leaves : Leaving) (at : Standing) (now : World) : Type 0 where
+pub record ScriptIsUnfinished (tells : Bool) (files : Files) (Leaves : Moments) (at now : Standing) : Type 0 where
   pub answers : List Fetches
   pub steps : List Step
-  pub taken : Taken tells files Leaves at.world now.faults answers steps
-  pub front : SaysFront at.world.said (output steps) now.said
+  pub taken : StepsAreTaken tells files Leaves at now.faults answers steps
+  pub front : SaysFront at.said (output_of steps) now.said
   pub ahead : (more : List Fetches) → steps_at at [] (answers ++ more) ≡ steps
 
 -- steps come first among others, which go on from there by further answers of the shelf
@@ -106,11 +106,11 @@ pub record ComeFirst (steps : List Step) (more : List Fetches) (whole : List Ste
 
 -- The run ended within these bytes: a front of the replies to some steps was said, which come first, however the script
 -- goes on.
-pub record Stopped (tells : Bool) (files : Files) (Leaves : Leaving) (at : Standing) (bytes : List ℕ) (now : World)
-    : Type 0 where
+pub record RunIsStopped (tells : Bool) (files : Files) (Leaves : Moments) (at : Standing) (bytes : List ℕ)
+    (now : Standing) : Type 0 where
   pub answers : List Fetches
   pub steps : List Step
-  pub taken : Taken tells files Leaves at.world now.faults answers steps
-  pub front : SaysFront at.world.said (output steps) now.said
+  pub taken : StepsAreTaken tells files Leaves at now.faults answers steps
+  pub front : SaysFront at.said (output_of steps) now.said
   pub ahead : (rest : List ℕ) (more : List Fetches)
       → ComeFirst steps more (steps_at at (bytes ++ rest) (answers ++ more))

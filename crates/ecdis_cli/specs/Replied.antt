@@ -8,24 +8,23 @@ use Rattle.script_reader.specs.declared.reply.Reply.{Reply}
 use Rattle.session_core.specs.Fetch.{AreFetched, Files, Fetches}
 use Rattle.session_core.specs.Model.{Model}
 use Rattle.ecdis_cli.specs.declared.run.stop.Stop.{Stop}
-use Rattle.ecdis_cli.specs.Progress.{Leaving}
-use Rattle.ecdis_cli.specs.Step.{Step, step_to}
-use Rattle.ecdis_cli.specs.World.{World}
+use Rattle.ecdis_cli.specs.Progress.{Moments, step_at}
+use Rattle.ecdis_cli.specs.Standing.{Standing}
+use Rattle.ecdis_cli.specs.Step.{Step}
 
 -- the reply and the model after it are those of the step
 abbrev pub GivesStep : Result (Option Reply) Stop → Model → Step → Type 0
 GivesStep (Ok reply) now step = (step.reply ≡ reply) × (step.model ≡ now)
 GivesStep (Err stop) now step = Unit {0}
 
--- The step of a line was taken, by some answers of the shelf, and a crash at any moment of it leaves files that stand
+-- The step of the line was taken, by some answers of the shelf, and a crash at any moment of it leaves files that stand
 -- for what was held before, or for what the step leaves. Nothing is said.
-pub record Replied (tells : Bool) (files : Files) (Leaves : Leaving) (number : ℕ) (line : List ℕ) (before : World)
-    (faults : ℕ) (IsGiven : Step → Type 0) : Type 0 where
+pub record ReplyIsFound (tells : Bool) (files : Files) (Leaves : Moments) (before : Standing) (faults : ℕ)
+    (IsGiven : Step → Type 0) : Type 0 where
   pub fetches : Fetches
   pub answers : AreFetched tells files before.faults faults fetches
-  pub gives : IsGiven (step_to fetches before.model number line)
-  pub leaves : Leaves (StandsForEither before.said before.model.state
-      (step_to fetches before.model number line).model.state)
+  pub gives : IsGiven (step_at fetches before)
+  pub leaves : Leaves (StandsForEither before.said before.model.state (step_at fetches before).model.state)
 
 -- while a reply is said a front of it is, and the files are as a crash might have left them before
 pub record LeavesSaying (may_leave : ℕ → List ℕ → Type 0) (said reply : List ℕ) (images : Images)

@@ -11,10 +11,10 @@ use Rattle.session_core.specs.Model.{Model, Portrayal}
 use Rattle.ecdis_cli.specs.declared.run.status.Status.{Status}
 use Rattle.ecdis_cli.specs.declared.run.status.Status.TheVariants.{Done, ScriptFault, ScriptLong}
 use Rattle.ecdis_cli.specs.Crash.{LeavesPrefix}
-use Rattle.ecdis_cli.specs.Ended.{ended}
+use Rattle.ecdis_cli.specs.WholeLines.{whole_lines}
 use Rattle.ecdis_cli.specs.Limits.{SCRIPT_LIMIT}
-use Rattle.ecdis_cli.specs.Progress.{Leaving}
-use Rattle.ecdis_cli.specs.Script.{IsAnswer, failures_in, model_after, output, steps_of}
+use Rattle.ecdis_cli.specs.Progress.{Moments}
+use Rattle.ecdis_cli.specs.Script.{IsAnswer, failures_in, model_after, output_of, steps_of}
 use Rattle.ecdis_cli.specs.Step.{Step}
 
 -- what is around a run: what is left of its script, what was said, and how often the shelf has failed
@@ -36,24 +36,24 @@ abbrev pub reading_of : Model → Reading
 reading_of model = record { state = model.state; used = model.room.used }
 
 -- the replies to the lines that end in what was taken of the script were said
-pub record AnsweredTaken (steps : List ℕ → List Step) (before now : Outside) : Type 0 where
+pub record TakenLinesAreAnswered (steps : List ℕ → List Step) (before now : Outside) : Type 0 where
   pub taken : List ℕ
   pub split : before.left ≡ taken ++ now.left
-  pub said : now.said ≡ before.said ++ output (steps (ended taken))
+  pub said : now.said ≡ before.said ++ output_of (steps (whole_lines taken))
 
 -- What is said, by the steps of a script: all of it where the run is done, and else a front of it. Where the source
 -- failed it is said to the lines that had ended in what was taken, and where the script is too long to those that end
 -- within the limit.
 pub record Says (status : Status) (steps : List ℕ → List Step) (before now : Outside) : Type 0 where
-  pub all : status ≡ Done → now.said ≡ before.said ++ output (steps before.left)
-  pub front : SaysFront before.said (output (steps before.left)) now.said
-  pub at_fault : status ≡ ScriptFault → AnsweredTaken steps before now
+  pub all : status ≡ Done → now.said ≡ before.said ++ output_of (steps before.left)
+  pub front : SaysFront before.said (output_of (steps before.left)) now.said
+  pub at_fault : status ≡ ScriptFault → TakenLinesAreAnswered steps before now
   pub at_limit : status ≡ ScriptLong
-      → now.said ≡ before.said ++ output (steps (ended (take SCRIPT_LIMIT before.left)))
+      → now.said ≡ before.said ++ output_of (steps (whole_lines (take SCRIPT_LIMIT before.left)))
 
 -- The run of a script from a model, by the answers of the shelf, line by line: what it says, how often the shelf
 -- failed, what a crash at any moment leaves, and what one leaves at the end.
-pub record Ran (tells : Bool) (files : Files) (model : Model) (status : Status) (Leaves : Leaving)
+pub record Ran (tells : Bool) (files : Files) (model : Model) (status : Status) (Leaves : Moments)
     (LeavesElse : Images → List ℕ → Type 0) (MayBeLeft : Images → Type 0) (before now : Outside) : Type 0 where
   pub answers : List Fetches
   pub told : All (IsAnswer tells files) answers

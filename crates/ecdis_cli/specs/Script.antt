@@ -35,16 +35,16 @@ unfoldable pub steps_of : Model → List ℕ → List Fetches → List Step
 steps_of model script answers = steps_from model 1 (lines script) answers
 
 -- what is said in steps
-abbrev pub output : List Step → List ℕ
-output = flat_map said_in
+abbrev pub output_of : List Step → List ℕ
+output_of = flat_map said_in
 
-abbrev pub listed : Option Command → List Command
-listed None = []
-listed (Some command) = command ∷ []
+abbrev pub commands_of : Option Command → List Command
+commands_of None = []
+commands_of (Some command) = command ∷ []
 
 -- the commands that are accepted in them
 abbrev pub commands_in : List Step → List Command
-commands_in = flat_map (λ (step : Step). listed step.command)
+commands_in = flat_map (λ (step : Step). commands_of step.command)
 
 -- the model after them
 abbrev pub model_after : Model → List Step → Model
@@ -52,9 +52,9 @@ model_after model [] = model
 model_after model (step ∷ steps) = model_after step.model steps
 
 -- those whose reply was begun once so many bytes were said
-abbrev pub begun : ℕ → List Step → List Step
-begun bytes [] = []
-begun bytes (step ∷ steps) = if bytes == 0 then [] else step ∷ begun (bytes - length (said_in step)) steps
+abbrev pub begun_steps : ℕ → List Step → List Step
+begun_steps bytes [] = []
+begun_steps bytes (step ∷ steps) = if bytes == 0 then [] else step ∷ begun_steps (bytes - length (said_in step)) steps
 
 -- how often it is said that the shelf failed
 abbrev pub failures_in : List Step → ℕ

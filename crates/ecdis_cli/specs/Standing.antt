@@ -1,14 +1,36 @@
--- Where the reading of a script stands.
-use Rattle.std.specs.Prelude.{ℕ, List}
-use Rattle.ecdis_cli.specs.declared.run.reader.Reader.{Reader}
-use Rattle.ecdis_cli.specs.World.{Standing, world_of}
+-- Where the answering of a script stands.
+use Rattle.std.specs.Prelude.{ℕ, ◌<◌, List, [], Bool}
+use Rattle.chart_store.specs.Store.{count_of}
+use Rattle.session_core.specs.Model.{Model}
+use Rattle.session_core.specs.Session.{IsReady, model_of, store_of}
+use Rattle.session_core.specs.declared.session.Session.{Session}
 use Rattle.ecdis_cli.specs.declared.run.devices.Devices.{Devices}
 
--- that of a reader, where so much was said, and the shelf has failed so often
-abbrev pub standing : Reader → List ℕ → ℕ → Standing
-standing reader said faults =
-    record { world = world_of reader.session said faults; number = reader.number; line = reader.line.items }
+-- what the lines before left: the model, what was said and how often the shelf has failed; and the number and the bytes
+-- of the line that has begun
+pub record Standing : Type 0 where
+  pub model : Model
+  pub said : List ℕ
+  pub faults : ℕ
+  pub number : ℕ
+  pub line : List ℕ
+
+-- the first line has begun
+abbrev pub at_start : Model → List ℕ → ℕ → Standing
+at_start model said faults = record { model = model; said = said; faults = faults; number = 1; line = [] }
+
+-- that of a session, where so much was said and the shelf has failed so often, at a line
+abbrev pub standing_of : Session → List ℕ → ℕ → ℕ → List ℕ → Standing
+standing_of session said faults number line =
+    record { model = model_of session; said = said; faults = faults; number = number; line = line }
 
 -- the same, as the devices have it
-abbrev pub standing_at : {L D C : Type 0} → (L → ℕ) → (D → List ℕ) → Reader → Devices L D C → Standing
-standing_at faults said reader devices = standing reader (said devices.desk.now) (faults devices.shelf.now)
+abbrev pub standing_at : {L D C : Type 0} → (L → ℕ) → (D → List ℕ) → Session → Devices L D C → ℕ → List ℕ → Standing
+standing_at faults said session devices number line =
+    standing_of session (said devices.desk.now) (faults devices.shelf.now) number line
+
+-- The session is ready for its next turn, and fewer commands were accepted than the number of the line that has begun.
+pub record IsReadyFor {L D C : Type 0} (tells : Bool) (contents : D → ℕ → List ℕ)
+    (may_leave : D → ℕ → List ℕ → Type 0) (devices : Devices L D C) (number : ℕ) (session : Session) : Type 0 where
+  pub store : IsReady tells (contents devices.desk.now) (may_leave devices.desk.now) session
+  pub counted : count_of (store_of session) < number

@@ -94,14 +94,15 @@ pub fn run_ecdis<S: Source, L: Shelf, D: Desk, C: Ledger>(
     ensures read { IsTrue S.tells → result ≡ Status.Done → S.left script.new ≡ [] }
     ensures short { IsTrue S.tells → result ≡ Status.Done → length (S.left script.old) ≤ SCRIPT_LIMIT }
 
-    // Where the files are no store's, nothing is read of the script and nothing said, however the run ends, and at every
-    // moment a crash leaves files that read the same, or as one might have left them at the start; it ends for them
-    // unless the disk fails or memory runs out, and then they are left as they were.
+    // Where the files are no store's, nothing is read of the script and nothing said, however the run ends, and at
+    // every moment a crash leaves files that read the same, or as one might have left them at the start; it ends for
+    // them unless the disk fails or memory runs out, and then they are left as they were.
     ensures foreign { (bank at : ℕ) → IsTrue D.tells → result ≡ Status.Foreign bank at →
         read_of (images_of (D.contents desk.old)) ≡ Err (record { bank = bank; at = at }) }
     ensures refused_files { (bank at : ℕ) → IsTrue D.tells →
         read_of (images_of (D.contents desk.old)) ≡ Err (record { bank = bank; at = at }) →
-        (result ≡ Status.Foreign bank at) ⊎ ((result ≡ Status.DeskFault) ⊎ ((result ≡ Status.NoMemory) ⊎ IsTrue (is_early result))) }
+        (result ≡ Status.Foreign bank at) ⊎
+        ((result ≡ Status.DeskFault) ⊎ ((result ≡ Status.NoMemory) ⊎ IsTrue (is_early result))) }
     ensures unread { (bank at : ℕ) → result ≡ Status.Foreign bank at → script.new ≡ script.old }
     ensures unopened { (bank at : ℕ) → IsTrue D.tells →
         read_of (images_of (D.contents desk.old)) ≡ Err (record { bank = bank; at = at }) →
@@ -127,8 +128,8 @@ pub fn run_ecdis<S: Source, L: Shelf, D: Desk, C: Ledger>(
     ensures desk_later { D.faults desk.old ≤ D.faults desk.new }
     ensures same { IsTrue L.tells → L.files shelf.new ≡ L.files shelf.old }
 
-    // Where no other end has its cause, the run is done, unless memory runs out or a fetch of the catalogue or the table
-    // fails.
+    // Where no other end has its cause, the run is done, unless memory runs out or a fetch of the catalogue or the
+    // table fails.
     ensures complete { (said : WordsValue) (lines : List LineValue) (opening : Reading) →
         IsTrue S.tells → IsTrue L.tells → IsTrue D.tells → words_of (map string_bytes words.now) ≡ Some said →
         table_in (L.files shelf.old) said ≡ Ok lines → read_of (images_of (D.contents desk.old)) ≡ Ok opening →

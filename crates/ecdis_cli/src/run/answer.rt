@@ -1,6 +1,6 @@
 //! One line's reply.
 
-ghost use Rattle.std.specs.Prelude.{◌≡◌, ◌+◌, ◌^◌, ◌<◌, ◌≤◌, ◌++◌, IsTrue};
+ghost use Rattle.std.specs.Prelude.{◌≡◌, ◌+◌, ◌^◌, ◌<◌, ◌≤◌, ◌++◌, [], IsTrue};
 ghost use Rattle.std.specs.Prelude.{IfOk, OnOk, OnErr, IsErrOf, min, take, length};
 ghost use Rattle.chart_ports.specs.Count.{Rose};
 ghost use Rattle.chart_ports.specs.Disk.{LeavesNoMore, SameFiles};
@@ -8,10 +8,10 @@ ghost use Rattle.chart_ports.specs.Moments.{Elapses, LeavesOnly};
 ghost use Rattle.chart_ports.specs.Said.{SaysFront};
 ghost use Rattle.script_reader.specs.Reply.{printed};
 ghost use Rattle.session_core.specs.Session.{model_of};
-ghost use Rattle.ecdis_cli.specs.Devices.{KeepsDevices, leaving};
-ghost use Rattle.ecdis_cli.specs.Progress.{Answered, Interrupted};
-ghost use Rattle.ecdis_cli.specs.Replied.{GivesStep, LeavesSaying, Replied};
-ghost use Rattle.ecdis_cli.specs.World.{IsReady, world_at};
+ghost use Rattle.ecdis_cli.specs.Devices.{KeepsDevices, LeavesBetween};
+ghost use Rattle.ecdis_cli.specs.Progress.{LineIsAnswered, ReplyIsInterrupted};
+ghost use Rattle.ecdis_cli.specs.Replied.{GivesStep, LeavesSaying, ReplyIsFound};
+ghost use Rattle.ecdis_cli.specs.Standing.{IsReadyFor, standing_at};
 
 use crate::run::devices::Devices;
 use crate::run::line::front_of;
@@ -30,7 +30,8 @@ use std::sync::ledger::Ledger;
 fn say<D: Desk>(alloc: Global, reply: &Reply, desk: &mut D) -> Result<(), Stop>
     // A call that fails has said a front of it.
     ensures said { IsTrue D.tells → OnOk result (D.said desk.new ≡ D.said desk.old ++ printed reply.now) }
-    ensures front { IsTrue D.tells → OnErr result (SaysFront (D.said desk.old) (printed reply.now) (D.said desk.new)) }
+    ensures front { IsTrue D.tells →
+        OnErr result (SaysFront (D.said desk.old) (printed reply.now) (D.said desk.new)) }
 
     // The files are left, at every moment of it.
     ensures files { IsTrue D.tells → SameFiles (D.contents desk.old) (D.contents desk.new) }
@@ -56,17 +57,17 @@ fn reply_to<L: Shelf, D: Desk, C: Ledger>(
     devices: &mut Devices<L, D, C>,
 ) -> Result<Option<Reply>, Stop>
     requires number { number < 2 ^ 63 }
-    requires ready { IsReady D.tells D.contents D.may_leave devices.old number session.old }
+    requires ready { IsReadyFor D.tells D.contents D.may_leave devices.old number session.old }
 
     // The line's step is taken, and nothing is said.
-    ensures replied { Replied L.tells (L.files devices.old.shelf.now)
-        (λ P. IsTrue D.tells → leaving D.clock D.might devices.old devices.new P) number line.now
-        (world_at L.faults D.said session.old devices.old) (L.faults devices.new.shelf.now)
+    ensures replied { ReplyIsFound L.tells (L.files devices.old.shelf.now)
+        (λ P. IsTrue D.tells → LeavesBetween D.clock D.might devices.old devices.new P)
+        (standing_at L.faults D.said session.old devices.old number line.now) (L.faults devices.new.shelf.now)
         (GivesStep result (model_of session.new)) }
     ensures said { IsTrue D.tells → D.said devices.new.desk.now ≡ D.said devices.old.desk.now }
 
     // The next line may follow, and what stops the run has its cause.
-    ensures ready { OnOk result (IsReady D.tells D.contents D.may_leave devices.new (number + 1) session.new) }
+    ensures ready { OnOk result (IsReadyFor D.tells D.contents D.may_leave devices.new (number + 1) session.new) }
     ensures keeps { KeepsDevices L.tells L.files L.faults D.faults devices.old devices.new }
     ensures desk_failed { IsErrOf result Stop.DeskFault →
         Rose (D.faults devices.old.desk.now) (D.faults devices.new.desk.now) }
@@ -96,18 +97,20 @@ pub fn answer<L: Shelf, D: Desk, C: Ledger>(
     devices: &mut Devices<L, D, C>,
 ) -> Result<(), Stop>
     requires number { number < 2 ^ 63 }
-    requires ready { IsReady D.tells D.contents D.may_leave devices.old number session.old }
+    requires ready { IsReadyFor D.tells D.contents D.may_leave devices.old number session.old }
 
     // The line's step is taken, and its reply said, or a front of it where the run ends.
-    ensures said { IsTrue D.tells → OnOk result (Answered L.tells (L.files devices.old.shelf.now)
-        (leaving D.clock D.might devices.old devices.new) number line.now
-        (world_at L.faults D.said session.old devices.old) (world_at L.faults D.said session.new devices.new)) }
-    ensures front { IsTrue D.tells → OnErr result (Interrupted L.tells (L.files devices.old.shelf.now)
-        (leaving D.clock D.might devices.old devices.new) number line.now
-        (world_at L.faults D.said session.old devices.old) (world_at L.faults D.said session.new devices.new)) }
+    ensures said { IsTrue D.tells → OnOk result (LineIsAnswered L.tells (L.files devices.old.shelf.now)
+        (LeavesBetween D.clock D.might devices.old devices.new)
+        (standing_at L.faults D.said session.old devices.old number line.now)
+        (standing_at L.faults D.said session.new devices.new (number + 1) [])) }
+    ensures front { IsTrue D.tells → OnErr result (ReplyIsInterrupted L.tells (L.files devices.old.shelf.now)
+        (LeavesBetween D.clock D.might devices.old devices.new)
+        (standing_at L.faults D.said session.old devices.old number line.now)
+        (standing_at L.faults D.said session.new devices.new (number + 1) [])) }
 
     // The next line may follow, and what stops the run has its cause.
-    ensures ready { OnOk result (IsReady D.tells D.contents D.may_leave devices.new (number + 1) session.new) }
+    ensures ready { OnOk result (IsReadyFor D.tells D.contents D.may_leave devices.new (number + 1) session.new) }
     ensures keeps { KeepsDevices L.tells L.files L.faults D.faults devices.old devices.new }
     ensures desk_failed { IsErrOf result Stop.DeskFault →
         Rose (D.faults devices.old.desk.now) (D.faults devices.new.desk.now) }

@@ -7,7 +7,7 @@ ghost use Rattle.chart_ports.specs.Moments.{MayBeLeft, images_of};
 ghost use Rattle.chart_store.specs.Images.{Reading, read_of};
 ghost use Rattle.chart_store.specs.Store.{LeavesBefore, LeavesReading};
 ghost use Rattle.session_core.specs.Model.{portrayal_with};
-ghost use Rattle.ecdis_cli.specs.Devices.{KeepsDevices, leaving};
+ghost use Rattle.ecdis_cli.specs.Devices.{KeepsDevices, LeavesBetween};
 ghost use Rattle.ecdis_cli.specs.Limits.{SCRIPT_LIMIT};
 ghost use Rattle.ecdis_cli.specs.Run.{Ran, model_at, outside_of};
 ghost use Rattle.ecdis_cli.specs.Status.{is_early};
@@ -39,7 +39,7 @@ pub fn run_opened<S: Source, L: Shelf, D: Desk, C: Ledger>(
     ensures ran { IsTrue S.tells → IsTrue D.tells → (opening : Reading) →
         read_of (images_of (D.contents devices.old.desk.now)) ≡ Ok opening →
         Ran L.tells (L.files devices.old.shelf.now) (model_at (portrayal_with table settings) opening) result
-        (leaving D.clock D.might devices.old devices.new)
+        (LeavesBetween D.clock D.might devices.old devices.new)
         (LeavesBefore (D.may_leave devices.old.desk.now) (D.said devices.old.desk.now))
         (MayBeLeft (D.may_leave devices.new.desk.now))
         (outside_of (S.left script.old) (D.said devices.old.desk.now) (L.faults devices.old.shelf.now))
@@ -50,8 +50,8 @@ pub fn run_opened<S: Source, L: Shelf, D: Desk, C: Ledger>(
     ensures read { IsTrue S.tells → result ≡ Status.Done → S.left script.new ≡ [] }
     ensures short { IsTrue S.tells → result ≡ Status.Done → length (S.left script.old) ≤ SCRIPT_LIMIT }
 
-    // Files that are no store's are told by their first fault, unless the disk fails or memory runs out. Nothing is read
-    // or said then, and they are left as they were.
+    // Files that are no store's are told by their first fault, unless the disk fails or memory runs out. Nothing is
+    // read or said then, and they are left as they were.
     ensures foreign { (bank at : ℕ) → IsTrue D.tells → result ≡ Status.Foreign bank at →
         read_of (images_of (D.contents devices.old.desk.now)) ≡ Err (record { bank = bank; at = at }) }
     ensures refused_files { (bank at : ℕ) → IsTrue D.tells →
@@ -63,7 +63,7 @@ pub fn run_opened<S: Source, L: Shelf, D: Desk, C: Ledger>(
         (script.new ≡ script.old) × (D.said devices.new.desk.now ≡ D.said devices.old.desk.now) }
     ensures refused_moments { (bank at : ℕ) → IsTrue D.tells →
         read_of (images_of (D.contents devices.old.desk.now)) ≡ Err (record { bank = bank; at = at }) →
-        leaving D.clock D.might devices.old devices.new (LeavesReading (D.contents devices.old.desk.now)
+        LeavesBetween D.clock D.might devices.old devices.new (LeavesReading (D.contents devices.old.desk.now)
         (D.may_leave devices.old.desk.now) (D.said devices.old.desk.now)) }
     ensures left { (bank at : ℕ) → IsTrue D.tells → result ≡ Status.Foreign bank at →
         SameFiles (D.contents devices.old.desk.now) (D.contents devices.new.desk.now) }

@@ -5,9 +5,9 @@ ghost use Rattle.std.specs.Prelude.{length, All, vec_len, ◌==◌, nat_lt, fals
 ghost use Rattle.chart_ports.specs.Count.{Rose};
 ghost use Rattle.session_core.specs.Session.{model_of};
 ghost use Rattle.ecdis_cli.specs.declared.run.line.TheConstants.{LOOKED_AT};
-ghost use Rattle.ecdis_cli.specs.Devices.{KeepsDevices, leaving};
-ghost use Rattle.ecdis_cli.specs.Progress.{Advanced, Finished, Stopped, Unfinished};
-ghost use Rattle.ecdis_cli.specs.World.{IsReady, at_start, world_at};
+ghost use Rattle.ecdis_cli.specs.Devices.{KeepsDevices, LeavesBetween};
+ghost use Rattle.ecdis_cli.specs.Progress.{BytesAreTaken, RunIsStopped, ScriptIsFinished, ScriptIsUnfinished};
+ghost use Rattle.ecdis_cli.specs.Standing.{IsReadyFor, at_start};
 
 use crate::run::answer::answer;
 use crate::run::devices::Devices;
@@ -33,11 +33,11 @@ pub struct Reader {
 }
 
 impl Reader {
-    ghost use Rattle.ecdis_cli.specs.Standing.{standing, standing_at};
+    ghost use Rattle.ecdis_cli.specs.ReaderStanding.{reader_at, reader_standing};
 
     /// At the start of the first line.
     pub fn new(alloc: Global, session: Session) -> Reader
-        ensures start { (said : List ℕ) (faults : ℕ) → standing result said faults
+        ensures start { (said : List ℕ) (faults : ℕ) → reader_standing result said faults
             ≡ at_start (model_of session) said faults }
         ensures session { result.session ≡ session }
     {
@@ -55,22 +55,22 @@ impl Reader {
         devices: &mut Devices<L, D, C>,
     ) -> Result<(), Stop>
         requires number { self.old.number + 1 < 2 ^ 63 }
-        requires ready { IsReady D.tells D.contents D.may_leave devices.old self.old.number self.old.session }
+        requires ready { IsReadyFor D.tells D.contents D.may_leave devices.old self.old.number self.old.session }
 
         // The line is taken, or the run stops within its reply.
-        ensures ok { IsTrue D.tells → OnOk result (Advanced L.tells (L.files devices.old.shelf.now)
-            (leaving D.clock D.might devices.old devices.new)
-            (standing_at L.faults D.said self.old devices.old) (10 ∷ [])
-            (standing_at L.faults D.said self.new devices.new)) }
-        ensures err { IsTrue D.tells → OnErr result (Stopped L.tells (L.files devices.old.shelf.now)
-            (leaving D.clock D.might devices.old devices.new)
-            (standing_at L.faults D.said self.old devices.old) (10 ∷ [])
-            (world_at L.faults D.said self.new.session devices.new)) }
+        ensures ok { IsTrue D.tells → OnOk result (BytesAreTaken L.tells (L.files devices.old.shelf.now)
+            (LeavesBetween D.clock D.might devices.old devices.new)
+            (reader_at L.faults D.said self.old devices.old) (10 ∷ [])
+            (reader_at L.faults D.said self.new devices.new)) }
+        ensures err { IsTrue D.tells → OnErr result (RunIsStopped L.tells (L.files devices.old.shelf.now)
+            (LeavesBetween D.clock D.might devices.old devices.new)
+            (reader_at L.faults D.said self.old devices.old) (10 ∷ [])
+            (reader_at L.faults D.said self.new devices.new)) }
 
         // The next line may follow, and what stops the run has its cause.
         ensures number { self.new.number ≤ self.old.number + 1 }
         ensures ready { OnOk result
-            (IsReady D.tells D.contents D.may_leave devices.new self.new.number self.new.session) }
+            (IsReadyFor D.tells D.contents D.may_leave devices.new self.new.number self.new.session) }
         ensures keeps { KeepsDevices L.tells L.files L.faults D.faults devices.old devices.new }
         ensures desk_failed { IsErrOf result Stop.DeskFault →
             Rose (D.faults devices.old.desk.now) (D.faults devices.new.desk.now) }
@@ -106,22 +106,22 @@ impl Reader {
         devices: &mut Devices<L, D, C>,
     ) -> Result<(), Stop>
         requires number { self.old.number + 1 < 2 ^ 63 }
-        requires ready { IsReady D.tells D.contents D.may_leave devices.old self.old.number self.old.session }
+        requires ready { IsReadyFor D.tells D.contents D.may_leave devices.old self.old.number self.old.session }
 
         // The byte is taken, or the run stops within it.
-        ensures ok { IsTrue D.tells → OnOk result (Advanced L.tells (L.files devices.old.shelf.now)
-            (leaving D.clock D.might devices.old devices.new)
-            (standing_at L.faults D.said self.old devices.old) (byte ∷ [])
-            (standing_at L.faults D.said self.new devices.new)) }
-        ensures err { IsTrue D.tells → OnErr result (Stopped L.tells (L.files devices.old.shelf.now)
-            (leaving D.clock D.might devices.old devices.new)
-            (standing_at L.faults D.said self.old devices.old) (byte ∷ [])
-            (world_at L.faults D.said self.new.session devices.new)) }
+        ensures ok { IsTrue D.tells → OnOk result (BytesAreTaken L.tells (L.files devices.old.shelf.now)
+            (LeavesBetween D.clock D.might devices.old devices.new)
+            (reader_at L.faults D.said self.old devices.old) (byte ∷ [])
+            (reader_at L.faults D.said self.new devices.new)) }
+        ensures err { IsTrue D.tells → OnErr result (RunIsStopped L.tells (L.files devices.old.shelf.now)
+            (LeavesBetween D.clock D.might devices.old devices.new)
+            (reader_at L.faults D.said self.old devices.old) (byte ∷ [])
+            (reader_at L.faults D.said self.new devices.new)) }
 
         // The next line may follow, and what stops the run has its cause.
         ensures number { self.new.number ≤ self.old.number + 1 }
         ensures ready { OnOk result
-            (IsReady D.tells D.contents D.may_leave devices.new self.new.number self.new.session) }
+            (IsReadyFor D.tells D.contents D.may_leave devices.new self.new.number self.new.session) }
         ensures keeps { KeepsDevices L.tells L.files L.faults D.faults devices.old devices.new }
         ensures desk_failed { IsErrOf result Stop.DeskFault →
             Rose (D.faults devices.old.desk.now) (D.faults devices.new.desk.now) }
@@ -143,22 +143,22 @@ impl Reader {
         devices: &mut Devices<L, D, C>,
     ) -> Result<(), Stop>
         requires number { self.old.number + length bytes.now < 2 ^ 63 }
-        requires ready { IsReady D.tells D.contents D.may_leave devices.old self.old.number self.old.session }
+        requires ready { IsReadyFor D.tells D.contents D.may_leave devices.old self.old.number self.old.session }
 
         // The bytes are taken, or the run stops within them.
-        ensures ok { IsTrue D.tells → OnOk result (Advanced L.tells (L.files devices.old.shelf.now)
-            (leaving D.clock D.might devices.old devices.new)
-            (standing_at L.faults D.said self.old devices.old) bytes.now
-            (standing_at L.faults D.said self.new devices.new)) }
-        ensures err { IsTrue D.tells → OnErr result (Stopped L.tells (L.files devices.old.shelf.now)
-            (leaving D.clock D.might devices.old devices.new)
-            (standing_at L.faults D.said self.old devices.old) bytes.now
-            (world_at L.faults D.said self.new.session devices.new)) }
+        ensures ok { IsTrue D.tells → OnOk result (BytesAreTaken L.tells (L.files devices.old.shelf.now)
+            (LeavesBetween D.clock D.might devices.old devices.new)
+            (reader_at L.faults D.said self.old devices.old) bytes.now
+            (reader_at L.faults D.said self.new devices.new)) }
+        ensures err { IsTrue D.tells → OnErr result (RunIsStopped L.tells (L.files devices.old.shelf.now)
+            (LeavesBetween D.clock D.might devices.old devices.new)
+            (reader_at L.faults D.said self.old devices.old) bytes.now
+            (reader_at L.faults D.said self.new devices.new)) }
 
         // The next line may follow, and what stops the run has its cause.
         ensures number { self.new.number ≤ self.old.number + length bytes.now }
         ensures ready { OnOk result
-            (IsReady D.tells D.contents D.may_leave devices.new self.new.number self.new.session) }
+            (IsReadyFor D.tells D.contents D.may_leave devices.new self.new.number self.new.session) }
         ensures keeps { KeepsDevices L.tells L.files L.faults D.faults devices.old devices.new }
         ensures desk_failed { IsErrOf result Stop.DeskFault →
             Rose (D.faults devices.old.desk.now) (D.faults devices.new.desk.now) }
@@ -177,21 +177,21 @@ impl Reader {
         devices: &mut Devices<L, D, C>,
     ) -> Result<(), Stop>
         requires number { self.old.number + 1 < 2 ^ 63 }
-        requires ready { IsReady D.tells D.contents D.may_leave devices.old self.old.number self.old.session }
+        requires ready { IsReadyFor D.tells D.contents D.may_leave devices.old self.old.number self.old.session }
 
         // The last line is answered, or the run stops within its reply.
-        ensures ok { IsTrue D.tells → OnOk result (Finished L.tells (L.files devices.old.shelf.now)
-            (leaving D.clock D.might devices.old devices.new)
-            (standing_at L.faults D.said self.old devices.old)
-            (world_at L.faults D.said self.new.session devices.new)) }
-        ensures err { IsTrue D.tells → OnErr result (Unfinished L.tells (L.files devices.old.shelf.now)
-            (leaving D.clock D.might devices.old devices.new)
-            (standing_at L.faults D.said self.old devices.old)
-            (world_at L.faults D.said self.new.session devices.new)) }
+        ensures ok { IsTrue D.tells → OnOk result (ScriptIsFinished L.tells (L.files devices.old.shelf.now)
+            (LeavesBetween D.clock D.might devices.old devices.new)
+            (reader_at L.faults D.said self.old devices.old)
+            (reader_at L.faults D.said self.new devices.new)) }
+        ensures err { IsTrue D.tells → OnErr result (ScriptIsUnfinished L.tells (L.files devices.old.shelf.now)
+            (LeavesBetween D.clock D.might devices.old devices.new)
+            (reader_at L.faults D.said self.old devices.old)
+            (reader_at L.faults D.said self.new devices.new)) }
 
         // What is held is kept, and what stops the run has its cause.
         ensures ready { OnOk result
-            (IsReady D.tells D.contents D.may_leave devices.new (self.old.number + 1) self.new.session) }
+            (IsReadyFor D.tells D.contents D.may_leave devices.new (self.old.number + 1) self.new.session) }
         ensures keeps { KeepsDevices L.tells L.files L.faults D.faults devices.old devices.new }
         ensures desk_failed { IsErrOf result Stop.DeskFault →
             Rose (D.faults devices.old.desk.now) (D.faults devices.new.desk.now) }

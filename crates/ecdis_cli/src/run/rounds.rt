@@ -4,10 +4,10 @@ ghost use Rattle.std.specs.Prelude.{◌≡◌, ◌≢◌, ◌+◌, ◌<◌, ◌�
 ghost use Rattle.chart_ports.specs.Count.{Rose, RoseBy};
 ghost use Rattle.chart_ports.specs.Moments.{MayBeLeft};
 ghost use Rattle.session_core.specs.Session.{model_of};
-ghost use Rattle.ecdis_cli.specs.Devices.{KeepsDevices, leaving};
+ghost use Rattle.ecdis_cli.specs.Devices.{KeepsDevices, LeavesBetween};
 ghost use Rattle.ecdis_cli.specs.Run.{Ran, outside_of};
 ghost use Rattle.ecdis_cli.specs.Status.{is_early};
-ghost use Rattle.ecdis_cli.specs.World.{IsReady};
+ghost use Rattle.ecdis_cli.specs.Standing.{IsReadyFor};
 
 use crate::run::devices::Devices;
 use crate::run::reader::Reader;
@@ -31,12 +31,12 @@ pub fn run_script<S: Source, L: Shelf, D: Desk, C: Ledger>(
     devices: &mut Devices<L, D, C>,
 ) -> Status
     requires room { 0 < length buffer.old }
-    requires ready { IsReady D.tells D.contents D.may_leave devices.old 1 session }
+    requires ready { IsReadyFor D.tells D.contents D.may_leave devices.old 1 session }
 
     // The replies to the script's lines are said, and a crash leaves what they acknowledge.
     ensures ran { IsTrue S.tells → IsTrue D.tells →
         Ran L.tells (L.files devices.old.shelf.now) (model_of session) result
-        (leaving D.clock D.might devices.old devices.new) (λ images so_far. ⊥)
+        (LeavesBetween D.clock D.might devices.old devices.new) (λ images so_far. ⊥)
         (MayBeLeft (D.may_leave devices.new.desk.now))
         (outside_of (S.left script.old) (D.said devices.old.desk.now) (L.faults devices.old.shelf.now))
         (outside_of (S.left script.new) (D.said devices.new.desk.now) (L.faults devices.new.shelf.now)) }

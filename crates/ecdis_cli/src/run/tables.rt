@@ -4,7 +4,7 @@ ghost use Rattle.std.specs.Prelude.{◌≡◌, ◌≤◌, IsTrue, IfErr, IsErrOf
 ghost use Rattle.chart_ports.specs.Count.{Rose};
 ghost use Rattle.chart_ports.specs.Fetched.{fetched_of};
 ghost use Rattle.command_words.specs.Reading.{value_of};
-ghost use Rattle.ecdis_cli.specs.Devices.{KeepsShelf};
+ghost use Rattle.session_core.specs.Fetch.{KeepsShelf};
 ghost use Rattle.ecdis_cli.specs.FileStop.{EndsAtFile, Gives, GivesTable};
 ghost use Rattle.ecdis_cli.specs.Tables.{TABLES_LIMIT, bytes_in, catalogue_by, in_file, lines_by, table_in};
 
@@ -40,7 +40,8 @@ fn fetch_catalogue<L: Shelf>(
     name: &str,
     shelf: &mut L,
 ) -> Result<Catalogue, FileStop>
-    ensures found { IsTrue L.tells → Gives result (catalogue_by (fetched_of TABLES_LIMIT (L.files shelf.old name.now))) }
+    ensures found { IsTrue L.tells →
+        Gives result (catalogue_by (fetched_of TABLES_LIMIT (L.files shelf.old name.now))) }
     ensures failed { IsErrOf result FileStop.ShelfFault → Rose (L.faults shelf.old) (L.faults shelf.new) }
     ensures keeps { KeepsShelf L.tells L.files L.faults shelf.old shelf.new }
 {

@@ -34,8 +34,10 @@ pub run_script-requires-clause-ready : goal.run_script-requires-clause-ready
 run_script-requires-clause-ready g c =
     let same : store_of c.in-Ok-new.session ≡ c.in-Ok.store = c.in-Ok-new.ensures.store in
     record {
-      sound = subst (λ (store : Store). IsTrue (is_sound store)) (sym same) c.in-Ok.ensures.sound;
-      kept = λ d. subst (λ (store : Store). IsKept (g.D.Desk.contents c.open_store.new.desk) (g.D.Desk.may_leave c.open_store.new.desk) store) (sym same) (c.in-Ok.ensures.kept d);
+      store = record {
+        sound = subst (λ (store : Store). IsTrue (is_sound store)) (sym same) c.in-Ok.ensures.sound;
+        kept = λ d. subst (λ (store : Store). IsKept (g.D.Desk.contents c.open_store.new.desk) (g.D.Desk.may_leave c.open_store.new.desk) store) (sym same) (c.in-Ok.ensures.kept d);
+      };
       counted = omega (arith, c.in-Ok.ensures.count, ap count_of same);
     }
 

@@ -2,9 +2,8 @@
 use Rattle.std.proofs.Common.{◌<◌, length, arith}
 use Rattle.std.proofs.lemmas.List.{nil_from_length}
 use Rattle.chart_ports.specs.Moments.{LeavesOnly}
-use Rattle.ecdis_cli.specs.Devices.{leaving}
-use Rattle.ecdis_cli.specs.World.{world_at}
-use Rattle.ecdis_cli.specs.Standing.{standing_at}
+use Rattle.ecdis_cli.specs.Devices.{LeavesBetween}
+use Rattle.ecdis_cli.specs.ReaderStanding.{reader_at}
 use Rattle.ecdis_cli.proofs.ScriptSteps.{Finished-none, Finished-last, Unfinished-last, OnOk-map, OnErr-map, emptied, filled}
 use Rattle.ecdis_cli.proofs.Taking.{quiet}
 use Rattle.ecdis_cli.proofs.run.reader.Reader.finish.Goals as goal
@@ -12,25 +11,23 @@ use Rattle.ecdis_cli.proofs.run.reader.Reader.finish.Goals as goal
 pub returns-then-is_empty-clause-ok : goal.returns-then-is_empty-clause-ok
 returns-then-is_empty-clause-ok g c = λ d.
     let desk = c.args.devices.now.desk.now in
-    let at = standing_at g.L.Shelf.faults g.D.Desk.said c.args.self.now c.args.devices.now in
+    let at = reader_at g.L.Shelf.faults g.D.Desk.said c.args.self.now c.args.devices.now in
     Finished-none _ _ (LeavesOnly g.D.Desk.clock g.D.Desk.might desk desk) at
-    (quiet g.D.Desk.clock g.D.Desk.might desk (g.D.Desk.may_leave desk) (g.D.Desk.said desk) at.world.model.state
+    (quiet g.D.Desk.clock g.D.Desk.might desk (g.D.Desk.may_leave desk) (g.D.Desk.said desk) at.model.state
     (λ images so_far left. g.met.D.Desk.only_now desk images so_far d left)
-    (λ images left. c.kept_stores_are_read.ensures.stands desk _ images (c.requires.ready.kept d) left))
+    (λ images left. c.kept_stores_are_read.ensures.stands desk _ images (c.requires.ready.store.kept d) left))
     (nil_from_length _ (omega (arith, emptied _ c.if-is_empty.ensures)))
 
 pub returns-clause-ok : goal.returns-clause-ok
 returns-clause-ok g c = λ d.
-    let at = standing_at g.L.Shelf.faults g.D.Desk.said c.args.self.now c.args.devices.now in
-    let now = world_at g.L.Shelf.faults g.D.Desk.said c.answer.new.session c.answer.new.devices in
+    let at = reader_at g.L.Shelf.faults g.D.Desk.said c.args.self.now c.args.devices.now in
     OnOk-map c.answer.result _ _
-    (Finished-last _ _ (leaving g.D.Desk.clock g.D.Desk.might c.args.devices.now c.answer.new.devices) at _ now c.deref.ensures.value c.args.self.now.unbroken (omega (arith, filled _ c.if-is_empty.ensures)))
+    (Finished-last _ _ (LeavesBetween g.D.Desk.clock g.D.Desk.might c.args.devices.now c.answer.new.devices) at _ _ _ _ c.deref.ensures.value c.args.self.now.unbroken (omega (arith, filled _ c.if-is_empty.ensures)))
     (c.answer.ensures.said d)
 
 pub returns-clause-err : goal.returns-clause-err
 returns-clause-err g c = λ d.
-    let at = standing_at g.L.Shelf.faults g.D.Desk.said c.args.self.now c.args.devices.now in
-    let now = world_at g.L.Shelf.faults g.D.Desk.said c.answer.new.session c.answer.new.devices in
+    let at = reader_at g.L.Shelf.faults g.D.Desk.said c.args.self.now c.args.devices.now in
     OnErr-map c.answer.result _ _
-    (Unfinished-last _ _ (leaving g.D.Desk.clock g.D.Desk.might c.args.devices.now c.answer.new.devices) at _ now c.deref.ensures.value c.args.self.now.unbroken (omega (arith, filled _ c.if-is_empty.ensures)))
+    (Unfinished-last _ _ (LeavesBetween g.D.Desk.clock g.D.Desk.might c.args.devices.now c.answer.new.devices) at _ _ _ _ c.deref.ensures.value c.args.self.now.unbroken (omega (arith, filled _ c.if-is_empty.ensures)))
     (c.answer.ensures.front d)

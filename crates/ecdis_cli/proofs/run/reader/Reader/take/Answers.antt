@@ -1,13 +1,12 @@
 -- A byte of a line is kept, or changes nothing.
-use Rattle.std.proofs.Common.{ℕ, ◌≡◌, ◌∷◌, [], ◌++◌, length, cond, ltb, eqb, false, sym, ap, subst, rules}
+use Rattle.std.proofs.Common.{ℕ, ◌≡◌, ◌∷◌, [], ◌++◌, length, cond, ltb, eqb, false, sym, subst, rules}
 use Rattle.std.proofs.lemmas.Bool.{eqb-true}
 use Rattle.chart_ports.specs.Moments.{LeavesOnly}
-use Rattle.session_core.specs.Session.{model_of}
 use Rattle.session_core.specs.declared.session.Session.{Session}
 use Rattle.ecdis_cli.specs.Limits.{KEPT_LIMIT}
-use Rattle.ecdis_cli.specs.World.{world_of}
-use Rattle.ecdis_cli.specs.Progress.{Advanced}
-use Rattle.ecdis_cli.specs.Standing.{standing}
+use Rattle.ecdis_cli.specs.Progress.{BytesAreTaken}
+use Rattle.ecdis_cli.specs.ReaderStanding.{reader_standing}
+use Rattle.ecdis_cli.specs.Standing.{standing_of}
 use Rattle.ecdis_cli.proofs.ScriptSteps.{Advanced-byte, Stopped-start, OnErr-from, OnOk-map}
 use Rattle.ecdis_cli.proofs.Taking.{quiet}
 use Rattle.ecdis_cli.proofs.run.reader.Reader.take.Goals as goal
@@ -19,15 +18,15 @@ returns-else-byte-eq10-clause-ok g c = λ d.
     let faults = g.L.Shelf.faults c.args.devices.now.shelf.now in
     let files = g.L.Shelf.files c.args.devices.now.shelf.now in
     let leaves = LeavesOnly g.D.Desk.clock g.D.Desk.might desk desk in
-    let before = standing c.args.self.now said faults in
-    let crash = quiet g.D.Desk.clock g.D.Desk.might desk (g.D.Desk.may_leave desk) said before.world.model.state
+    let before = reader_standing c.args.self.now said faults in
+    let crash = quiet g.D.Desk.clock g.D.Desk.might desk (g.D.Desk.may_leave desk) said before.model.state
     (λ images so_far left. g.met.D.Desk.only_now desk images so_far d left)
-    (λ images left. c.kept_stores_are_read.ensures.stands desk _ images (c.requires.ready.kept d) left) in
+    (λ images left. c.kept_stores_are_read.ensures.stands desk _ images (c.requires.ready.store.kept d) left) in
     OnOk-map c.keep.result _ _
     (λ (kept : c.keep.new.self.line.items ≡ cond (ltb (length c.args.self.now.line.items) KEPT_LIMIT) (c.args.self.now.line.items ++ c.args.byte ∷ []) c.args.self.now.line.items).
-    subst (λ (n : ℕ). Advanced g.L.Shelf.tells files leaves before (c.args.byte ∷ []) (record { world = world_of c.keep.new.self.session said faults; number = n; line = c.keep.new.self.line.items }))
+    subst (λ (n : ℕ). BytesAreTaken g.L.Shelf.tells files leaves before (c.args.byte ∷ []) (standing_of c.keep.new.self.session said faults n c.keep.new.self.line.items))
     (sym c.keep.ensures.number)
-    (subst (λ (s : Session). Advanced g.L.Shelf.tells files leaves before (c.args.byte ∷ []) (record { world = world_of s said faults; number = c.args.self.now.number; line = c.keep.new.self.line.items }))
+    (subst (λ (s : Session). BytesAreTaken g.L.Shelf.tells files leaves before (c.args.byte ∷ []) (standing_of s said faults c.args.self.now.number c.keep.new.self.line.items))
     (sym c.keep.ensures.session)
     (Advanced-byte c.long_lines_are_read_by_their_front.ensures.front _ _ leaves before _ _ crash c.args.self.now.unbroken (let ne : eqb c.args.byte 10 ≡ false = search (rules, c.if-byte-eq10.false) in ne) kept)))
     c.keep.ensures.ok
@@ -37,12 +36,11 @@ returns-else-byte-eq10-clause-err g c = λ d.
     let desk = c.args.devices.now.desk.now in
     let said = g.D.Desk.said desk in
     let faults = g.L.Shelf.faults c.args.devices.now.shelf.now in
-    let before = standing c.args.self.now said faults in
-    let crash = quiet g.D.Desk.clock g.D.Desk.might desk (g.D.Desk.may_leave desk) said before.world.model.state
+    let before = reader_standing c.args.self.now said faults in
+    let crash = quiet g.D.Desk.clock g.D.Desk.might desk (g.D.Desk.may_leave desk) said before.model.state
     (λ images so_far left. g.met.D.Desk.only_now desk images so_far d left)
-    (λ images left. c.kept_stores_are_read.ensures.stands desk _ images (c.requires.ready.kept d) left) in
-    OnErr-from c.keep.result _ (Stopped-start _ _ (LeavesOnly g.D.Desk.clock g.D.Desk.might desk desk) before _ (world_of c.keep.new.self.session said faults) crash
-    (ap (λ (s : Session). world_of s said faults) c.keep.ensures.session))
+    (λ images left. c.kept_stores_are_read.ensures.stands desk _ images (c.requires.ready.store.kept d) left) in
+    OnErr-from c.keep.result _ (Stopped-start _ _ (LeavesOnly g.D.Desk.clock g.D.Desk.might desk desk) before _ _ _ _ crash)
 
 pub returns-then-byte-eq10-clause-ok : goal.returns-then-byte-eq10-clause-ok
 returns-then-byte-eq10-clause-ok g c = λ d.

@@ -2,10 +2,9 @@
 use Rattle.std.proofs.Common.{ℕ, List, arith, refl, subst, ◌∙◌}
 use Rattle.std.proofs.lemmas.List.{take_all}
 use Rattle.chart_ports.specs.Moments.{LeavesOnly}
-use Rattle.ecdis_cli.specs.Progress.{Advanced}
-use Rattle.ecdis_cli.specs.Devices.{leaving}
-use Rattle.ecdis_cli.specs.World.{world_at}
-use Rattle.ecdis_cli.specs.Standing.{standing_at}
+use Rattle.ecdis_cli.specs.Progress.{BytesAreTaken}
+use Rattle.ecdis_cli.specs.Devices.{LeavesBetween}
+use Rattle.ecdis_cli.specs.ReaderStanding.{reader_at}
 use Rattle.ecdis_cli.proofs.Devices.{keeps-none, keeps-then}
 use Rattle.ecdis_cli.proofs.ScriptSteps.{Advanced-start, Advanced-next, Stopped-next, OnErr-from}
 use Rattle.ecdis_cli.proofs.Taking.{quiet}
@@ -16,11 +15,11 @@ loop-byte-init g c = record {
   number = omega arith;
   advanced = λ d.
       let desk = c.args.devices.now.desk.now in
-      let before = standing_at g.L.Shelf.faults g.D.Desk.said c.args.self.now c.args.devices.now in
+      let before = reader_at g.L.Shelf.faults g.D.Desk.said c.args.self.now c.args.devices.now in
       Advanced-start _ _ (LeavesOnly g.D.Desk.clock g.D.Desk.might desk desk) before
-      (quiet g.D.Desk.clock g.D.Desk.might desk (g.D.Desk.may_leave desk) (g.D.Desk.said desk) before.world.model.state
+      (quiet g.D.Desk.clock g.D.Desk.might desk (g.D.Desk.may_leave desk) (g.D.Desk.said desk) before.model.state
       (λ images so_far left. g.met.D.Desk.only_now desk images so_far d left)
-      (λ images left. c.kept_stores_are_read.ensures.stands desk _ images (c.requires.ready.kept d) left));
+      (λ images left. c.kept_stores_are_read.ensures.stands desk _ images (c.requires.ready.store.kept d) left));
   ready = c.requires.ready;
   keeps = keeps-none _ _ _ _ _;
 }
@@ -28,15 +27,15 @@ loop-byte-init g c = record {
 pub returns-in_err-take-clause-err : goal.returns-in_err-take-clause-err
 returns-in_err-take-clause-err g c = λ d.
     OnErr-from _ _ (Stopped-next g.D.Desk.clock g.D.Desk.might _ _ _ _ _ _ _
-    (standing_at g.L.Shelf.faults g.D.Desk.said c.loop-byte.self c.loop-byte.devices) _ c.loop-byte.byte-index
-    (world_at g.L.Shelf.faults g.D.Desk.said c.take.new.self.session c.take.new.devices)
+    (reader_at g.L.Shelf.faults g.D.Desk.said c.loop-byte.self c.loop-byte.devices) _ c.loop-byte.byte-index
+    (reader_at g.L.Shelf.faults g.D.Desk.said c.take.new.self c.take.new.devices)
     c.loop-byte.invariant.keeps.shelf.files_stay (omega arith) (c.loop-byte.invariant.advanced d) (c.in_err-take.ensures.err d))
 
 pub loop-byte-preserved : goal.loop-byte-preserved
 loop-byte-preserved g c = record {
   number = omega arith;
   advanced = λ d. Advanced-next g.D.Desk.clock g.D.Desk.might _ _ _ _ _ _ _
-      (standing_at g.L.Shelf.faults g.D.Desk.said c.loop-byte.self c.loop-byte.devices) _ _ c.loop-byte.byte-index
+      (reader_at g.L.Shelf.faults g.D.Desk.said c.loop-byte.self c.loop-byte.devices) _ _ c.loop-byte.byte-index
       c.loop-byte.invariant.keeps.shelf.files_stay (omega arith) (c.loop-byte.invariant.advanced d) (c.in_ok-take.ensures.ok d);
   ready = c.in_ok-take.ensures.ready;
   keeps = keeps-then _ _ _ _ _ _ _ c.loop-byte.invariant.keeps c.take.ensures.keeps;
@@ -44,8 +43,8 @@ loop-byte-preserved g c = record {
 
 pub returns-clause-ok : goal.returns-clause-ok
 returns-clause-ok g c = λ d.
-    subst (λ (bytes : List ℕ). Advanced g.L.Shelf.tells (g.L.Shelf.files c.args.devices.now.shelf.now)
-    (leaving g.D.Desk.clock g.D.Desk.might c.args.devices.now c.loop-byte.devices)
-    (standing_at g.L.Shelf.faults g.D.Desk.said c.args.self.now c.args.devices.now) bytes
-    (standing_at g.L.Shelf.faults g.D.Desk.said c.loop-byte.self c.loop-byte.devices))
+    subst (λ (bytes : List ℕ). BytesAreTaken g.L.Shelf.tells (g.L.Shelf.files c.args.devices.now.shelf.now)
+    (LeavesBetween g.D.Desk.clock g.D.Desk.might c.args.devices.now c.loop-byte.devices)
+    (reader_at g.L.Shelf.faults g.D.Desk.said c.args.self.now c.args.devices.now) bytes
+    (reader_at g.L.Shelf.faults g.D.Desk.said c.loop-byte.self c.loop-byte.devices))
     (take_all c.loop-byte.byte-index c.args.bytes.now (omega arith)) (c.loop-byte.invariant.advanced d)
