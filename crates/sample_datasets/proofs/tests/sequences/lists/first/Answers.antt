@@ -16,7 +16,7 @@ returns-in-Replace g c =
     let is = is_file c.args.key bytes _ _ dataset c.as_slice.ensures.value c.as_slice-2.ensures.value
     c.in_ok-dataset.ensures.exact (c.is_of.ensures c.if-not-is_of.false) in
     let effect : judged None dataset ≡ Ok Replace = sym c.in_ok-effect.ensures ∙ ap Ok c.in-Replace.is in
-    let made : built None dataset ≡ Ok c.in_ok-cell.cell = c.in_ok-cell.ensures in
+    let made : built None dataset ≡ Ok c.in_ok-cell.cell = c.in_ok-cell.ensures.built in
     let files : c.push.new.self ≡ bytes ∷ [] = c.in_ok-push.ensures.ok ∙ (λ i. c.new-files.ensures i ++ (c.in_ok-of.ensures ∙ c.from_vec.ensures) i ∷ []) in
     leaves-as c.args.key (bytes ∷ []) _ _ _ _ _ (c.accepted_files_follow.ensures.replaces c.args.key bytes dataset None is effect (ap is_ok made)) files
     (ap Some (c.numbers_of.ensures ∙ ap (λ (seen : DatasetValue). numbers_of seen.header) c.dataset-2.view_is)) (sym (ap result_ok made))

@@ -14,7 +14,7 @@ returns-in-Extend g c =
     let put = put_behind c.args.key c.args.taken.files _ _ c.args.bytes.items _ _ _ c.in_ok-dataset.dataset _ _ c.requires c.as_slice.ensures.value c.as_slice-2.ensures.value
     c.in_ok-dataset.ensures.exact (c.is_of.ensures c.if-not-is_of.false) c.in_ok-effect.ensures c.in_ok-push.ensures.ok (c.in_ok-of.ensures ∙ c.from_vec.ensures) in
     let made : built (rebuilt c.args.taken.files) c.in_ok-dataset.dataset ≡ Ok c.in_ok-cell-in-Extend.cell =
-    ap (λ (chart : Option CellValue). built chart c.in_ok-dataset.dataset) (c.requires.builds ∙ sym c.as_ref.ensures.value) ∙ c.in_ok-cell-in-Extend.ensures in
+    ap (λ (chart : Option CellValue). built chart c.in_ok-dataset.dataset) (c.requires.builds ∙ sym c.as_ref.ensures.value) ∙ c.in_ok-cell-in-Extend.ensures.built in
     leaves-as c.args.key (c.args.taken.files ++ c.args.bytes.items ∷ []) _ _ _ _ _
     (c.accepted_files_follow.ensures.extends _ _ _ _ put.sequence put.is (put.effect_is ∙ ap Ok c.in-Extend.is) (ap is_ok made)) put.all
     (ap Some (c.numbers_of.ensures ∙ ap (λ (seen : DatasetValue). numbers_of seen.header) c.dataset-in-Extend.view_is)) (sym (ap result_ok made))
