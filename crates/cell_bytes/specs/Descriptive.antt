@@ -43,7 +43,8 @@ vector_descriptors =
     ++ descriptor (codes "SGCC") row_controls (codes "Coordinate control field")
     (codes "CCUI!CCIX!CCNC") (codes "(b11,2b12)")
     ++ descriptor (codes "SG2D") group_controls (codes "2-D coordinate field") (codes "*YCOO!XCOO") (codes "(2b24)")
-    ++ descriptor (codes "SG3D") group_controls (codes "3-D coordinate field") (codes "*YCOO!XCOO!VE3D") (codes "(3b24)")
+    ++ descriptor (codes "SG3D") group_controls (codes "3-D coordinate field")
+    (codes "*YCOO!XCOO!VE3D") (codes "(3b24)")
 
 abbrev pub feature_descriptors : List Field
 feature_descriptors =

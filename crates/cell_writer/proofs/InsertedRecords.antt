@@ -8,13 +8,13 @@ use Rattle.iso8211_records.specs.declared.record.RawField.{RawField}
 use Rattle.s57_records.specs.Subfields.{Subfields}
 use Rattle.s57_records.specs.LayoutReadings.{Layouts, all_subfields, subfields_of}
 use Rattle.s57_records.specs.Rows.{checked_structure, scale_of}
-use Rattle.s57_records.specs.Dataset.{Kind, all_of, change_in, change_is, dataset_after, dataset_of, is_parameters, kind_of, looked_at, parameters, said_by, scale_is}
+use Rattle.s57_records.specs.Dataset.{Kind, all_of, change_in, change_is, dataset_after, dataset_of, is_parameters, kind_of, records_looked_at, parameters, record_content, scale_is}
 use Rattle.cell_writer.proofs.RecordFacts.{ReadsHeader, general-is}
 
 -- the record of this number inserts, and isn't one of parameters
 pub record Inserts (n : ℕ) (s : Subfields) (change : Change) : Type 0 where
   pub other : is_parameters (kind_of s) ≡ false
-  pub says : said_by true n s (kind_of s) ≡ Ok (change_is change)
+  pub says : record_content true n s (kind_of s) ≡ Ok (change_is change)
 
 -- the records from this number on insert, in their order
 abbrev pub AreInserted : ℕ → List Subfields → List Change → Type 0
@@ -23,7 +23,7 @@ AreInserted n (s ∷ records) (change ∷ changes) = Inserts n s change × AreIn
 AreInserted n _ _ = ⊥
 
 said : (seen : Bool) (n : ℕ) (records : List Subfields) (changes : List Change) → AreInserted n records changes
-    → all_of (map (λ r. said_by true r.0 r.1 (kind_of r.1)) (looked_at seen n records)) ≡ Ok (map change_is changes)
+    → all_of (map (λ r. record_content true r.0 r.1 (kind_of r.1)) (records_looked_at seen n records)) ≡ Ok (map change_is changes)
 said seen n [] [] are = refl
 said seen n [] (change ∷ changes) are = absurd are
 said seen n (s ∷ records) [] are = absurd are
@@ -46,15 +46,15 @@ pub record ReadsGeneral (first second : Subfields) (header : Header) : Type 0 wh
 
 -- what a record of parameters says
 scale_said : (second : Subfields) (scale : ℕ) → kind_of second ≡ parameters → scale_of second ≡ Ok scale
-    → said_by true 2 second (kind_of second) ≡ Ok (scale_is scale)
-unfolding said_by
+    → record_content true 2 second (kind_of second) ≡ Ok (scale_is scale)
+unfolding record_content
 scale_said second scale kind is = rw (kind, is) refl
 
 all_said : (second : Subfields) (scale : ℕ) (records : List Subfields) (changes : List Change)
     → kind_of second ≡ parameters → scale_of second ≡ Ok scale → AreInserted 3 records changes
-    → all_of (map (λ r. said_by true r.0 r.1 (kind_of r.1)) (looked_at false 2 (second ∷ records))) ≡ Ok (scale_is scale ∷ map change_is changes)
+    → all_of (map (λ r. record_content true r.0 r.1 (kind_of r.1)) (records_looked_at false 2 (second ∷ records))) ≡ Ok (scale_is scale ∷ map change_is changes)
 all_said second scale records changes kind is are =
-    ap (λ (k : Kind). all_of (map (λ (r : ℕ × Subfields). said_by true r.0 r.1 (kind_of r.1)) (cond (is_parameters k) ((2, second) ∷ looked_at true 3 records) ((2, second) ∷ looked_at false 3 records)))) kind
+    ap (λ (k : Kind). all_of (map (λ (r : ℕ × Subfields). record_content true r.0 r.1 (kind_of r.1)) (cond (is_parameters k) ((2, second) ∷ records_looked_at true 3 records) ((2, second) ∷ records_looked_at false 3 records)))) kind
     ∙ rw (scale_said second scale kind is, said true 3 records changes are) refl
 
 pub data-set-is : (first second : Subfields) (header : Header) (records : List Subfields) (changes : List Change)

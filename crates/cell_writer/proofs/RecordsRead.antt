@@ -15,7 +15,7 @@ use Rattle.chart_model.proofs.Pages.{EachEntry, each-of-map}
 use Rattle.iso8211_records.specs.Kinds.{layout_at}
 use Rattle.iso8211_records.specs.RecordFile.{record_file_of}
 use Rattle.s57_records.specs.LayoutReadings.{all_subfields}
-use Rattle.s57_records.specs.Dataset.{dataset_of, said_by}
+use Rattle.s57_records.specs.Dataset.{dataset_of, record_content}
 use Rattle.update_sequence.specs.Reading.{data_set_in}
 use Rattle.cell_bytes.specs.Layouts.{layouts, tags_read}
 use Rattle.cell_bytes.specs.RecordsRead.{IsCellInRange, IsFeatureEntryInRange, IsVectorInRange, feature_read, records_read, vector_read}
@@ -61,7 +61,7 @@ module _ {K X : Type 0} (R : K → K → Ordering) (P : K → X → Type 0) (Q :
 module _ (lists : ReadsLists) where
   vector_inserts : (n : ℕ) (entry : Name × Vector) → IsVectorInRange entry × IsVector entry.0 entry.1
       → Inserts n (read_by_layouts n (vector_read entry.0 entry.1)) (vector_insertion entry.0 entry.1)
-  unfolding said_by
+  unfolding record_content
   vector_inserts n entry is =
       let name = entry.0 in
       let vector = entry.1 in
@@ -81,7 +81,7 @@ module _ (lists : ReadsLists) where
 
   feature_inserts : (n : ℕ) (entry : Name × Feature) → IsFeatureEntryInRange entry × IsFeature entry.0 entry.1
       → Inserts n (read_by_layouts n (feature_read entry.0 entry.1)) (feature_insertion entry.0 entry.1)
-  unfolding said_by
+  unfolding record_content
   feature_inserts n entry is =
       let name = entry.0 in
       let feature = entry.1 in

@@ -13,7 +13,7 @@ use Rattle.chart_store.specs.Images.{StandFor}
 use Rattle.chart_store.specs.Outcome.{after, state_with}
 use Rattle.chart_store.specs.Store.{StandsForEither}
 use Rattle.script_reader.specs.Reading.{event_in}
-use Rattle.script_reader.specs.Reply.{printed}
+use Rattle.script_reader.specs.Reply.{bytes_of_reply}
 use Rattle.script_reader.specs.declared.event.Event.{Event}
 use Rattle.script_reader.specs.declared.fault.LineFault.{LineFault}
 use Rattle.script_reader.specs.declared.reply.Reply.{Reply}
@@ -46,7 +46,7 @@ Follows = (fetches : Fetches) (model : Model) (event : Event) (command : Command
     → (turn_of fetches model event).model ≡ model_with model command (state_with model.state command)
 
 abbrev pub Speaks : Type 0
-Speaks = (reply : Reply) → 0 < length (printed reply)
+Speaks = (reply : Reply) → 0 < length (bytes_of_reply reply)
 
 turn-held : Rests → Follows → (fetches : Fetches) (model : Model) (event : Event) (command : Option Command) → (turn_of fetches model event).command ≡ command
     → (turn_of fetches model event).model.state ≡ after model.state (commands_of command ++ [])
@@ -93,7 +93,7 @@ Taken-one rests follows speaks law tells files Leaves before faults fetches late
     }
 
 -- the output of a step that has a reply
-output-replied : (step : Step) (reply : Reply) → step.reply ≡ Some reply → output_of (step ∷ []) ≡ printed reply
+output-replied : (step : Step) (reply : Reply) → step.reply ≡ Some reply → output_of (step ∷ []) ≡ bytes_of_reply reply
 output-replied step reply is = append-nil (said_in step) ∙ ap said_of is
 
 module _ {D : Type 0} (clock : D → ℕ) (might : D → ℕ → Images → List ℕ → Type 0)
@@ -145,17 +145,17 @@ module _ {D : Type 0} (clock : D → ℕ) (might : D → ℕ → Images → List
       → (step_at fetches before).reply ≡ Some reply → (step_at fetches before).model ≡ left
       → ((images : Images) → MayBeLeft may_leave images → StandFor images left.state)
       → LeavesOnly clock might d0 d1 (StandsForEither before.said before.model.state (step_at fetches before).model.state)
-      → LeavesOnly clock might d1 d2 (LeavesSaying may_leave middle (printed reply))
+      → LeavesOnly clock might d1 d2 (LeavesSaying may_leave middle (bytes_of_reply reply))
       → LeavesOnly clock might d0 d2 (LeavesPrefix before.model.state (step_at fetches before ∷ []) before.said)
   said-crash d0 d1 d2 may_leave fetches left reply middle silent replied reached stands first then_said =
       let step : Step = step_at fetches before in
       and_then clock might d0 d1 d2 (LeavesPrefix before.model.state (step ∷ []) before.said) (turn-crash d0 d1 fetches first)
-      (weaker clock might d1 d2 (LeavesSaying may_leave middle (printed reply)) (LeavesPrefix before.model.state (step ∷ []) before.said)
+      (weaker clock might d1 d2 (LeavesSaying may_leave middle (bytes_of_reply reply)) (LeavesPrefix before.model.state (step ∷ []) before.said)
       (λ images so_far x. prefix-saying before.model.state left.state step before.said so_far images
       (ap (λ (m : Model). m.state) (sym reached) ∙ step-held rests follows fetches before.model before.number before.line)
       (stands images x.left)
       (subst (λ (l : List ℕ). SaysFront before.said l so_far) (ap said_of (sym replied))
-      (subst (λ (l : List ℕ). SaysFront l (printed reply) so_far) silent x.front))) then_said)
+      (subst (λ (l : List ℕ). SaysFront l (bytes_of_reply reply) so_far) silent x.front))) then_said)
 
   -- what is taken of the script where a reply is begun
   taken-said : (IsGiven : Step → Type 0) (d0 d1 d2 : D) (may_leave : ℕ → List ℕ → Type 0) (reply : Reply) (middle : List ℕ) (now : Standing)
@@ -163,7 +163,7 @@ module _ {D : Type 0} (clock : D → ℕ) (might : D → ℕ → Images → List
       → ((step : Step) → IsGiven step → (step.reply ≡ Some reply) × (step.model ≡ now.model))
       → ((images : Images) → MayBeLeft may_leave images → StandFor images now.model.state)
       → (x : ReplyIsFound tells files (LeavesOnly clock might d0 d1) before faults IsGiven)
-      → LeavesOnly clock might d1 d2 (LeavesSaying may_leave middle (printed reply))
+      → LeavesOnly clock might d1 d2 (LeavesSaying may_leave middle (bytes_of_reply reply))
       → StepsAreTaken tells files (LeavesOnly clock might d0 d2) before now.faults (x.fetches ∷ []) (step_at x.fetches before ∷ [])
   taken-said IsGiven d0 d1 d2 may_leave reply middle now counted silent gives stands x then_said =
       let step : Step = step_at x.fetches before in
@@ -174,11 +174,11 @@ module _ {D : Type 0} (clock : D → ℕ) (might : D → ℕ → Images → List
 
   -- the reply was said
   pub answered-said : (IsGiven : Step → Type 0) (d0 d1 d2 : D) (may_leave : ℕ → List ℕ → Type 0) (reply : Reply) (middle : List ℕ) (now : Standing)
-      → now.faults ≡ faults → middle ≡ before.said → now.said ≡ middle ++ printed reply
+      → now.faults ≡ faults → middle ≡ before.said → now.said ≡ middle ++ bytes_of_reply reply
       → ((step : Step) → IsGiven step → (step.reply ≡ Some reply) × (step.model ≡ now.model))
       → ((images : Images) → MayBeLeft may_leave images → StandFor images now.model.state)
       → ReplyIsFound tells files (LeavesOnly clock might d0 d1) before faults IsGiven
-      → LeavesOnly clock might d1 d2 (LeavesSaying may_leave middle (printed reply))
+      → LeavesOnly clock might d1 d2 (LeavesSaying may_leave middle (bytes_of_reply reply))
       → LineIsAnswered tells files (LeavesOnly clock might d0 d2) before now
   answered-said IsGiven d0 d1 d2 may_leave reply middle now counted silent said gives stands x then_said =
       let step : Step = step_at x.fetches before in
@@ -187,18 +187,18 @@ module _ {D : Type 0} (clock : D → ℕ) (might : D → ℕ → Images → List
         fetches = x.fetches;
         taken = taken-said IsGiven d0 d1 d2 may_leave reply middle now counted silent gives stands x then_said;
         after = record {
-          said = said ∙ ap (λ (l : List ℕ). l ++ printed reply) silent ∙ ap (λ (l : List ℕ). before.said ++ l) (sym (output-replied step reply given.0));
+          said = said ∙ ap (λ (l : List ℕ). l ++ bytes_of_reply reply) silent ∙ ap (λ (l : List ℕ). before.said ++ l) (sym (output-replied step reply given.0));
           reached = sym given.1;
         };
       }
 
   -- a front of the reply was said
   pub interrupted-said : (IsGiven : Step → Type 0) (d0 d1 d2 : D) (may_leave : ℕ → List ℕ → Type 0) (reply : Reply) (middle : List ℕ) (now : Standing)
-      → now.faults ≡ faults → middle ≡ before.said → SaysFront middle (printed reply) now.said
+      → now.faults ≡ faults → middle ≡ before.said → SaysFront middle (bytes_of_reply reply) now.said
       → ((step : Step) → IsGiven step → (step.reply ≡ Some reply) × (step.model ≡ now.model))
       → ((images : Images) → MayBeLeft may_leave images → StandFor images now.model.state)
       → ReplyIsFound tells files (LeavesOnly clock might d0 d1) before faults IsGiven
-      → LeavesOnly clock might d1 d2 (LeavesSaying may_leave middle (printed reply))
+      → LeavesOnly clock might d1 d2 (LeavesSaying may_leave middle (bytes_of_reply reply))
       → ReplyIsInterrupted tells files (LeavesOnly clock might d0 d2) before now
   interrupted-said IsGiven d0 d1 d2 may_leave reply middle now counted silent front gives stands x then_said =
       record {
@@ -206,7 +206,7 @@ module _ {D : Type 0} (clock : D → ℕ) (might : D → ℕ → Images → List
         taken = taken-said IsGiven d0 d1 d2 may_leave reply middle now counted silent gives stands x then_said;
         front = subst (λ (l : List ℕ). SaysFront before.said l now.said)
             (sym (output-replied (step_at x.fetches before) reply (gives _ x.gives).0))
-            (subst (λ (l : List ℕ). SaysFront l (printed reply) now.said) silent front);
+            (subst (λ (l : List ℕ). SaysFront l (bytes_of_reply reply) now.said) silent front);
       }
 
 -- ---- the reply is said

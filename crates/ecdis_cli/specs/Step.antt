@@ -2,7 +2,7 @@
 use Rattle.std.specs.Prelude.{ℕ, Bool, false, ◌==◌, List, [], Option, Some, None, Result, Ok, Err}
 use Rattle.chart_model.specs.declared.command.Command.{Command}
 use Rattle.script_reader.specs.Reading.{event_in}
-use Rattle.script_reader.specs.Reply.{printed}
+use Rattle.script_reader.specs.Reply.{bytes_of_reply}
 use Rattle.script_reader.specs.declared.event.Event.{Event}
 use Rattle.script_reader.specs.declared.fault.LineFault.{LineFault}
 use Rattle.script_reader.specs.declared.reply.Reply.{Reply}
@@ -38,7 +38,7 @@ step_to fetches model number line = step_by fetches model number (event_in numbe
 
 abbrev pub said_of : Option Reply → List ℕ
 said_of None = []
-said_of (Some reply) = printed reply
+said_of (Some reply) = bytes_of_reply reply
 
 -- the bytes that are said
 abbrev pub said_in : Step → List ℕ

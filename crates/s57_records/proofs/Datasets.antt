@@ -14,7 +14,7 @@ use Rattle.s57_records.specs.Subfields.{Subfields}
 use Rattle.chart_model.specs.Answers.{◌>>=◌}
 use Rattle.s57_subfields.specs.Number.{ONE_BYTE, TWO_BYTES}
 use Rattle.s57_records.specs.Rows.{ensure, reads_as, checked_edition, general_of, checked_structure, scale_of, vector_of, feature_of}
-use Rattle.s57_records.specs.Dataset.{Kind, general, parameters, vector, feature, other, kind_of, Said, change_is, scale_is, nothing, said_by, looked_at, all_of, change_in, scale_among, header_with, cancels, dataset_after, dataset_of}
+use Rattle.s57_records.specs.Dataset.{Kind, general, parameters, vector, feature, other, kind_of, Said, change_is, scale_is, nothing, record_content, records_looked_at, all_of, change_in, scale_among, header_with, cancels, dataset_after, dataset_of}
 use Rattle.s57_records.proofs.AnswerLemmas.{bind_then, ensure_ok, ok_is}
 use Rattle.s57_records.proofs.Changes.{AreWithinLimits, HasKeys, vector_is_plain, feature_is_plain}
 
@@ -75,8 +75,8 @@ PlainSaid (change_is change) = IsPlainInsert change
 PlainSaid (scale_is scale) = Unit {0}
 PlainSaid nothing = Unit {0}
 
-said_is_plain : (n : ℕ) (s : Subfields) (kind : Kind) (said : Said) → said_by true n s kind ≡ Ok said → PlainSaid said
-unfolding said_by PlainSaid
+said_is_plain : (n : ℕ) (s : Subfields) (kind : Kind) (said : Said) → record_content true n s kind ≡ Ok said → PlainSaid said
+unfolding record_content PlainSaid
 said_is_plain n s vector said e =
     bind_then (vector_of true n s) _ said e (λ change change_e made. subst PlainSaid (ok_is (change_is change) said made) (vector_is_plain n s change change_e))
 said_is_plain n s feature said e =
@@ -100,9 +100,9 @@ changes_are_plain (change_is change ∷ said) each = (each.0, changes_are_plain 
 changes_are_plain (scale_is scale ∷ said) each = changes_are_plain said each.1
 changes_are_plain (nothing ∷ said) each = changes_are_plain said each.1
 
-all_plain : (rest : List (ℕ × Subfields)) (said : List Said) → all_of (map (λ r. said_by true r.0 r.1 (kind_of r.1)) rest) ≡ Ok said → All IsPlainInsert (filter_map change_in said)
+all_plain : (rest : List (ℕ × Subfields)) (said : List Said) → all_of (map (λ r. record_content true r.0 r.1 (kind_of r.1)) rest) ≡ Ok said → All IsPlainInsert (filter_map change_in said)
 all_plain rest said e =
-    All-from_recursion IsPlainInsert (filter_map change_in said) (changes_are_plain said (each_of PlainSaid (λ (r : ℕ × Subfields). said_by true r.0 r.1 (kind_of r.1)) rest said (λ r y h. said_is_plain r.0 r.1 (kind_of r.1) y h) e))
+    All-from_recursion IsPlainInsert (filter_map change_in said) (changes_are_plain said (each_of PlainSaid (λ (r : ℕ × Subfields). record_content true r.0 r.1 (kind_of r.1)) rest said (λ r y h. said_is_plain r.0 r.1 (kind_of r.1) y h) e))
 
 -- ---- the whole
 
@@ -137,7 +137,7 @@ cancelled g is h = record {
   inserts = λ base. absurd (true≢false (sym base));
 }
 
-pub base_plain : (base : Bool) (rest : List (ℕ × Subfields)) (said : List Said) → all_of (map (λ r. said_by base r.0 r.1 (kind_of r.1)) rest) ≡ Ok said → base ≡ true → All IsPlainInsert (filter_map change_in said)
+pub base_plain : (base : Bool) (rest : List (ℕ × Subfields)) (said : List Said) → all_of (map (λ r. record_content base r.0 r.1 (kind_of r.1)) rest) ≡ Ok said → base ≡ true → All IsPlainInsert (filter_map change_in said)
 base_plain true rest said e is_base = all_plain rest said e
 base_plain false rest said e is_base = absurd (true≢false (sym is_base))
 
@@ -148,9 +148,9 @@ after_is_dataset g first rest value is e =
       | inl h ↦ subst IsDataset (ok_is _ value h.1) (cancelled g is h.0)
       | inr h ↦
           bind_then (checked_structure first) _ value h.1 (λ _ structure_e after_structure.
-          bind_then (all_of (map (λ r. said_by g.base r.0 r.1 (kind_of r.1)) (looked_at false 2 rest))) _ value after_structure (λ said said_e after_said.
+          bind_then (all_of (map (λ r. record_content g.base r.0 r.1 (kind_of r.1)) (records_looked_at false 2 rest))) _ value after_structure (λ said said_e after_said.
           bind_then (scale_among g.base said) _ value after_said (λ scale scale_e made.
-          subst IsDataset (ok_is _ value made) (dataset_made g scale said is h.0 scale_e (base_plain g.base (looked_at false 2 rest) said said_e)))))
+          subst IsDataset (ok_is _ value made) (dataset_made g scale said is h.0 scale_e (base_plain g.base (records_looked_at false 2 rest) said said_e)))))
     ]
 
 pub dataset_is :

@@ -6,7 +6,7 @@ use Rattle.s57_records.specs.declared.fault.DatasetFault.{DatasetFault}
 use Rattle.s57_records.specs.declared.fault.DatasetFault.TheVariants.{NoGeneral, MissingField, Value, Profile}
 use Rattle.s57_records.specs.Subfields.{Subfields}
 use Rattle.s57_records.specs.Rows.{general_of, checked_structure, ruin_of, edit_of, vector_head, coords_of, vector_of, foid_of, feature_head, feature_of}
-use Rattle.s57_records.specs.Dataset.{said_by, dataset_after, dataset_of}
+use Rattle.s57_records.specs.Dataset.{record_content, dataset_after, dataset_of}
 
 -- the number under a label: the first of this name
 abbrev under : List (List ℕ × ℕ) → ℕ → List ℕ → Result ℕ DatasetFault
@@ -44,7 +44,7 @@ cancelling = refl
 
 -- a base file without parameters
 no_parameters : dataset_of (sample 1 (codes "DSID" ∷ []) ((codes "EDTN", 1) ∷ (codes "UPDN", 0) ∷ (codes "PROF", 1) ∷ (codes "AGEN", 550) ∷ []) ∷ sample 2 (codes "VRID" ∷ []) ((codes "RCNM", 110) ∷ (codes "RCID", 7) ∷ (codes "RVER", 1) ∷ []) ∷ []) ≡ Err (Profile (codes "DSPM"))
-unfolding dataset_of general_of dataset_after checked_structure said_by vector_head coords_of vector_of ruin_of edit_of
+unfolding dataset_of general_of dataset_after checked_structure record_content vector_head coords_of vector_of ruin_of edit_of
 no_parameters = refl
 
 -- an isolated node with arcs, and a wrong kind of record before its missing number

@@ -13,9 +13,9 @@ use Rattle.s57_records.specs.Subfields.{Subfields}
 use Rattle.chart_model.specs.Answers.{◌>>=◌, or_fault}
 use Rattle.chart_model.specs.Key.{IsKey}
 use Rattle.s57_records.specs.Rows.{checked_structure, scale_of, vector_of, feature_of}
-use Rattle.s57_records.specs.Dataset.{Kind, general, parameters, vector, feature, other, kind_of, Said, change_is, scale_is, nothing, said_by, looked_at, all_of, change_in, scale_in, scale_among, header_with, cancels, dataset_after, dataset_of, is_parameters}
+use Rattle.s57_records.specs.Dataset.{Kind, general, parameters, vector, feature, other, kind_of, Said, change_is, scale_is, nothing, record_content, records_looked_at, all_of, change_in, scale_in, scale_among, header_with, cancels, dataset_after, dataset_of, is_parameters}
 use Rattle.s57_records.specs.Answers.{Gives}
-use Rattle.s57_records.specs.Gathering.{with_change, with_scale, gathered_with, gather, nothing_gathered, needed_scale, dataset_gathered}
+use Rattle.s57_records.specs.Gathering.{with_change, with_scale, with_record, gather, nothing_gathered, needed_scale, dataset_gathered}
 use Rattle.chart_model.specs.Dataset.{IsDataset}
 use Rattle.iso8211_records.specs.Kinds.{layout_at}
 use Rattle.s57_records.specs.declared.reader.DataRecord.{DataRecord}
@@ -87,14 +87,14 @@ then_scale (Err fault) g rest all none each = refl
 
 -- what the records say, where parameters were seen or not
 words : Bool → Bool → ℕ → List Subfields → Result (List Said) DatasetFault
-words base seen n rest = all_of (map (λ r. said_by base r.0 r.1 (kind_of r.1)) (looked_at seen n rest))
+words base seen n rest = all_of (map (λ r. record_content base r.0 r.1 (kind_of r.1)) (records_looked_at seen n rest))
 
 -- the words from a record of this kind on
 words_from : Bool → Bool → ℕ → Subfields → List Subfields → Kind → Result (List Said) DatasetFault
 words_from base seen n s rest kind =
-    cond (is_parameters kind) (cond seen (words base true (suc n) rest) (said_by base n s kind >>= λ x. before x (words base true (suc n) rest))) (said_by base n s kind >>= λ x. before x (words base seen (suc n) rest))
+    cond (is_parameters kind) (cond seen (words base true (suc n) rest) (record_content base n s kind >>= λ x. before x (words base true (suc n) rest))) (record_content base n s kind >>= λ x. before x (words base seen (suc n) rest))
 
-words_chosen : (base seen : Bool) (n : ℕ) (s : Subfields) (rest : List Subfields) (b : Bool) → all_of (map (λ r. said_by base r.0 r.1 (kind_of r.1)) (cond b (cond seen (looked_at true (suc n) rest) ((n, s) ∷ looked_at true (suc n) rest)) ((n, s) ∷ looked_at seen (suc n) rest))) ≡ cond b (cond seen (words base true (suc n) rest) (said_by base n s (kind_of s) >>= λ x. before x (words base true (suc n) rest))) (said_by base n s (kind_of s) >>= λ x. before x (words base seen (suc n) rest))
+words_chosen : (base seen : Bool) (n : ℕ) (s : Subfields) (rest : List Subfields) (b : Bool) → all_of (map (λ r. record_content base r.0 r.1 (kind_of r.1)) (cond b (cond seen (records_looked_at true (suc n) rest) ((n, s) ∷ records_looked_at true (suc n) rest)) ((n, s) ∷ records_looked_at seen (suc n) rest))) ≡ cond b (cond seen (words base true (suc n) rest) (record_content base n s (kind_of s) >>= λ x. before x (words base true (suc n) rest))) (record_content base n s (kind_of s) >>= λ x. before x (words base seen (suc n) rest))
 unfolding words before
 words_chosen base true n s rest true = refl
 words_chosen base false n s rest true = refl
@@ -111,8 +111,8 @@ Tells base seen g = base ≡ true → seen ≡ is_some g.scale
 All_gathered : Bool → ℕ → List Subfields → Type 0
 All_gathered base n rest = (seen : Bool) (g : Gathered) → Tells base seen g → gather base n rest g ≡ finished g (words base seen n rest)
 
-by_parameters : (base seen : Bool) (n : ℕ) (s : Subfields) (rest : List Subfields) (g : Gathered) (scale : Option ℕ) → g.scale ≡ scale → Tells base seen g → All_gathered base (suc n) rest → (gathered_with base n s parameters g >>= gather base (suc n) rest) ≡ finished g (words_from base seen n s rest parameters)
-unfolding gathered_with words_from All_gathered Tells said_by
+by_parameters : (base seen : Bool) (n : ℕ) (s : Subfields) (rest : List Subfields) (g : Gathered) (scale : Option ℕ) → g.scale ≡ scale → Tells base seen g → All_gathered base (suc n) rest → (with_record base n s parameters g >>= gather base (suc n) rest) ≡ finished g (words_from base seen n s rest parameters)
+unfolding with_record words_from All_gathered Tells record_content
 by_parameters true true n s rest g (Some scale) e tells each = rw (ap is_some e) (each true g tells)
 by_parameters true false n s rest g (Some scale) e tells each = absurd (true≢false (sym (tells refl ∙ ap is_some e)))
 by_parameters true true n s rest g None e tells each = absurd (true≢false (tells refl ∙ ap is_some e))
@@ -120,8 +120,8 @@ by_parameters true false n s rest g None e tells each = rw (ap is_some e) (then_
 by_parameters false true n s rest g scale e tells each = each true g (λ base. absurd (true≢false (sym base)))
 by_parameters false false n s rest g scale e tells each = each true g (λ base. absurd (true≢false (sym base))) ∙ prefixed nothing (words false true (suc n) rest) g g (finish_nothing g)
 
-by_kind : (base seen : Bool) (n : ℕ) (s : Subfields) (rest : List Subfields) (kind : Kind) (g : Gathered) → Tells base seen g → All_gathered base (suc n) rest → (gathered_with base n s kind g >>= gather base (suc n) rest) ≡ finished g (words_from base seen n s rest kind)
-unfolding gathered_with words_from All_gathered Tells said_by
+by_kind : (base seen : Bool) (n : ℕ) (s : Subfields) (rest : List Subfields) (kind : Kind) (g : Gathered) → Tells base seen g → All_gathered base (suc n) rest → (with_record base n s kind g >>= gather base (suc n) rest) ≡ finished g (words_from base seen n s rest kind)
+unfolding with_record words_from All_gathered Tells record_content
 by_kind base seen n s rest vector g tells each = then_change (vector_of base n s) g (gather base (suc n) rest) (words base seen (suc n) rest) (λ change. each seen (with_change g change) tells)
 by_kind base seen n s rest feature g tells each = then_change (feature_of base n s) g (gather base (suc n) rest) (words base seen (suc n) rest) (λ change. each seen (with_change g change) tells)
 by_kind base seen n s rest parameters g tells each = by_parameters base seen n s rest g g.scale refl tells each
@@ -157,7 +157,7 @@ unfolding finished finish
 whole g (Ok said) = ap (λ (r : Result ℕ DatasetFault). r >>= λ scale. ends g scale (filter_map change_in said)) (scale_same g.base said)
 whole g (Err fault) = refl
 
-records_same : (g : General) (rest : List Subfields) → (gather g.base 2 rest nothing_gathered >>= λ gathered. needed_scale g.base gathered.scale >>= λ scale. ends g scale gathered.changes) ≡ (all_of (map (λ r. said_by g.base r.0 r.1 (kind_of r.1)) (looked_at false 2 rest)) >>= λ said. scale_among g.base said >>= λ scale. ends g scale (filter_map change_in said))
+records_same : (g : General) (rest : List Subfields) → (gather g.base 2 rest nothing_gathered >>= λ gathered. needed_scale g.base gathered.scale >>= λ scale. ends g scale gathered.changes) ≡ (all_of (map (λ r. record_content g.base r.0 r.1 (kind_of r.1)) (records_looked_at false 2 rest)) >>= λ said. scale_among g.base said >>= λ scale. ends g scale (filter_map change_in said))
 unfolding words All_gathered Tells
 records_same g rest =
     ap (λ (r : Result Gathered DatasetFault). r >>= λ gathered. needed_scale g.base gathered.scale >>= λ scale. ends g scale gathered.changes) (all_gathered g.base 2 rest false nothing_gathered (λ _. refl)) ∙ whole g (words g.base false 2 rest)
@@ -182,9 +182,9 @@ both_ok g r gathered scale e scale_e = rw e (rw scale_e refl)
 pub made_from : (r : DataRecord) (g : General) (rest : List Subfields) (gathered : Gathered) (scale : ℕ) → IsKey g.key → general_of (subfields_in r) ≡ Ok g → cancels g ≡ false → gather g.base 2 rest nothing_gathered ≡ Ok gathered → needed_scale g.base gathered.scale ≡ Ok scale → IsDataset (record { header = header_with g scale; base = g.base; cancels = false; changes = gathered.changes })
 unfolding ends
 made_from r g rest gathered scale keyed general_e stands gather_e scale_e =
-    bind_then (all_of (map (λ r. said_by g.base r.0 r.1 (kind_of r.1)) (looked_at false 2 rest))) _ (record { header = header_with g scale; base = g.base; cancels = false; changes = gathered.changes }) (sym (records_same g rest) ∙ both_ok g _ gathered scale gather_e scale_e) (λ said said_e after_said.
+    bind_then (all_of (map (λ r. record_content g.base r.0 r.1 (kind_of r.1)) (records_looked_at false 2 rest))) _ (record { header = header_with g scale; base = g.base; cancels = false; changes = gathered.changes }) (sym (records_same g rest) ∙ both_ok g _ gathered scale gather_e scale_e) (λ said said_e after_said.
     bind_then (scale_among g.base said) _ _ after_said (λ scale scale_e made.
-    subst IsDataset (ok_is _ _ made) (dataset_made g scale said (record_general r g keyed general_e) stands scale_e (base_plain g.base (looked_at false 2 rest) said said_e))))
+    subst IsDataset (ok_is _ _ made) (dataset_made g scale said (record_general r g keyed general_e) stands scale_e (base_plain g.base (records_looked_at false 2 rest) said said_e))))
 
 pub dataset_from : (first : Subfields) (rest : List Subfields) (g : General) (read : Result DatasetValue DatasetFault) → first.has (codes "DSID") ≡ true → general_of first ≡ Ok g → Gives read (dataset_gathered g first rest) → Gives read (dataset_of (first ∷ rest))
 unfolding dataset_of

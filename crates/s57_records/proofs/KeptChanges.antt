@@ -12,7 +12,7 @@ use Rattle.s57_records.specs.declared.fault.DatasetFault.TheVariants.{NoGeneral}
 use Rattle.s57_records.specs.Subfields.{Subfields}
 use Rattle.chart_model.specs.Answers.{◌>>=◌}
 use Rattle.s57_records.specs.Rows.{general_of, checked_structure, scale_of, vector_of, feature_of}
-use Rattle.s57_records.specs.Dataset.{Kind, general, parameters, vector, feature, other, kind_of, is_parameters, Said, change_is, scale_is, nothing, said_by, looked_at, all_of, change_in, scale_among, cancels, dataset_after, dataset_of}
+use Rattle.s57_records.specs.Dataset.{Kind, general, parameters, vector, feature, other, kind_of, is_parameters, Said, change_is, scale_is, nothing, record_content, records_looked_at, all_of, change_in, scale_among, cancels, dataset_after, dataset_of}
 use Rattle.s57_records.proofs.AnswerLemmas.{bind_then, ok_is}
 use Rattle.s57_records.proofs.Changes.{AreWithinLimits, All-nil, vector_is_change, feature_is_change}
 
@@ -21,8 +21,8 @@ KeptSaid (change_is change) = IsChange change
 KeptSaid (scale_is scale) = Unit {0}
 KeptSaid nothing = Unit {0}
 
-said_is_kept : (base : Bool) (n : ℕ) (s : Subfields) (kind : Kind) (said : Said) → AreWithinLimits s → said_by base n s kind ≡ Ok said → KeptSaid said
-unfolding said_by KeptSaid
+said_is_kept : (base : Bool) (n : ℕ) (s : Subfields) (kind : Kind) (said : Said) → AreWithinLimits s → record_content base n s kind ≡ Ok said → KeptSaid said
+unfolding record_content KeptSaid
 said_is_kept base n s vector said limits e =
     bind_then (vector_of base n s) _ said e (λ change change_e made. subst KeptSaid (ok_is (change_is change) said made) (vector_is_change base n s change limits change_e))
 said_is_kept base n s feature said limits e =
@@ -34,15 +34,15 @@ said_is_kept base n s general said limits e = subst KeptSaid (ok_is nothing said
 said_is_kept base n s other said limits e = subst KeptSaid (ok_is nothing said e) tt
 
 -- the records that are looked at are among all
-looked_within : (seen : Bool) (n : ℕ) (records : List Subfields) → AllByRecursion AreWithinLimits records → AllByRecursion (λ (r : ℕ × Subfields). AreWithinLimits r.1) (looked_at seen n records)
+looked_within : (seen : Bool) (n : ℕ) (records : List Subfields) → AllByRecursion AreWithinLimits records → AllByRecursion (λ (r : ℕ × Subfields). AreWithinLimits r.1) (records_looked_at seen n records)
 looked_within seen n [] limits = tt
 looked_within true n (s ∷ rest) limits =
-    elim (is_parameters (kind_of s)) as (λ b. AllByRecursion (λ (r : ℕ × Subfields). AreWithinLimits r.1) (cond b (looked_at true (suc n) rest) ((n, s) ∷ looked_at true (suc n) rest))) [
+    elim (is_parameters (kind_of s)) as (λ b. AllByRecursion (λ (r : ℕ × Subfields). AreWithinLimits r.1) (cond b (records_looked_at true (suc n) rest) ((n, s) ∷ records_looked_at true (suc n) rest))) [
       | true ↦ looked_within true (suc n) rest limits.1
       | false ↦ (limits.0, looked_within true (suc n) rest limits.1)
     ]
 looked_within false n (s ∷ rest) limits =
-    elim (is_parameters (kind_of s)) as (λ b. AllByRecursion (λ (r : ℕ × Subfields). AreWithinLimits r.1) (cond b ((n, s) ∷ looked_at true (suc n) rest) ((n, s) ∷ looked_at false (suc n) rest))) [
+    elim (is_parameters (kind_of s)) as (λ b. AllByRecursion (λ (r : ℕ × Subfields). AreWithinLimits r.1) (cond b ((n, s) ∷ records_looked_at true (suc n) rest) ((n, s) ∷ records_looked_at false (suc n) rest))) [
       | true ↦ (limits.0, looked_within true (suc n) rest limits.1)
       | false ↦ (limits.0, looked_within false (suc n) rest limits.1)
     ]
@@ -68,12 +68,12 @@ after_is_kept g first rest value limits e =
       | inl h ↦ subst (λ (d : DatasetValue). All IsChange d.changes) (ok_is _ value h.1) (All-nil IsChange)
       | inr h ↦
           bind_then (checked_structure first) _ value h.1 (λ _ structure_e after_structure.
-          bind_then (all_of (map (λ r. said_by g.base r.0 r.1 (kind_of r.1)) (looked_at false 2 rest))) _ value after_structure (λ said said_e after_said.
+          bind_then (all_of (map (λ r. record_content g.base r.0 r.1 (kind_of r.1)) (records_looked_at false 2 rest))) _ value after_structure (λ said said_e after_said.
           bind_then (scale_among g.base said) _ value after_said (λ scale scale_e made.
           subst (λ (d : DatasetValue). All IsChange d.changes) (ok_is _ value made)
           (All-from_recursion IsChange (filter_map change_in said)
           (changes_kept said
-          (each_of (λ (r : ℕ × Subfields). AreWithinLimits r.1) KeptSaid (λ (r : ℕ × Subfields). said_by g.base r.0 r.1 (kind_of r.1)) (looked_at false 2 rest) said
+          (each_of (λ (r : ℕ × Subfields). AreWithinLimits r.1) KeptSaid (λ (r : ℕ × Subfields). record_content g.base r.0 r.1 (kind_of r.1)) (records_looked_at false 2 rest) said
           (λ r y s h. said_is_kept g.base r.0 r.1 (kind_of r.1) y s h) (looked_within false 2 rest limits) said_e))))))
     ]
 

@@ -39,28 +39,28 @@ pub data Said : Type 0 where
   nothing : Said
 
 -- The record of number n. In an update the parameters aren't looked at.
-unfoldable pub said_by : Bool → ℕ → Subfields → Kind → Result Said DatasetFault
-said_by base n s vector = do
+unfoldable pub record_content : Bool → ℕ → Subfields → Kind → Result Said DatasetFault
+record_content base n s vector = do
   change ← vector_of base n s
   Ok (change_is change)
-said_by base n s feature = do
+record_content base n s feature = do
   change ← feature_of base n s
   Ok (change_is change)
-said_by base n s parameters =
+record_content base n s parameters =
     if base then (do
       scale ← scale_of s
       Ok (scale_is scale))
     else Ok nothing
-said_by base n s general = Ok nothing
-said_by base n s other = Ok nothing
+record_content base n s general = Ok nothing
+record_content base n s other = Ok nothing
 
 -- the records that are looked at, with their numbers: of several with parameters the first alone
-abbrev pub looked_at : Bool → ℕ → List Subfields → List (ℕ × Subfields)
-looked_at parameters_seen n [] = []
-looked_at parameters_seen n (s ∷ rest) =
+abbrev pub records_looked_at : Bool → ℕ → List Subfields → List (ℕ × Subfields)
+records_looked_at parameters_seen n [] = []
+records_looked_at parameters_seen n (s ∷ rest) =
     if is_parameters (kind_of s)
-    then (if parameters_seen then looked_at true (suc n) rest else (n, s) ∷ looked_at true (suc n) rest)
-    else (n, s) ∷ looked_at parameters_seen (suc n) rest
+    then (if parameters_seen then records_looked_at true (suc n) rest else (n, s) ∷ records_looked_at true (suc n) rest)
+    else (n, s) ∷ records_looked_at parameters_seen (suc n) rest
 
 -- each value, or the first fault
 abbrev pub all_of : {A : Type 0} → List (Result A DatasetFault) → Result (List A) DatasetFault
@@ -104,7 +104,7 @@ unfoldable pub dataset_after : General → Subfields → List Subfields → Resu
 dataset_after g first rest =
     if cancels g then Ok (record { header = header_with g 0; base = false; cancels = true; changes = [] }) else (do
       _ ← checked_structure first
-      said ← all_of (map (λ r. said_by g.base r.0 r.1 (kind_of r.1)) (looked_at false 2 rest))
+      said ← all_of (map (λ r. record_content g.base r.0 r.1 (kind_of r.1)) (records_looked_at false 2 rest))
       scale ← scale_among g.base said
       Ok (record { header = header_with g scale; base = g.base; cancels = false; changes = filter_map change_in said }))
 

@@ -19,26 +19,26 @@ abbrev pub with_scale : Gathered → ℕ → Gathered
 with_scale g scale = record { scale = Some scale; changes = g.changes }
 
 -- what is gathered with the record of number n
-unfoldable pub gathered_with : Bool → ℕ → Subfields → Kind → Gathered → Result Gathered DatasetFault
-gathered_with base n s vector g = do
+unfoldable pub with_record : Bool → ℕ → Subfields → Kind → Gathered → Result Gathered DatasetFault
+with_record base n s vector g = do
   change ← vector_of base n s
   Ok (with_change g change)
-gathered_with base n s feature g = do
+with_record base n s feature g = do
   change ← feature_of base n s
   Ok (with_change g change)
-gathered_with base n s parameters g =
+with_record base n s parameters g =
     if base && not (is_some g.scale) then (do
       scale ← scale_of s
       Ok (with_scale g scale))
     else Ok g
-gathered_with base n s general g = Ok g
-gathered_with base n s other g = Ok g
+with_record base n s general g = Ok g
+with_record base n s other g = Ok g
 
 -- what is gathered with these records, from number n on
 abbrev pub gather : Bool → ℕ → List Subfields → Gathered → Result Gathered DatasetFault
 gather base n [] g = Ok g
 gather base n (s ∷ rest) g = do
-  more ← gathered_with base n s (kind_of s) g
+  more ← with_record base n s (kind_of s) g
   gather base (suc n) rest more
 
 abbrev pub nothing_gathered : Gathered

@@ -8,7 +8,7 @@ ghost use Rattle.chart_model.specs.Key.{IsKey};
 ghost use Rattle.iso8211_records.specs.Kinds.{layout_at};
 ghost use Rattle.s57_records.specs.Answers.{Gives};
 ghost use Rattle.s57_records.specs.Dataset.{kind_of, header_with, cancels, dataset_of};
-ghost use Rattle.s57_records.specs.Gathering.{gathered_with, gather, nothing_gathered, needed_scale, dataset_gathered};
+ghost use Rattle.s57_records.specs.Gathering.{with_record, gather, nothing_gathered, needed_scale, dataset_gathered};
 ghost use Rattle.s57_records.specs.Rows.{general_of};
 ghost use Rattle.s57_records.specs.RecordReading.{subfields_in};
 ghost use Rattle.s57_records.specs.LayoutReadings.{all_subfields};
@@ -33,7 +33,7 @@ pub(crate) struct Gathered {
 }
 
 /// Gathers what one record says.
-#[tactic(auto, unfolding(crate::specs::Gathering::gathered_with))]
+#[tactic(auto, unfolding(crate::specs::Gathering::with_record))]
 fn gather_with(
     alloc: Global,
     fields: &DataRecord<'_>,
@@ -41,7 +41,7 @@ fn gather_with(
     gathered: Gathered,
 ) -> Result<Gathered, DatasetFault>
     ensures { let read = subfields_in fields.now in
-        Gives result (gathered_with base fields.now.number read (kind_of read) gathered) }
+        Gives result (with_record base fields.now.number read (kind_of read) gathered) }
 {
     if fields.has(DSID) {
         return Ok(gathered);

@@ -1,6 +1,6 @@
 -- The bytes of replies.
 use Rattle.std.proofs.Common.{ℕ, ◌<◌, List, [], ◌∷◌, ◌++◌, codes, length, length-append, arith}
-use Rattle.script_reader.specs.Reply.{line_of, number, printed, words_if}
+use Rattle.script_reader.specs.Reply.{line_of, number, bytes_of_reply, words_if}
 use Rattle.script_reader.specs.declared.reply.Reply.{Reply}
 use Rattle.script_reader.specs.declared.reply.Reply.TheVariants.{Info, Load, Cancel, Rollback, Drop, Cells, Draw, Route, Make, Reissue, Refused}
 
@@ -11,8 +11,8 @@ line-spoken words = simp length-append (omega arith)
 lines-spoken : (words : List (List ℕ)) (more : List ℕ) → 0 < length (line_of words ++ more)
 lines-spoken words more = simp length-append (omega arith)
 
-pub reply-spoken : (reply : Reply) → 0 < length (printed reply)
-unfolding printed
+pub reply-spoken : (reply : Reply) → 0 < length (bytes_of_reply reply)
+unfolding bytes_of_reply
 reply-spoken (Info key edition update records) =
     line-spoken (codes "ok" ∷ codes "info" ∷ key ∷ number edition ∷ number update ∷ number records ∷ [])
 reply-spoken (Load key edition update) =

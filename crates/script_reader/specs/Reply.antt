@@ -19,20 +19,20 @@ abbrev pub words_if : List ℕ → List (List ℕ)
 words_if [] = []
 words_if (first ∷ rest) = (first ∷ rest) ∷ []
 
-unfoldable pub printed : Reply → List ℕ
-printed (Info key edition update records) =
+unfoldable pub bytes_of_reply : Reply → List ℕ
+bytes_of_reply (Info key edition update records) =
     line_of (codes "ok" ∷ codes "info" ∷ key ∷ number edition ∷ number update ∷ number records ∷ [])
-printed (Load key edition update) = line_of (codes "ok" ∷ codes "load" ∷ key ∷ number edition ∷ number update ∷ [])
-printed (Cancel key) = line_of (codes "ok" ∷ codes "cancel" ∷ key ∷ [])
-printed (Rollback key edition update) =
+bytes_of_reply (Load key edition update) = line_of (codes "ok" ∷ codes "load" ∷ key ∷ number edition ∷ number update ∷ [])
+bytes_of_reply (Cancel key) = line_of (codes "ok" ∷ codes "cancel" ∷ key ∷ [])
+bytes_of_reply (Rollback key edition update) =
     line_of (codes "ok" ∷ codes "rollback" ∷ key ∷ number edition ∷ number update ∷ [])
-printed (Drop key) = line_of (codes "ok" ∷ codes "drop" ∷ key ∷ [])
-printed (Cells count lines) = line_of (codes "ok" ∷ codes "cells" ∷ number count ∷ []) ++ lines
-printed (Draw key count lines) = line_of (codes "ok" ∷ codes "draw" ∷ key ∷ number count ∷ []) ++ lines
-printed (Route legs count lines) =
+bytes_of_reply (Drop key) = line_of (codes "ok" ∷ codes "drop" ∷ key ∷ [])
+bytes_of_reply (Cells count lines) = line_of (codes "ok" ∷ codes "cells" ∷ number count ∷ []) ++ lines
+bytes_of_reply (Draw key count lines) = line_of (codes "ok" ∷ codes "draw" ∷ key ∷ number count ∷ []) ++ lines
+bytes_of_reply (Route legs count lines) =
     line_of (codes "ok" ∷ codes "route" ∷ number legs ∷ number count ∷ []) ++ lines
-printed (Make key edition update records) =
+bytes_of_reply (Make key edition update records) =
     line_of (codes "ok" ∷ codes "make" ∷ key ∷ number edition ∷ number update ∷ number records ∷ [])
-printed (Reissue key edition update) =
+bytes_of_reply (Reissue key edition update) =
     line_of (codes "ok" ∷ codes "reissue" ∷ key ∷ number edition ∷ number update ∷ [])
-printed (Refused code values) = line_of (codes "no" ∷ number code ∷ words_if values)
+bytes_of_reply (Refused code values) = line_of (codes "no" ∷ number code ∷ words_if values)

@@ -10,7 +10,7 @@ ghost use Rattle.script_reader.specs.declared.fault.LineFault.TheVariants.{BadLi
 ghost use Rattle.script_reader.specs.Line.{AreInRange, Spells, IsBad};
 ghost use Rattle.text_lines.specs.Lines.{IsSilent};
 ghost use Rattle.script_reader.specs.Reading.{event_in};
-ghost use Rattle.script_reader.specs.Reply.{printed};
+ghost use Rattle.script_reader.specs.Reply.{bytes_of_reply};
 ghost use Rattle.script_reader.specs.declared.reply.Reply.{Reply};
 
 use chart_model::keys_are_tested;
@@ -41,5 +41,5 @@ pub fn long_lines_are_read_by_their_front()
 
 /// A reply has a byte at least.
 pub fn replies_are_spoken()
-    ensures { (reply : Reply) → 0 < length (printed reply) }
+    ensures { (reply : Reply) → 0 < length (bytes_of_reply reply) }
 {}

@@ -4,7 +4,7 @@
 
 ghost use Rattle.std.specs.Prelude.{◌≡◌, ◌++◌, ◌∷◌, [], codes, IfOk};
 ghost use Rattle.std.specs.List.{join_with_byte};
-ghost use Rattle.script_reader.specs.Reply.{number, line_of, words_if, printed};
+ghost use Rattle.script_reader.specs.Reply.{number, line_of, words_if, bytes_of_reply};
 
 use crate::line_text::{end_line, push_number, push_word};
 use chart_model::{Key, Octets};
@@ -155,9 +155,9 @@ fn print_refusal(alloc: Global, code: u8, values: &Octets) -> Result<Octets, All
 
 /// The bytes of the reply: its words, parted by single spaces, and a line feed; behind `ok cells`, `ok draw` and
 /// `ok route` the lines that follow, as they are. Numbers are plain decimals.
-#[tactic(auto, unfolding(crate::specs::Reply::printed))]
+#[tactic(auto, unfolding(crate::specs::Reply::bytes_of_reply))]
 pub fn print_reply(alloc: Global, reply: &Reply) -> Result<Octets, AllocError>
-    ensures { IfOk result (λ bytes. bytes ≡ printed reply.now) }
+    ensures { IfOk result (λ bytes. bytes ≡ bytes_of_reply reply.now) }
 {
     match reply {
         Reply::Info(key, edition, update, records) => {

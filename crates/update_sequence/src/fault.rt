@@ -12,13 +12,16 @@ use thiserror::Error;
 use update_apply::ChangeFault;
 
 /// Why bytes are no cell file.
-#[derive(Clone, Copy, Debug, PartialEq, Eq)]
+#[derive(Clone, Copy, Debug, PartialEq, Eq, Error)]
 pub enum ReadFault {
     /// They are no file of records (ISO/IEC 8211).
+    #[error(transparent)]
     File(FileFault),
     /// Its records are no data set (S-57).
+    #[error(transparent)]
     Dataset(DatasetFault),
     /// There was no memory for the data set, or more bytes than the limit would be read of overlapping fields.
+    #[error("there was no memory, or too much work for one file")]
     NoMemory,
 }
 

@@ -6,7 +6,7 @@ ghost use Rattle.chart_ports.specs.Count.{Rose};
 ghost use Rattle.chart_ports.specs.Disk.{LeavesNoMore, SameFiles};
 ghost use Rattle.chart_ports.specs.Moments.{Elapses, LeavesOnly};
 ghost use Rattle.chart_ports.specs.Said.{SaysFront};
-ghost use Rattle.script_reader.specs.Reply.{printed};
+ghost use Rattle.script_reader.specs.Reply.{bytes_of_reply};
 ghost use Rattle.session_core.specs.Session.{model_of};
 ghost use Rattle.ecdis_cli.specs.Devices.{KeepsDevices, LeavesBetween};
 ghost use Rattle.ecdis_cli.specs.Progress.{LineIsAnswered, ReplyIsInterrupted};
@@ -29,15 +29,15 @@ use std::sync::ledger::Ledger;
 /// Says the reply.
 fn say<D: Desk>(alloc: Global, reply: &Reply, desk: &mut D) -> Result<(), Stop>
     // A call that fails has said a front of it.
-    ensures said { IsTrue D.tells → OnOk result (D.said desk.new ≡ D.said desk.old ++ printed reply.now) }
+    ensures said { IsTrue D.tells → OnOk result (D.said desk.new ≡ D.said desk.old ++ bytes_of_reply reply.now) }
     ensures front { IsTrue D.tells →
-        OnErr result (SaysFront (D.said desk.old) (printed reply.now) (D.said desk.new)) }
+        OnErr result (SaysFront (D.said desk.old) (bytes_of_reply reply.now) (D.said desk.new)) }
 
     // The files are left, at every moment of it.
     ensures files { IsTrue D.tells → SameFiles (D.contents desk.old) (D.contents desk.new) }
     ensures crash { IsTrue D.tells → LeavesNoMore (D.may_leave desk.old) (D.may_leave desk.new) }
     ensures moments { IsTrue D.tells → LeavesOnly D.clock D.might desk.old desk.new
-        (LeavesSaying (D.may_leave desk.old) (D.said desk.old) (printed reply.now)) }
+        (LeavesSaying (D.may_leave desk.old) (D.said desk.old) (bytes_of_reply reply.now)) }
 
     ensures later { D.faults desk.old ≤ D.faults desk.new }
     ensures failed { IsErrOf result Stop.DeskFault → Rose (D.faults desk.old) (D.faults desk.new) }
