@@ -18,6 +18,10 @@ use Rattle.update_sequence.specs.Reading.{fault_of_file, fault_of_records}
 use Rattle.update_sequence.specs.declared.fault.ReadFault.{ReadFault}
 use Rattle.update_sequence.specs.declared.info.FileInfo.{FileInfo}
 
+-- the one field that is read
+abbrev pub tags_of_info : List (List ℕ)
+tags_of_info = DSID ∷ []
+
 -- a data record has a DSID field
 abbrev pub has_dsid : List RawField → Bool
 has_dsid fields = list_any (λ (field : RawField). bytes_eq field.tag DSID) fields
@@ -44,4 +48,4 @@ info_of_file (Err fault) = Err (fault_of_file fault)
 
 -- what the bytes of a file say of it: the file is read for this one tag
 unfoldable pub info_in : List ℕ → Result FileInfo ReadFault
-info_in bytes = info_of_file (record_file_of (DSID ∷ []) bytes)
+info_in bytes = info_of_file (record_file_of tags_of_info bytes)

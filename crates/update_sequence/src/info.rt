@@ -2,12 +2,13 @@
 //!
 //! It is read for this one field, so that a file can be told apart without its charts.
 
-ghost use Rattle.std.specs.Prelude.{◌≡◌, IfOk};
+ghost use Rattle.std.specs.Prelude.{◌≡◌, ◌+◌, ◌≤◌, IfOk};
 ghost use Rattle.chart_model.specs.Key.{IsKey};
+ghost use Rattle.iso8211_records.specs.RecordFile.{data_records_in};
 ghost use Rattle.s57_subfields.specs.Texts.{key_in};
 ghost use Rattle.s57_records.specs.Answers.{Gives};
 ghost use Rattle.update_sequence.specs.Answers.{GivesRead};
-ghost use Rattle.update_sequence.specs.Info.{has_dsid, names_itself, dsid_of, info_of, info_in};
+ghost use Rattle.update_sequence.specs.Info.{tags_of_info, has_dsid, names_itself, dsid_of, info_of, info_in};
 
 use crate::fault::ReadFault;
 use chart_model::Key;
@@ -85,7 +86,7 @@ fn read_first(alloc: Global, file: &RecordFile) -> Result<Dsid, DatasetFault>
 }
 
 /// Reads what the bytes of a file say of it. No other field is looked at, so a file whose data set has a fault may
-/// still say what it is.
+/// still say what it is. Each data record that is come to is a step.
 ///
 /// # Errors
 ///
@@ -96,7 +97,8 @@ pub fn read_info<C: Ledger>(
     bytes: &[u8],
     steps: &mut Steps<C>,
 ) -> Result<FileInfo, ReadFault>
-    ensures { GivesRead result (info_in bytes.now) }
+    ensures said { GivesRead result (info_in bytes.now) }
+    ensures at_most { steps.new ≤ steps.old + data_records_in tags_of_info bytes.now }
 {
     let file = read_file(alloc, bytes, &[tags::DSID], steps)?;
     let dsid = read_first(alloc, &file)?;

@@ -14,10 +14,10 @@ returns-in_err-info-clause-found g c =
       found.0,
       found.1,
       info-refused c.args.name (found.0 FILE_LIMIT c.args.name) c.in_ok-bytes.bytes c.as_slice.result.now c.from_residual-in_err-info.result c.in_err-info.field-0.0
-          c.from_residual-in_err-info.ensures.1 found.2 c.as_slice.ensures c.in_err-info.ensures,
+          c.from_residual-in_err-info.ensures.1 found.2 c.as_slice.ensures c.in_err-info.ensures.said,
     )
 
 pub returns-clause-found : goal.returns-clause-found
 returns-clause-found g c =
     let found = c.in_ok-bytes.ensures.found in
-    (found.0, found.1, info-done c.args.name (found.0 FILE_LIMIT c.args.name) c.in_ok-bytes.bytes c.as_slice.result.now c.in_ok-info.info found.2 c.as_slice.ensures c.in_ok-info.ensures)
+    (found.0, found.1, info-done c.args.name (found.0 FILE_LIMIT c.args.name) c.in_ok-bytes.bytes c.as_slice.result.now c.in_ok-info.info found.2 c.as_slice.ensures c.in_ok-info.ensures.said)
