@@ -1,0 +1,167 @@
+"""Makes the charts of bench/hostile that are drawn and passed by a route: each is as dear to draw or to pass, in one
+respect, as a cell of 8 MB can be.
+"""
+import math
+import struct
+
+from cells import FIELD, name
+from hostile_files import (CONNECTED_NODE, EDGE, HELD, ISOLATED_NODE, base, ends, feature, packed, shown, spans, texts,
+                           vector)
+
+DEPTH_AREAS = b"DEPARE A 1 - CS(DEPARE01)\n"
+HAZARDS = b"WRECKS P 4 - CS(WRECKS02)\n"
+SOUNDINGS = b"SOUNDG P 6 - CS(SOUNDG02)\n"
+DRVAL1, DRVAL2, EXPSOU, WATLEV = 87, 88, 93, 187
+SAFE = texts([(DRVAL1, b"40"), (DRVAL2, b"50")])
+UNSAFE = texts([(DRVAL1, b"5"), (DRVAL2, b"50")])
+SIDE = 6_000_000
+
+
+def corner(number, x, y):
+    return packed(vector(CONNECTED_NODE, number), (b"SG2D", struct.pack("<ii", y, x)))
+
+
+def edge(number, begin, end, points=()):
+    fields = [vector(EDGE, number), ends(begin, end)]
+    if points:
+        fields.append((b"SG2D", b"".join(struct.pack("<ii", y, x) for x, y in points)))
+    return packed(*fields)
+
+
+def area(number, edges, depths):
+    return packed(*feature(number, 3), (b"ATTF", depths), shown(edges))
+
+
+def wreck(number, node):
+    """A wreck of no known depth, at the bottom of what it lies in."""
+    identifier = (b"FRID", struct.pack("<BIBBHHB", 100, number, 1, 2, 159, 1, 1))
+    return packed(identifier, (b"FOID", struct.pack("<HIH", 550, number, 1)),
+                  (b"ATTF", texts([(EXPSOU, b"1"), (WATLEV, b"3")])),
+                  (b"FSPT", name(ISOLATED_NODE, node) + b"\xff\xff\xff"))
+
+
+def place(number, x, y):
+    return packed(vector(ISOLATED_NODE, number), (b"SG2D", struct.pack("<ii", y, x)))
+
+
+def round_points(count, radius=SIDE // 2, wave=SIDE // 20):
+    """Points of a ring about the middle of the square, which goes in and out."""
+    middle = SIDE // 2
+    for at in range(1, count + 1):
+        angle = 2 * math.pi * at / (count + 1)
+        far = radius - wave * (at % 2)
+        yield middle + int(far * math.cos(angle)), middle + int(far * math.sin(angle))
+
+
+def scattered(count):
+    """Places all over the square, in no visible order."""
+    number = 1
+    for _ in range(count):
+        number = (number * 1_103_515_245 + 12_345) % (1 << 31)
+        x = number % SIDE
+        number = (number * 1_103_515_245 + 12_345) % (1 << 31)
+        yield x, number % SIDE
+
+
+def areas_of_one_edge():
+    """50,000 safe areas, all of one closed edge: each is a neighbour of each other along it."""
+    square = edge(1, 1, 1, [(0, SIDE), (SIDE, SIDE), (SIDE, 0)])
+    return {"base": base([corner(1, 0, 0), square] + [area(number, [1], SAFE) for number in range(1, 50_001)]),
+            "table": DEPTH_AREAS}
+
+
+def long_areas(count, points):
+    """So many areas, each of one long edge that all share and of a short one of its own."""
+    middle = SIDE // 2
+    records = [corner(1, SIDE, middle), corner(2, SIDE, middle - 9), edge(1, 1, 2, list(round_points(points)))]
+    records += [edge(number + 1, 2, 1) for number in range(1, count + 1)]
+    return records + [area(number, [1, number + 1], UNSAFE) for number in range(1, count + 1)]
+
+
+def wrecks_among(count, first):
+    places = [place(number, x, y) for number, (x, y) in enumerate(scattered(count), 1)]
+    return places + [wreck(first + number, number) for number in range(1, count + 1)]
+
+
+def wrecks_in_long_areas():
+    """20,000 wrecks in 2,000 areas of 6,000 points each."""
+    return {"base": base(long_areas(2_000, 6_000) + wrecks_among(20_000, 2_000)), "table": DEPTH_AREAS + HAZARDS}
+
+
+def many_long_areas():
+    """A wreck in 20,000 areas of 6,000 points each."""
+    return {"base": base(long_areas(20_000, 6_000) + wrecks_among(1, 20_000)), "table": DEPTH_AREAS + HAZARDS}
+
+
+def wrecks_at_one_place():
+    """30,000 wrecks at one place, in a long area."""
+    records = long_areas(1, 10_000) + [place(1, SIDE // 2, SIDE // 2)]
+    return {"base": base(records + [wreck(number, 1) for number in range(2, 30_002)]),
+            "table": DEPTH_AREAS + HAZARDS}
+
+
+def contour_of_many_edges():
+    """50 safe areas of the same 12,000 edges: each asks for its neighbours along each of them."""
+    count = 12_000
+    places = list(round_points(count))
+    records = [corner(number, x, y) for number, (x, y) in enumerate(places, 1)]
+    records += [edge(number, number, number % count + 1) for number in range(1, count + 1)]
+    records += [area(number, range(1, count + 1), SAFE) for number in range(1, 51)]
+    return {"base": base(records), "table": DEPTH_AREAS}
+
+
+def one_long_ring():
+    """An area of 90 edges of 11,000 points each."""
+    count, points = 90, 11_000
+    every = list(round_points(count * (points + 1)))
+    records = [corner(number + 1, *every[number * (points + 1)]) for number in range(count)]
+    records += [edge(number + 1, number + 1, (number + 1) % count + 1,
+                     every[number * (points + 1) + 1:(number + 1) * (points + 1)]) for number in range(count)]
+    return records + [area(1, range(1, count + 1), UNSAFE)]
+
+
+def long_ring_passed():
+    """999 legs to and fro through an area of 990,000 points."""
+    legs = b"".join(b"%d %d\n" % (SIDE * (at % 2), SIDE * at // 1_000) for at in range(1_000))
+    return {"base": base(one_long_ring()), "passage": b"box 1000 1000\n" + legs}
+
+
+def soundings_of_three_bytes():
+    """2,500,000 soundings of three bytes each, as one field that is named 100 times."""
+    identifier = vector(ISOLATED_NODE, 1)[1] + FIELD
+    held = b"\x01\x02\x7f" * 25_000 + FIELD
+    entries = [(b"VRID", len(identifier), 0)] + [(b"SG3D", len(held), len(identifier))] * 100
+    depths = packed((b"FRID", struct.pack("<BIBBHHB", 100, 1, 1, 2, 129, 1, 1)),
+                    (b"FOID", struct.pack("<HIH", 550, 1, 1)),
+                    (b"FSPT", name(ISOLATED_NODE, 1) + b"\xff\xff\xff"))
+    return {"base": base([spans(entries, identifier + held), depths], SG3D=(b"*YCOO!XCOO!VE3D", b"3b11")),
+            "table": SOUNDINGS, "passage": b"box 10 10\n0 0\n9 9\n"}
+
+
+def wrecks_passed():
+    """999 legs to and fro past 30,000 wrecks."""
+    records = long_areas(1, 100) + wrecks_among(30_000, 1)
+    legs = b"".join(b"%d %d\n" % (SIDE * (at % 2), SIDE * at // 1_000) for at in range(1_000))
+    return {"base": base(records), "passage": b"box 10000 10000\n" + legs}
+
+
+DRAWN = b"load base\ndraw %s\n" % HELD
+PASSED = b"load base\nroute passage\n"
+
+
+def wrecks_in_long_areas_passed():
+    return wrecks_in_long_areas() | {"passage": b"box 10 10\n0 0\n%d %d\n" % (SIDE, SIDE)}
+
+
+CASES = [
+    ("50,000 safe areas of one edge, drawn", areas_of_one_edge, DRAWN),
+    ("20,000 wrecks in 2,000 long areas, drawn", wrecks_in_long_areas, DRAWN),
+    ("the same, passed by a leg", wrecks_in_long_areas_passed, PASSED),
+    ("a wreck in 20,000 long areas, drawn", many_long_areas, DRAWN),
+    ("30,000 wrecks at one place, drawn", wrecks_at_one_place, DRAWN),
+    ("50 safe areas of 12,000 edges, drawn", contour_of_many_edges, DRAWN),
+    ("999 legs through 990,000 points", long_ring_passed, PASSED),
+    ("999 legs past 30,000 wrecks", wrecks_passed, PASSED),
+    ("2,500,000 soundings, drawn", soundings_of_three_bytes, DRAWN),
+    ("2,500,000 soundings, passed by a leg", soundings_of_three_bytes, PASSED),
+]
