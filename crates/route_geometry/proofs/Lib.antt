@@ -2,6 +2,7 @@ pub mod Forms
 pub mod Slopes
 pub mod Corners
 pub mod Between
+pub mod Reached
 pub mod Near
 pub mod Casts
 pub mod Walk

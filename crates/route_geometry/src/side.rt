@@ -19,7 +19,38 @@ pub(crate) struct Side {
 }
 
 impl Side {
-    ghost use Rattle.route_geometry.specs.Side.{IsLegTurned, IsSegmentTurned, IsExchanged};
+    ghost use Rattle.std.specs.Prelude.{◌≡◌, ◌+ℤ◌, pos, IsTrue};
+    ghost use Rattle.std.specs.Int.{int_max};
+    ghost use Rattle.route_geometry.specs.Side.{IsLegTurned, IsSegmentTurned, IsExchanged, IsWithin, Place};
+
+    /// How far within the side the segment leads at most, at the leg's beginning.
+    fn most_along_segment(self) -> i64
+        ensures { result ≡ self.start +ℤ int_max self.segment (pos 0) }
+    {
+        if self.segment >= 0 {
+            self.segment_turned().start
+        } else {
+            self.start
+        }
+    }
+
+    /// How far within the side both ways lead at most.
+    fn most(self) -> i64
+        ensures { result ≡ (self.start +ℤ int_max self.leg (pos 0)) +ℤ int_max self.segment (pos 0) }
+    {
+        if self.leg >= 0 {
+            self.leg_turned().most_along_segment()
+        } else {
+            self.most_along_segment()
+        }
+    }
+
+    /// Whether some place may be within the side: there is none where it isn't.
+    pub(crate) fn is_reached(self) -> bool
+        ensures { (p : Place) → IsWithin p self → IsTrue result }
+    {
+        self.most() >= 0
+    }
 
     /// The side where the leg is gone from its end.
     pub(crate) fn leg_turned(self) -> Side

@@ -1,7 +1,7 @@
 use Rattle.std.proofs.Common.{sym, ◌∙◌}
 use Rattle.std.proofs.lemmas.Bool.{false≢true}
 use Rattle.route_geometry.proofs.Between.{bands_meet}
-use Rattle.route_geometry.proofs.meeting.bands_meet.Goals as goal
+use Rattle.route_geometry.proofs.meeting.sides_meet.Goals as goal
 
 pub returns-then-side_meets_band : goal.returns-then-side_meets_band
 returns-then-side_meets_band c = (
