@@ -15,10 +15,13 @@ use crate::text::safety_contour;
 use chart_model::codes::AREA;
 use chart_model::{Cell, Feature, ItemList, Name, Pointer, Settings, Target};
 use depth_values::codes::DRGARE;
-use depth_values::{Depths, area_depths, is_safe_area_with, is_unsafe_area};
+use depth_values::{Depths, Effort, area_depths, is_safe_area_with, is_unsafe_area};
 use draw_items::{is_drawn, push_item};
 use std::alloc::{AllocError, Global};
 use topology_cache::Users;
+
+/// What it costs to look at a user of an edge, in tests of a point against a segment.
+const COST_OF_USER: usize = 15;
 
 /// Whether the feature with a name is an unsafe area.
 fn is_unsafe_at(cell: &Cell, contour: i32, name: Name) -> bool
@@ -38,16 +41,25 @@ fn are_any_unsafe(cell: &Cell, contour: i32, names: &[Name]) -> bool
 }
 
 /// Whether an unsafe area points to the edge.
-fn borders_unsafe(cell: &Cell, users: &Users, contour: i32, edge: Name) -> bool
+fn borders_unsafe(
+    effort: &mut Effort,
+    cell: &Cell,
+    users: &Users,
+    contour: i32,
+    edge: Name,
+) -> Result<bool, AllocError>
     requires { AreUsersOf cell.now users.now }
-    ensures { result ≡ borders_unsafe cell.now contour edge }
+    ensures { IfOk result (λ borders. borders ≡ borders_unsafe cell.now contour edge) }
 {
-    are_any_unsafe(cell, contour, users.edge_users(edge))
+    let names = users.edge_users(edge);
+    effort.spend(names.len().saturating_mul(COST_OF_USER))?;
+    Ok(are_any_unsafe(cell, contour, names))
 }
 
 /// Adds a safety contour on an edge that is drawn, where an unsafe area lies beyond it.
 fn push_contour(
     alloc: Global,
+    effort: &mut Effort,
     items: &mut ItemList,
     cell: &Cell,
     users: &Users,
@@ -58,7 +70,7 @@ fn push_contour(
     ensures { OnOk result (items.new ≡ items.old ++ contours_on cell.now contour pointer.now) }
 {
     let edge = pointer.target;
-    if is_drawn(pointer) && borders_unsafe(cell, users, contour, edge) {
+    if is_drawn(pointer) && borders_unsafe(effort, cell, users, contour, edge)? {
         push_item(
             alloc,
             items,
@@ -72,6 +84,7 @@ fn push_contour(
 /// Adds the safety contours of a safe area.
 fn push_contours(
     alloc: Global,
+    effort: &mut Effort,
     items: &mut ItemList,
     cell: &Cell,
     users: &Users,
@@ -87,7 +100,7 @@ fn push_contours(
         return Ok(());
     }
     for pointer in feature.pointers.as_slice() {
-        push_contour(alloc, items, cell, users, contour, pointer)?;
+        push_contour(alloc, effort, items, cell, users, contour, pointer)?;
     }
     Ok(())
 }
@@ -120,9 +133,10 @@ fn push_dredged(alloc: Global, items: &mut ItemList, feature: &Feature) -> Resul
 
 /// Adds what is drawn of a depth area: its colour; a pattern, where it is asked for and the area isn't deeper than the
 /// safety contour; the pattern and the outline of a dredged area; and on the edges of a safe area beyond which an
-/// unsafe area lies, the safety contour. Nothing is drawn of what is no area.
+/// unsafe area lies, the safety contour. Nothing is drawn of what is no area. It takes of the effort what it looks at.
 pub fn push_depare01(
     alloc: Global,
+    effort: &mut Effort,
     items: &mut ItemList,
     cell: &Cell,
     users: &Users,
@@ -140,7 +154,7 @@ pub fn push_depare01(
     push_pattern(alloc, items, settings, depths)?;
     push_dredged(alloc, items, feature)?;
     let contour = settings.safety_contour;
-    push_contours(alloc, items, cell, users, contour, feature, depths)
+    push_contours(alloc, effort, items, cell, users, contour, feature, depths)
 }
 
 /// What is drawn of the depth area with a name, as `push_depare01` has it. Nothing is drawn where the cell has no such
@@ -157,7 +171,15 @@ pub fn depare01(
 {
     let mut items = ItemList::new(alloc);
     if let Some(feature) = cell.features.get(name) {
-        push_depare01(alloc, &mut items, cell, users, settings, feature)?;
+        push_depare01(
+            alloc,
+            &mut Effort::whole(),
+            &mut items,
+            cell,
+            users,
+            settings,
+            feature,
+        )?;
     }
     Ok(items)
 }

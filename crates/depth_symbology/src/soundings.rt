@@ -9,9 +9,12 @@ ghost use Rattle.depth_symbology.specs.Soundings.{soundings_in, soundg02_of, sou
 
 use area_rings::{Shape, feature_shape};
 use chart_model::{Cell, Coord, Feature, ItemList, Name, Settings, Target};
-use depth_values::push_digits;
+use depth_values::{Effort, push_digits};
 use std::alloc::{AllocError, Global};
 use topology_cache::Users;
+
+/// What it costs to draw a sounding, in tests of a point against a segment: its items have to fit in memory.
+const COST_OF_SOUNDING: usize = 240;
 
 /// Adds the digits of a sounding, at its place.
 fn push_sounding(
@@ -51,6 +54,7 @@ fn push_soundings(
 /// Adds the digits of the soundings of a shape: of a point feature, and of no other.
 fn push_shape(
     alloc: Global,
+    effort: &mut Effort,
     items: &mut ItemList,
     settings: &Settings,
     shape: Option<Shape>,
@@ -59,15 +63,20 @@ fn push_shape(
     ensures { OnOk result (items.new ≡ items.old ++ soundings_in settings.now shape) }
 {
     match shape {
-        Some(Shape::Points(coords)) => push_soundings(alloc, items, settings, coords.as_slice()),
+        Some(Shape::Points(coords)) => {
+            let coords = coords.as_slice();
+            effort.spend(coords.len().saturating_mul(COST_OF_SOUNDING))?;
+            push_soundings(alloc, items, settings, coords)
+        }
         _ => Ok(()),
     }
 }
 
 /// Adds what is drawn of soundings: the digits of each coordinate that has a depth, at its place. Nothing is drawn of
-/// what is no point.
+/// what is no point. It takes of the effort by the number of coordinates.
 pub fn push_soundg02(
     alloc: Global,
+    effort: &mut Effort,
     items: &mut ItemList,
     cell: &Cell,
     settings: &Settings,
@@ -79,7 +88,7 @@ pub fn push_soundg02(
     // needs.
     let _ = &cell.vectors;
     let shape = feature_shape(alloc, cell, feature)?;
-    push_shape(alloc, items, settings, shape)
+    push_shape(alloc, effort, items, settings, shape)
 }
 
 /// What is drawn of the soundings with a name, as `push_soundg02` has it. Nothing is drawn where the cell has no such
@@ -95,7 +104,14 @@ pub fn soundg02(
 {
     let mut items = ItemList::new(alloc);
     if let Some(feature) = cell.features.get(name) {
-        push_soundg02(alloc, &mut items, cell, settings, feature)?;
+        push_soundg02(
+            alloc,
+            &mut Effort::whole(),
+            &mut items,
+            cell,
+            settings,
+            feature,
+        )?;
     }
     Ok(items)
 }

@@ -1,4 +1,7 @@
 pub mod SmallDepths
-pub mod AreaWalks
+pub mod Grouped
+pub mod Asking
+pub mod Rising
+pub mod Marks
 pub mod Leasts
 pub mod Written

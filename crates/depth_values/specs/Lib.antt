@@ -2,7 +2,10 @@ pub mod Codes
 pub mod Attributes
 pub mod Area
 pub mod DepthArea
+pub mod Groups
+pub mod Asked
 pub mod Under
+pub mod Marks
 pub mod Safety
 pub mod Hazard
 pub mod Digits

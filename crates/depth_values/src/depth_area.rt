@@ -5,6 +5,7 @@ ghost use Rattle.depth_values.specs.Under.{is_depth_area, area_at, areas_of};
 
 use crate::area::least_depth;
 use crate::codes::{DEPARE, DRGARE};
+use crate::effort::Effort;
 use area_rings::{RingList, rings};
 use chart_model::codes::AREA;
 use chart_model::{Cell, Feature, Name, Sequence};
@@ -20,6 +21,8 @@ pub struct DepthArea {
     d1: i32,
     rings: RingList,
     bounds: Bounds,
+    /// How many points the rings have.
+    size: usize,
 }
 
 impl Model for DepthArea {
@@ -32,9 +35,6 @@ impl Model for DepthArea {
 
     ghost invariant = { λ area. RingsIn area.bounds area.rings };
 }
-
-/// The depth areas of a chart, in the order of their names.
-pub type DepthAreas = Sequence<DepthArea>;
 
 impl DepthArea {
     ghost use Rattle.std.specs.Prelude.{◌≡◌, IfOk};
@@ -70,29 +70,28 @@ impl DepthArea {
         self.bounds
     }
 
-    /// The rings of the area, copied point by point: no edge is followed for them again.
-    pub fn copy_rings(&self, alloc: Global) -> Result<RingList, AllocError>
-        ensures { IfOk result (λ rings. rings ≡ self.now.rings) }
-    {
-        let mut rings = Sequence::new(alloc);
-        for ring in self.rings.as_slice() {
-            rings.push(Sequence::from_vec(Vec::from_slice(alloc, ring.as_slice())?))?;
-        }
-        Ok(rings)
-    }
-
     /// Whether a point lies in or on the area. The box round the area is asked first.
-    fn holds(&self, p: Pt) -> bool
-        ensures { result ≡ is_inside p self.now.rings }
+    fn holds(&self, effort: &mut Effort, p: Pt) -> Result<bool, AllocError>
+        ensures { IfOk result (λ holds. holds ≡ is_inside p self.now.rings) }
     {
-        self.bounds.holds_inside(p, self.rings.as_slice())
+        if self.bounds.holds(p) {
+            effort.spend(self.size)?;
+        }
+        Ok(self.bounds.holds_inside(p, self.rings.as_slice()))
     }
 
-    /// Whether one of the points lies in or on the area. It takes no memory.
-    pub(crate) fn holds_any(&self, points: &[Pt]) -> bool
-        ensures { result ≡ list_any (λ p. is_inside p self.now.rings) points.now }
+    /// Whether one of the points lies in or on the area.
+    pub(crate) fn holds_any(&self, effort: &mut Effort, points: &[Pt]) -> Result<bool, AllocError>
+        ensures { IfOk result (λ holds. holds ≡ list_any (λ p. is_inside p self.now.rings) points.now) }
     {
-        points.iter().any(|p| self.holds(*p))
+        effort.spend(points.len())?;
+        for p in points {
+            let holds = self.holds(effort, *p)?;
+            if holds {
+                return Ok(true);
+            }
+        }
+        Ok(false)
     }
 }
 
@@ -101,6 +100,15 @@ pub(crate) fn is_depth_area(feature: &Feature) -> bool
     ensures { result ≡ is_depth_area feature.now }
 {
     feature.prim == AREA && (feature.class == DEPARE || feature.class == DRGARE)
+}
+
+/// How many points rings have. Nothing that is answered hangs on it, but whether there is an answer.
+fn size_of(rings: &[Ring]) -> usize {
+    let mut size: usize = 0;
+    for ring in rings {
+        size = size.saturating_add(ring.as_slice().len());
+    }
+    size
 }
 
 /// The depth area that a feature is; `None` where it is none or has no rings.
@@ -119,21 +127,25 @@ fn depth_area(
         return Ok(None);
     };
     let bounds = bounds_of(rings.as_slice());
+    let size = size_of(rings.as_slice());
     Ok(Some(DepthArea {
         name,
         d1: least_depth(feature),
         rings,
         bounds,
+        size,
     }))
 }
 
 /// The depth areas and dredged areas of a chart, in the order of their names.
-pub fn depth_areas(alloc: Global, cell: &Cell) -> Result<DepthAreas, AllocError>
+pub(crate) fn areas_in(alloc: Global, cell: &Cell) -> Result<Sequence<DepthArea>, AllocError>
     ensures { IfOk result (λ areas. areas ≡ areas_of cell.now) }
 {
     let mut areas = Sequence::new(alloc);
+    let mut effort = Effort::of_rings();
     for (name, feature) in cell.features.iter() {
         if let Some(area) = depth_area(alloc, cell, *name, feature)? {
+            effort.spend(area.size)?;
             areas.push(area)?;
         }
     }

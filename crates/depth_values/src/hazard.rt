@@ -7,13 +7,14 @@ ghost use Rattle.depth_values.specs.Hazard.{sounding_of, is_wreck, is_obstructio
 ghost use Rattle.depth_values.specs.Hazard.{asks_areas, depth_among, assumed_depth, first_depth};
 ghost use Rattle.depth_values.specs.Hazard.{hazard_depth, hazard_depth_by};
 
+use crate::areas::{DepthAreas, depth_areas};
 use crate::attributes::{depth_at, has_value};
 use crate::codes::{
     ALWAYS_UNDER_WATER, AWASH, CATOBS, CATWRK, DANGEROUS_WRECK, DEEPER_THAN_AROUND, EXPSOU,
     FOUL_AREA, NON_DANGEROUS_WRECK, OBSTRN, VALSOU, WATLEV, WITHIN_DEPTHS_AROUND, WRECK_WITH_HULL,
     WRECK_WITH_MAST, WRECKS,
 };
-use crate::depth_area::{DepthArea, depth_areas};
+use crate::effort::Effort;
 use crate::under::least_among;
 use area_rings::{Shape, feature_shape};
 use chart_model::{Cell, Feature};
@@ -87,14 +88,15 @@ fn assumed_depth(feature: &Feature) -> i32
 /// The least depth of those areas that are under the feature; `None` where there is none.
 fn depth_among(
     alloc: Global,
-    areas: &[DepthArea],
+    effort: &mut Effort,
+    areas: &DepthAreas,
     cell: &Cell,
     feature: &Feature,
 ) -> Result<Option<i32>, AllocError>
     ensures { IfOk result (λ depth. depth ≡ depth_among areas.now cell.now feature.now) }
 {
     match feature_shape(alloc, cell, feature)? {
-        Some(shape) => least_among(alloc, areas, &shape),
+        Some(shape) => least_among(alloc, effort, areas, &shape),
         None => Ok(None),
     }
 }
@@ -128,7 +130,7 @@ pub fn hazard_depth(alloc: Global, cell: &Cell, feature: &Feature) -> Result<i32
         return Ok(first_depth(feature, None));
     }
     let areas = depth_areas(alloc, cell)?;
-    let below = depth_among(alloc, areas.as_slice(), cell, feature)?;
+    let below = depth_among(alloc, &mut Effort::whole(), &areas, cell, feature)?;
     Ok(first_depth(feature, below))
 }
 
@@ -136,7 +138,8 @@ pub fn hazard_depth(alloc: Global, cell: &Cell, feature: &Feature) -> Result<i32
 /// areas are asked.
 pub fn hazard_depth_among(
     alloc: Global,
-    areas: &[DepthArea],
+    effort: &mut Effort,
+    areas: &DepthAreas,
     cell: &Cell,
     feature: &Feature,
 ) -> Result<i32, AllocError>
@@ -146,14 +149,15 @@ pub fn hazard_depth_among(
     if !asks_areas(feature) {
         return Ok(first_depth(feature, None));
     }
-    let below = depth_among(alloc, areas, cell, feature)?;
+    let below = depth_among(alloc, effort, areas, cell, feature)?;
     Ok(first_depth(feature, below))
 }
 
 /// The same of a feature whose shape was made already.
 pub fn hazard_depth_at(
     alloc: Global,
-    areas: &[DepthArea],
+    effort: &mut Effort,
+    areas: &DepthAreas,
     feature: &Feature,
     shape: &Shape,
 ) -> Result<i32, AllocError>
@@ -162,6 +166,6 @@ pub fn hazard_depth_at(
     if !asks_areas(feature) {
         return Ok(first_depth(feature, None));
     }
-    let below = least_among(alloc, areas, shape)?;
+    let below = least_among(alloc, effort, areas, shape)?;
     Ok(first_depth(feature, below))
 }

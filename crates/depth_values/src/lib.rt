@@ -5,23 +5,29 @@
 #![tactic(auto)]
 
 mod area;
+mod areas;
+mod asked;
 mod attributes;
 mod cells;
 pub mod codes;
 mod depth_area;
 mod digit_items;
 mod digits;
+mod effort;
+mod groups;
 mod hazard;
 mod laws;
 mod safety;
 mod under;
 
 pub use area::{Depths, area_depths};
+pub use areas::{DepthAreas, depth_areas};
 pub use attributes::{depth_at, has_value};
 pub use cells::CellList;
-pub use depth_area::{DepthArea, DepthAreas, depth_areas};
+pub use depth_area::DepthArea;
 pub use digit_items::push_digits;
 pub use digits::{Digits, digit_cells};
+pub use effort::Effort;
 pub use hazard::{hazard_depth, hazard_depth_among, hazard_depth_at, sounding};
 pub use laws::{digits_write_depths, least_is_least};
 pub use safety::{is_safe_area, is_safe_area_with, is_unsafe_area};

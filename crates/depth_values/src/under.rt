@@ -1,15 +1,28 @@
 //! The depth areas under an object.
 
-ghost use Rattle.std.specs.Prelude.{◌≡◌, ◌++◌, map, OnOk, IfOk};
-ghost use Rattle.std.specs.List.{flat_map};
+ghost use Rattle.std.specs.Prelude.{◌≡◌, ◌++◌, int_le, map, OnOk, IfOk};
+ghost use Rattle.std.specs.List.{list_any, flat_map, filter_map};
 ghost use Rattle.area_rings.specs.Edge.{point_of};
-ghost use Rattle.depth_values.specs.Under.{points_in, names_among, lesser, least_among, is_safe_among, areas_under};
+ghost use Rattle.depth_values.specs.Marks.{mark_of, mark_at};
+ghost use Rattle.depth_values.specs.Under.{points_in, areas_holding, names_among, lesser, least, least_among};
+ghost use Rattle.depth_values.specs.Under.{is_safe_among, areas_under};
 
-use crate::depth_area::{DepthArea, depth_areas};
+use crate::areas::{DepthAreas, depth_areas};
+use crate::asked::places_holding;
+use crate::depth_area::DepthArea;
+use crate::effort::Effort;
 use area_rings::{Shape, point};
-use chart_model::{Cell, Coord, NameList, Sequence};
+use chart_model::{Cell, Coord, Name, NameList, Sequence};
 use plane_geometry::Pt;
 use std::alloc::{AllocError, Global};
+
+/// What is told of an area that is under an object.
+#[derive(Clone, Copy, Debug)]
+struct AreaMark {
+    name: Name,
+    /// The least of its depths, in centimetres.
+    d1: i32,
+}
 
 /// Adds the points of coordinates.
 fn push_places(points: &mut Vec<Pt>, coords: &[Coord]) -> Result<(), AllocError>
@@ -42,21 +55,67 @@ fn points_in(alloc: Global, shape: &Shape) -> Result<Vec<Pt>, AllocError>
     Ok(points)
 }
 
-/// The names of those areas in or on which a point of the shape lies, in their order.
-pub fn areas_among(
+/// What is told of the area at a place.
+fn mark_at(areas: &[DepthArea], place: usize) -> Option<AreaMark>
+    ensures { result ≡ mark_at areas.now place }
+{
+    let area = areas.get(place)?;
+    Some(AreaMark {
+        name: area.name(),
+        d1: area.d1(),
+    })
+}
+
+/// What is told of the areas at some places.
+fn marks_at(
     alloc: Global,
     areas: &[DepthArea],
-    shape: &Shape,
-) -> Result<NameList, AllocError>
-    ensures { IfOk result (λ names. names ≡ names_among areas.now shape.now) }
+    places: &[usize],
+) -> Result<Vec<AreaMark>, AllocError>
+    ensures { IfOk result (λ marks. marks.items ≡ filter_map (mark_at areas.now) places.now) }
 {
-    let points = points_in(alloc, shape)?;
-    let mut names = NameList::new(alloc);
-    for area in areas {
-        if area.holds_any(points.as_slice()) {
-            names.push(area.name())?;
+    let mut marks = Vec::new(alloc);
+    for place in places {
+        if let Some(mark) = mark_at(areas, *place) {
+            marks.push(mark)?;
         }
     }
+    Ok(marks)
+}
+
+/// What is told of those areas in or on which a point of the shape lies, in their order.
+fn marks_under(
+    alloc: Global,
+    effort: &mut Effort,
+    areas: &DepthAreas,
+    shape: &Shape,
+) -> Result<Vec<AreaMark>, AllocError>
+    ensures { IfOk result (λ marks. marks.items ≡ map mark_of (areas_holding (points_in shape.now) areas.now)) }
+{
+    let points = points_in(alloc, shape)?;
+    effort.spend(points.len())?;
+    let places = places_holding(alloc, effort, areas, points.as_slice())?;
+    let marks = marks_at(alloc, areas.as_slice(), places.as_slice())?;
+    Ok(marks)
+}
+
+/// The names of areas, in their order.
+fn names_of(alloc: Global, marks: &[AreaMark]) -> Result<NameList, AllocError>
+    ensures { IfOk result (λ names. names ≡ map (λ mark. mark.name) marks.now) }
+{
+    let mut names = NameList::new(alloc);
+    for mark in marks {
+        names.push(mark.name)?;
+    }
+    Ok(names)
+}
+
+/// The names of those areas in or on which a point of the shape lies, in their order.
+pub fn areas_among(alloc: Global, areas: &DepthAreas, shape: &Shape) -> Result<NameList, AllocError>
+    ensures { IfOk result (λ names. names ≡ names_among areas.now shape.now) }
+{
+    let marks = marks_under(alloc, &mut Effort::whole(), areas, shape)?;
+    let names = names_of(alloc, marks.as_slice())?;
     Ok(names)
 }
 
@@ -70,42 +129,53 @@ fn lesser(other: Option<i32>, n: i32) -> Option<i32>
     }
 }
 
+/// The least depth of areas, in centimetres; `None` where there is none.
+fn least_of(marks: &[AreaMark]) -> Option<i32>
+    ensures { result ≡ least (map (λ mark. mark.d1) marks.now) }
+{
+    let mut least: Option<i32> = None;
+    for mark in marks {
+        least = lesser(least, mark.d1);
+    }
+    least
+}
+
 /// The least depth, in centimetres, of those areas in or on which a point of the shape lies; `None` where
 /// there is none.
 pub(crate) fn least_among(
     alloc: Global,
-    areas: &[DepthArea],
+    effort: &mut Effort,
+    areas: &DepthAreas,
     shape: &Shape,
 ) -> Result<Option<i32>, AllocError>
     ensures { IfOk result (λ depth. depth ≡ least_among areas.now shape.now) }
 {
-    let points = points_in(alloc, shape)?;
-    let mut least: Option<i32> = None;
-    for area in areas {
-        if area.holds_any(points.as_slice()) {
-            least = lesser(least, area.d1());
-        }
-    }
-    Ok(least)
+    let marks = marks_under(alloc, effort, areas, shape)?;
+    let depth = least_of(marks.as_slice());
+    Ok(depth)
+}
+
+/// Whether one of the areas is the safety contour deep or more, in centimetres.
+fn is_any_safe(marks: &[AreaMark], safety_contour: i32) -> bool
+    ensures { result ≡ list_any (λ mark. int_le safety_contour mark.d1) marks.now }
+{
+    marks.iter().any(|mark| safety_contour <= mark.d1)
 }
 
 /// Whether one of those areas in or on which a point of the shape lies is safe: its least depth is the safety contour,
 /// in centimetres, or more.
 pub fn is_safe_among(
     alloc: Global,
-    areas: &[DepthArea],
+    effort: &mut Effort,
+    areas: &DepthAreas,
     safety_contour: i32,
     shape: &Shape,
 ) -> Result<bool, AllocError>
     ensures { IfOk result (λ safe. safe ≡ is_safe_among areas.now safety_contour shape.now) }
 {
-    let points = points_in(alloc, shape)?;
-    for area in areas {
-        if safety_contour <= area.d1() && area.holds_any(points.as_slice()) {
-            return Ok(true);
-        }
-    }
-    Ok(false)
+    let marks = marks_under(alloc, effort, areas, shape)?;
+    let safe = is_any_safe(marks.as_slice(), safety_contour);
+    Ok(safe)
 }
 
 /// The names of the depth areas and dredged areas of the cell in or on which a point of the shape lies, in order:
@@ -114,5 +184,5 @@ pub fn areas_under(alloc: Global, cell: &Cell, shape: &Shape) -> Result<NameList
     ensures { IfOk result (λ names. names ≡ areas_under cell.now shape.now) }
 {
     let areas = depth_areas(alloc, cell)?;
-    areas_among(alloc, areas.as_slice(), shape)
+    areas_among(alloc, &areas, shape)
 }

@@ -10,7 +10,7 @@ ghost use Rattle.draw_list.specs.Block.{line_for, geom_of, is_hidden, unknown_it
 ghost use Rattle.draw_list.specs.Known.{AreKnown};
 ghost use Rattle.topology_cache.specs.Users.{AreUsersOf};
 
-use crate::items::{KnownAreas, items_of};
+use crate::items::{Known, items_of};
 use crate::sources::Sources;
 use chart_model::codes::{AREA, LINE, POINT};
 use chart_model::{AttrMap, Block, Cell, Feature, Geom, ItemList, Name, Settings, Target};
@@ -67,16 +67,16 @@ fn unknown_items(alloc: Global) -> Result<ItemList, AllocError>
 /// The block of a feature of a geometry, by the table's line for it.
 fn block_with(
     alloc: Global,
-    known: &mut KnownAreas,
+    known: &mut Known,
     from: &Sources,
     feature: &Feature,
     geom: Geom,
     line: Option<&TableLine>,
 ) -> Result<Block, AllocError>
-    requires { AreKnown from.now.cell.now known.old }
+    requires { AreKnown from.now.cell.now known.old.areas }
     ensures block { IfOk result (λ block. block
         ≡ block_with from.now.cell.now from.now.settings.now feature.now geom (option_copied line.entry)) }
-    ensures known { AreKnown from.now.cell.now known.new }
+    ensures known { AreKnown from.now.cell.now known.new.areas }
 {
     match line {
         Some(line) => Ok(Block {
@@ -103,14 +103,14 @@ fn line_for<'a>(table: &'a Table, feature: &Feature, geom: Geom) -> Option<&'a T
 /// What is drawn of a feature, where it is shown.
 pub fn block_in(
     alloc: Global,
-    known: &mut KnownAreas,
+    known: &mut Known,
     from: &Sources,
     feature: &Feature,
 ) -> Result<Option<Block>, AllocError>
-    requires { AreKnown from.now.cell.now known.old }
+    requires { AreKnown from.now.cell.now known.old.areas }
     ensures block { IfOk result (λ block. block
         ≡ block_in from.now.cell.now from.now.table.now from.now.settings.now feature.now) }
-    ensures known { AreKnown from.now.cell.now known.new }
+    ensures known { AreKnown from.now.cell.now known.new.areas }
 {
     let Some(geom) = geom_of(feature.prim) else {
         return Ok(None);
@@ -147,7 +147,7 @@ pub fn block_of(
         settings,
     };
     match cell.features.get(name) {
-        Some(feature) => block_in(alloc, &mut None, &from, feature),
+        Some(feature) => block_in(alloc, &mut Known::nothing(), &from, feature),
         None => Ok(None),
     }
 }

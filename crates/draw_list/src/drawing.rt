@@ -8,6 +8,7 @@ ghost use Rattle.topology_cache.specs.Users.{AreUsersOf};
 ghost use Rattle.draw_list.specs.Drawing.{IsDrawing, drawing_of, key_of, blocks_in, drawn_with};
 
 use crate::block::block_in;
+use crate::items::Known;
 use crate::sources::Sources;
 use chart_model::{Block, Cell, Geom, Sequence, Settings};
 use lookup_table::Table;
@@ -64,7 +65,7 @@ fn blocks_of(alloc: Global, from: &Sources) -> Result<Vec<Drawn>, AllocError>
         blocks.items ≡ blocks_in from.now.cell.now from.now.table.now from.now.settings.now) }
 {
     let cell = from.cell;
-    let mut known = None;
+    let mut known = Known::nothing();
     let mut blocks = Vec::new(alloc);
     for (name, feature) in cell.features.iter() {
         let block = block_in(alloc, &mut known, from, feature)?;

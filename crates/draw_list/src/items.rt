@@ -12,17 +12,44 @@ ghost use Rattle.draw_list.specs.Known.{AreKnown};
 use crate::sources::Sources;
 use chart_model::{Cell, Feature, ItemList, Target};
 use depth_symbology::{push_depare01, push_depcnt02, push_soundg02};
-use depth_values::{DepthAreas, depth_areas};
+use depth_values::{DepthAreas, Effort, depth_areas};
 use draw_items::push_item;
 use hazard_symbology::push_hazard;
 use lookup_table::{Instruction, InstructionList, Procedure};
 use std::alloc::{AllocError, Global};
 
-/// The depth areas of the cell that is drawn, where they were made already: only hazards ask for them.
-pub type KnownAreas = Option<DepthAreas>;
+/// What an instruction costs that is drawn as it stands, in tests of a point against a segment: all items of a drawing
+/// have to fit in memory.
+const COST_OF_ITEM: usize = 75;
+
+/// What a drawing has made already, and how much more it may ask for.
+#[derive(Debug, Drop)]
+pub struct Known {
+    /// The depth areas of the cell that is drawn, where they were made: only hazards ask for them.
+    pub areas: Option<DepthAreas>,
+    pub effort: Effort,
+}
+
+impl Known {
+    ghost use Rattle.std.specs.Prelude.{◌≡◌, None};
+
+    /// That of a drawing that begins.
+    pub fn nothing() -> Known
+        ensures { result.areas ≡ None }
+    {
+        Known {
+            areas: None,
+            effort: Effort::whole(),
+        }
+    }
+}
 
 /// The depth areas of a cell, which are made where they aren't known.
-fn known_areas(alloc: Global, cell: &Cell, known: KnownAreas) -> Result<DepthAreas, AllocError>
+fn known_areas(
+    alloc: Global,
+    cell: &Cell,
+    known: Option<DepthAreas>,
+) -> Result<DepthAreas, AllocError>
     requires { AreKnown cell.now known }
     ensures { IfOk result (λ areas. areas ≡ areas_of cell.now) }
 {
@@ -36,25 +63,26 @@ fn known_areas(alloc: Global, cell: &Cell, known: KnownAreas) -> Result<DepthAre
 fn push_hazard_items(
     alloc: Global,
     items: &mut ItemList,
-    known: &mut KnownAreas,
+    known: &mut Known,
     from: &Sources,
     feature: &Feature,
 ) -> Result<(), AllocError>
-    requires { AreKnown from.now.cell.now known.old }
+    requires { AreKnown from.now.cell.now known.old.areas }
     ensures items { OnOk result
         (items.new ≡ items.old ++ hazard_items from.now.cell.now from.now.settings.now feature.now) }
-    ensures known { AreKnown from.now.cell.now known.new }
+    ensures known { AreKnown from.now.cell.now known.new.areas }
 {
-    let areas = known_areas(alloc, from.cell, known.take())?;
+    let areas = known_areas(alloc, from.cell, known.areas.take())?;
     push_hazard(
         alloc,
+        &mut known.effort,
         items,
-        areas.as_slice(),
+        &areas,
         from.cell,
         from.settings,
         feature,
     )?;
-    *known = Some(areas);
+    known.areas = Some(areas);
     Ok(())
 }
 
@@ -62,15 +90,15 @@ fn push_hazard_items(
 fn push_called(
     alloc: Global,
     items: &mut ItemList,
-    known: &mut KnownAreas,
+    known: &mut Known,
     from: &Sources,
     feature: &Feature,
     procedure: Procedure,
 ) -> Result<(), AllocError>
-    requires { AreKnown from.now.cell.now known.old }
+    requires { AreKnown from.now.cell.now known.old.areas }
     ensures items { OnOk result
         (items.new ≡ items.old ++ procedure_items from.now.cell.now from.now.settings.now feature.now procedure) }
-    ensures known { AreKnown from.now.cell.now known.new }
+    ensures known { AreKnown from.now.cell.now known.new.areas }
 {
     let Sources {
         cell,
@@ -79,9 +107,24 @@ fn push_called(
         ..
     } = *from;
     match procedure {
-        Procedure::Depare01 => push_depare01(alloc, items, cell, users, settings, feature),
+        Procedure::Depare01 => push_depare01(
+            alloc,
+            &mut known.effort,
+            items,
+            cell,
+            users,
+            settings,
+            feature,
+        ),
         Procedure::Depcnt02 => push_depcnt02(alloc, items, cell, settings, feature),
-        Procedure::Soundg02 => push_soundg02(alloc, items, cell, settings, feature),
+        Procedure::Soundg02 => push_soundg02(
+            alloc,
+            &mut known.effort,
+            items,
+            cell,
+            settings,
+            feature,
+        ),
         Procedure::Obstrn04 | Procedure::Wrecks02 => {
             push_hazard_items(alloc, items, known, from, feature)
         }
@@ -92,18 +135,21 @@ fn push_called(
 fn push_instruction(
     alloc: Global,
     items: &mut ItemList,
-    known: &mut KnownAreas,
+    known: &mut Known,
     from: &Sources,
     feature: &Feature,
     instruction: &Instruction,
 ) -> Result<(), AllocError>
-    requires { AreKnown from.now.cell.now known.old }
+    requires { AreKnown from.now.cell.now known.old.areas }
     ensures items { OnOk result
         (items.new ≡ items.old ++ items_by from.now.cell.now from.now.settings.now feature.now instruction.now) }
-    ensures known { AreKnown from.now.cell.now known.new }
+    ensures known { AreKnown from.now.cell.now known.new.areas }
 {
     match instruction {
-        Instruction::Draw(text) => push_item(alloc, items, Target::Whole, text.as_slice()),
+        Instruction::Draw(text) => {
+            known.effort.spend(COST_OF_ITEM)?;
+            push_item(alloc, items, Target::Whole, text.as_slice())
+        }
         Instruction::Call(procedure) => push_called(alloc, items, known, from, feature, *procedure),
     }
 }
@@ -111,15 +157,15 @@ fn push_instruction(
 /// What instructions draw of a feature, one after the other.
 pub fn items_of(
     alloc: Global,
-    known: &mut KnownAreas,
+    known: &mut Known,
     from: &Sources,
     feature: &Feature,
     instructions: &InstructionList,
 ) -> Result<ItemList, AllocError>
-    requires { AreKnown from.now.cell.now known.old }
+    requires { AreKnown from.now.cell.now known.old.areas }
     ensures items { IfOk result (λ items.
         items ≡ flat_map (items_by from.now.cell.now from.now.settings.now feature.now) instructions.now) }
-    ensures known { AreKnown from.now.cell.now known.new }
+    ensures known { AreKnown from.now.cell.now known.new.areas }
 {
     let mut items = ItemList::new(alloc);
     for instruction in instructions.as_slice() {

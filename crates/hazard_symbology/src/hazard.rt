@@ -10,13 +10,14 @@ use crate::edges::{push_area, push_line};
 use crate::point::push_point;
 use chart_model::codes::{AREA, LINE, POINT};
 use chart_model::{Cell, Feature, ItemList, Name, Settings};
-use depth_values::{DepthArea, depth_areas, hazard_depth_among};
+use depth_values::{DepthAreas, Effort, depth_areas, hazard_depth_among};
 use std::alloc::{AllocError, Global};
 
 /// Whether a hazard is a danger: its depth is at most the safety contour.
 fn is_danger(
     alloc: Global,
-    areas: &[DepthArea],
+    effort: &mut Effort,
+    areas: &DepthAreas,
     cell: &Cell,
     settings: &Settings,
     feature: &Feature,
@@ -24,16 +25,18 @@ fn is_danger(
     requires { areas.now ≡ areas_of cell.now }
     ensures { IfOk result (λ danger. danger ≡ is_danger cell.now settings.now feature.now) }
 {
-    let depth = hazard_depth_among(alloc, areas, cell, feature)?;
+    let depth = hazard_depth_among(alloc, effort, areas, cell, feature)?;
     Ok(depth <= settings.safety_contour)
 }
 
 /// Adds what is drawn of a hazard, by its geometry and its depth: a hazard no deeper than the safety contour is a
-/// danger. Nothing is drawn of what has no geometry. It needs the depth areas of the cell.
+/// danger. Nothing is drawn of what has no geometry. It needs the depth areas of the cell, and takes of the effort what it
+/// asks of them.
 pub fn push_hazard(
     alloc: Global,
+    effort: &mut Effort,
     items: &mut ItemList,
-    areas: &[DepthArea],
+    areas: &DepthAreas,
     cell: &Cell,
     settings: &Settings,
     feature: &Feature,
@@ -42,13 +45,13 @@ pub fn push_hazard(
     ensures { OnOk result (items.new ≡ items.old ++ hazard_items cell.now settings.now feature.now) }
 {
     match feature.prim {
-        POINT => push_point(alloc, items, areas, cell, settings, feature),
+        POINT => push_point(alloc, effort, items, areas, cell, settings, feature),
         LINE => {
-            let danger = is_danger(alloc, areas, cell, settings, feature)?;
+            let danger = is_danger(alloc, effort, areas, cell, settings, feature)?;
             push_line(alloc, items, feature, danger)
         }
         AREA => {
-            let danger = is_danger(alloc, areas, cell, settings, feature)?;
+            let danger = is_danger(alloc, effort, areas, cell, settings, feature)?;
             push_area(alloc, items, feature, danger)
         }
         _ => Ok(()),
@@ -67,7 +70,15 @@ fn hazard_at(
     let mut items = ItemList::new(alloc);
     if let Some(feature) = cell.features.get(name) {
         let areas = depth_areas(alloc, cell)?;
-        push_hazard(alloc, &mut items, areas.as_slice(), cell, settings, feature)?;
+        push_hazard(
+            alloc,
+            &mut Effort::whole(),
+            &mut items,
+            &areas,
+            cell,
+            settings,
+            feature,
+        )?;
     }
     Ok(items)
 }

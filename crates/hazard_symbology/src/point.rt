@@ -10,9 +10,9 @@ ghost use Rattle.depth_values.specs.Hazard.{sounding_of};
 ghost use Rattle.hazard_symbology.specs.Point.{danger_symbol, depth_items, is_isolated, items_by, point_items};
 
 use crate::symbol::symbol_of;
-use area_rings::feature_shape;
+use area_rings::{Shape, feature_shape};
 use chart_model::{Cell, Feature, ItemList, Settings, Target};
-use depth_values::{DepthArea, hazard_depth_at, is_safe_among, push_digits, sounding};
+use depth_values::{DepthAreas, Effort, hazard_depth_at, is_safe_among, push_digits, sounding};
 use draw_items::push_item;
 use std::alloc::{AllocError, Global};
 
@@ -46,11 +46,20 @@ fn push_depth(
     push_digits(alloc, items, Target::Whole, depth, safety_depth)
 }
 
+/// Takes the places of a hazard at a point of the effort: many hazards may be at the many places of one node.
+fn spend_places(effort: &mut Effort, shape: &Shape) -> Result<(), AllocError> {
+    match shape {
+        Shape::Points(coords) => effort.spend(coords.as_slice().len()),
+        _ => Ok(()),
+    }
+}
+
 /// Whether a hazard at a point is an isolated danger: no deeper than the safety contour, in water that is safe. Its
 /// shape is made once, for its depth and for the areas under it.
 fn is_isolated(
     alloc: Global,
-    areas: &[DepthArea],
+    effort: &mut Effort,
+    areas: &DepthAreas,
     cell: &Cell,
     safety_contour: i32,
     feature: &Feature,
@@ -61,11 +70,12 @@ fn is_isolated(
     let Some(shape) = feature_shape(alloc, cell, feature)? else {
         return Ok(false);
     };
-    let depth = hazard_depth_at(alloc, areas, feature, &shape)?;
+    spend_places(effort, &shape)?;
+    let depth = hazard_depth_at(alloc, effort, areas, feature, &shape)?;
     if safety_contour < depth {
         return Ok(false);
     }
-    is_safe_among(alloc, areas, safety_contour, &shape)
+    is_safe_among(alloc, effort, areas, safety_contour, &shape)
 }
 
 /// Adds the symbol and the digits of a hazard's own depth, where that is known, or else the symbol of its class.
@@ -88,8 +98,9 @@ fn push_by_depth(
 /// of its own depth, where that is known; or else the symbol of its class.
 pub fn push_point(
     alloc: Global,
+    effort: &mut Effort,
     items: &mut ItemList,
-    areas: &[DepthArea],
+    areas: &DepthAreas,
     cell: &Cell,
     settings: &Settings,
     feature: &Feature,
@@ -97,7 +108,7 @@ pub fn push_point(
     requires { areas.now ≡ areas_of cell.now }
     ensures { OnOk result (items.new ≡ items.old ++ point_items cell.now settings.now feature.now) }
 {
-    if is_isolated(alloc, areas, cell, settings.safety_contour, feature)? {
+    if is_isolated(alloc, effort, areas, cell, settings.safety_contour, feature)? {
         return push_item(alloc, items, Target::Whole, b"SY(ISODGR01)");
     }
     push_by_depth(alloc, items, settings, feature)

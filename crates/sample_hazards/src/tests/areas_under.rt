@@ -79,7 +79,7 @@ fn are_under(alloc: Global, numbers: &[u32], shape: &Shape) -> Result<bool, Fail
     let cell = chart(alloc, &SQUARES)?;
     let areas = depth_areas(alloc, &cell)?;
     let names = areas_under(alloc, &cell, shape)?;
-    let again = areas_among(alloc, areas.as_slice(), shape)?;
+    let again = areas_among(alloc, &areas, shape)?;
     Ok(are_names(names.as_slice(), numbers) && are_names(again.as_slice(), numbers))
 }
 

@@ -2,7 +2,7 @@
 
 use crate::tests::squares::{BETWEEN, DEEP, NOWHERE, OUTSIDE, SHALLOW, SQUARES, object};
 use depth_values::codes::{OBSTRN, UWTROC, WRECKS};
-use depth_values::{depth_areas, hazard_depth, hazard_depth_among, least_is_least};
+use depth_values::{Effort, depth_areas, hazard_depth, hazard_depth_among, least_is_least};
 use sample_rows::{Item, Row, Setting, chart, name};
 use std::alloc::Global;
 use std::test::Fail;
@@ -72,7 +72,7 @@ fn depths(alloc: Global, row: &Row) -> Result<(i32, i32), Fail> {
     let feature = object.features.get(name!(100, 9)).ok_or("a feature")?;
     let areas = depth_areas(alloc, &cell)?;
     let depth = hazard_depth(alloc, &cell, feature)?;
-    let again = hazard_depth_among(alloc, areas.as_slice(), &cell, feature)?;
+    let again = hazard_depth_among(alloc, &mut Effort::whole(), &areas, &cell, feature)?;
     Ok((depth, again))
 }
 

@@ -8,6 +8,6 @@ use Rattle.depth_symbology.proofs.depth_area.borders_unsafe.Goals as goal
 pub returns : goal.returns
 returns c =
     let among =
-    ap (λ (names : List Name). list_any (is_unsafe_at c.args.cell.now c.args.contour) names) c.edge_users.ensures
+    ap (λ (names : List Name). list_any (is_unsafe_at c.args.cell.now c.args.contour) names) c.edge_users-names.ensures
     ∙ unsafe_users c.args.cell.now c.args.users.now c.args.contour c.args.edge c.requires in
     search rules

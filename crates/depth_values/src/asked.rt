@@ -1,0 +1,122 @@
+//! Which depth areas hold one of some points.
+//!
+//! Only the areas of those groups are asked whose box meets the box round the points.
+
+ghost use Rattle.std.specs.Prelude.{◌≡◌, All, Contains, OnOk, IfOk};
+ghost use Rattle.std.specs.List.Sorted.{IsStrictlyIncreasing};
+ghost use Rattle.plane_bounds.specs.Bounds.{IsIn};
+ghost use Rattle.depth_values.specs.Groups.{IsGroup, AreGrouped, StandsIn};
+ghost use Rattle.depth_values.specs.Asked.{AreAsked, AreHolding};
+
+use crate::areas::DepthAreas;
+use crate::depth_area::DepthArea;
+use crate::effort::Effort;
+use crate::groups::Group;
+use plane_bounds::{Bounds, insides_are_in_bounds, points_are_inside};
+use plane_geometry::Pt;
+use std::alloc::{AllocError, Global};
+
+/// A box round points: of none, one that no point is in.
+fn bounds_round(points: &[Pt]) -> Bounds
+    ensures { All (IsIn result) points.now }
+{
+    let mut bounds = Bounds::NOTHING;
+    for p in points {
+        bounds = bounds.with(*p);
+    }
+    bounds
+}
+
+/// Adds a place, where the area there holds one of the points.
+fn push_place(
+    effort: &mut Effort,
+    held: &mut Vec<usize>,
+    areas: &[DepthArea],
+    points: &[Pt],
+    place: usize,
+) -> Result<(), AllocError>
+    ensures { OnOk result (AreAsked points.now areas.now (λ asked. asked ≡ place) held.old.items held.new.items) }
+{
+    let Some(area) = areas.get(place) else {
+        return Ok(());
+    };
+    let holds = area.holds_any(effort, points)?;
+    if holds {
+        held.push(place)?;
+    }
+    Ok(())
+}
+
+/// Adds those of some places where the area holds one of the points.
+fn push_places(
+    effort: &mut Effort,
+    held: &mut Vec<usize>,
+    areas: &[DepthArea],
+    points: &[Pt],
+    places: &[usize],
+) -> Result<(), AllocError>
+    ensures { OnOk result (AreAsked points.now areas.now (Contains places.now) held.old.items held.new.items) }
+{
+    for place in places {
+        push_place(effort, held, areas, points, *place)?;
+    }
+    Ok(())
+}
+
+/// Adds those places of a group where the area holds one of the points, which are all in a box. Where the boxes don't
+/// meet there is none.
+fn push_group(
+    effort: &mut Effort,
+    held: &mut Vec<usize>,
+    areas: &[DepthArea],
+    points: &[Pt],
+    bounds: Bounds,
+    group: &Group,
+) -> Result<(), AllocError>
+    requires round { IsGroup areas.now group.now }
+    requires within { All (IsIn bounds) points.now }
+    ensures { OnOk result
+        (AreAsked points.now areas.now (Contains group.now.places.items) held.old.items held.new.items) }
+{
+    points_are_inside();
+    insides_are_in_bounds();
+    if group.bounds.meets(bounds) {
+        return push_places(effort, held, areas, points, group.places.as_slice());
+    }
+    Ok(())
+}
+
+/// Adds those places of groups where the area holds one of the points.
+fn push_groups(
+    effort: &mut Effort,
+    held: &mut Vec<usize>,
+    areas: &[DepthArea],
+    points: &[Pt],
+    groups: &[Group],
+) -> Result<(), AllocError>
+    requires { AreGrouped areas.now groups.now }
+    ensures { OnOk result (AreAsked points.now areas.now (StandsIn groups.now) held.old.items held.new.items) }
+{
+    let bounds = bounds_round(points);
+    for group in groups {
+        push_group(effort, held, areas, points, bounds, group)?;
+    }
+    Ok(())
+}
+
+/// The places of the areas that hold one of the points, in order, each once.
+pub(crate) fn places_holding(
+    alloc: Global,
+    effort: &mut Effort,
+    areas: &DepthAreas,
+    points: &[Pt],
+) -> Result<Vec<usize>, AllocError>
+    ensures held { IfOk result (λ places. AreHolding points.now areas.now places.items) }
+    ensures ordered { IfOk result (λ places. IsStrictlyIncreasing places.items) }
+{
+    let mut held = Vec::new(alloc);
+    push_groups(effort, &mut held, areas.as_slice(), points, areas.groups())?;
+    held.sort()?;
+    held.dedup();
+    Ok(held)
+}
