@@ -1,13 +1,13 @@
-//! The two axes, each cut into 64 parts of one width.
+//! The two axes, each cut into up to 64 parts of one width.
 
 ghost use Rattle.std.specs.Prelude.{◌≡◌, ◌≤◌, ◌<◌, ◌-ℤ◌, unsigned_abs};
 ghost use Rattle.std.specs.Int.{int_min, int_max};
 
-/// How many parts an axis has.
+/// How many parts an axis has at most.
 const PARTS: u64 = 64;
 
-/// From where to where the boxes of a chart reach on an axis, in degrees times 10,000,000, and how wide one of its 64
-/// parts is.
+/// From where to where the boxes of a chart reach on an axis, in degrees times 10,000,000, and how wide one of its parts
+/// is.
 #[derive(Clone, Copy, Debug)]
 pub struct Axis {
     pub(crate) low: i64,
@@ -41,7 +41,7 @@ fn clamped(low: i64, high: i64, n: i64) -> i64
 }
 
 /// How far two numbers are apart.
-fn distance(a: i64, b: i64) -> u64
+pub(crate) fn distance(a: i64, b: i64) -> u64
     ensures { result ≡ unsigned_abs (a -ℤ b) }
 {
     a.abs_diff(b)
@@ -51,12 +51,13 @@ impl Axis {
     ghost use Rattle.std.specs.Prelude.{◌≡◌, ◌<◌};
     ghost use Rattle.spatial_grid.specs.Buckets.{index_on};
 
-    /// The axis from one number to another.
-    pub(crate) fn over(low: i64, high: i64) -> Axis {
+    /// The axis from one number to another, for boxes that are so wide on average. A part is at least as wide as that,
+    /// so that most boxes stand in two parts at most.
+    pub(crate) fn over(low: i64, high: i64, average: u64) -> Axis {
         Axis {
             low,
             high,
-            width: distance(high, low) / PARTS + 1,
+            width: (distance(high, low) / PARTS + 1).max(average),
         }
     }
 

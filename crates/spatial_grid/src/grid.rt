@@ -3,7 +3,7 @@
 ghost use Rattle.std.specs.Prelude.{IfOk};
 ghost use Rattle.spatial_grid.specs.Box.{IsGridOf};
 
-use crate::axis::Axis;
+use crate::axis::{Axis, distance};
 use crate::boxes::boxes_of;
 use crate::candidates::{each_once, names_met};
 use crate::entries::entries_of;
@@ -13,7 +13,7 @@ use plane_bounds::Bounds;
 use std::alloc::{AllocError, Global};
 use std::marker::Model;
 
-/// The boxes of the features of a chart, in 64 by 64 buckets over all of them. Contracts see the map from the name of a
+/// The boxes of the features of a chart, in up to 64 by 64 buckets over all of them. Contracts see the map from the name of a
 /// feature to its box.
 ///
 /// A box stands in each bucket that it covers, up to 64; what covers more stands beside the buckets.
@@ -61,14 +61,27 @@ fn reach(boxes: &[(Name, Bounds)]) -> Bounds {
     all
 }
 
+/// How wide and how high boxes are on average. Nothing that is answered hangs on it, but how fast.
+fn average_size(boxes: &[(Name, Bounds)]) -> (u64, u64) {
+    let mut width: u64 = 0;
+    let mut height: u64 = 0;
+    for (_, bounds) in boxes {
+        width = width.saturating_add(distance(bounds.x0, bounds.x1));
+        height = height.saturating_add(distance(bounds.y0, bounds.y1));
+    }
+    let count = boxes.len().max(1) as u64;
+    (width / count, height / count)
+}
+
 /// The grid of a chart: exactly the features whose shape has a point, each with the least box that holds its shape.
 pub fn grid_of(alloc: Global, cell: &Cell) -> Result<Grid, AllocError>
     ensures { IfOk result (λ grid. IsGridOf cell.now grid) }
 {
     let boxes = boxes_of(alloc, cell)?;
     let all = reach(boxes.as_slice());
-    let rows = Axis::over(all.y0, all.y1);
-    let columns = Axis::over(all.x0, all.x1);
+    let (width, height) = average_size(boxes.as_slice());
+    let rows = Axis::over(all.y0, all.y1, height);
+    let columns = Axis::over(all.x0, all.x1, width);
     let entries = entries_of(alloc, boxes.as_slice(), rows, columns)?;
     Ok(Grid {
         boxes,

@@ -14,7 +14,7 @@ invariant_of-result c = record {
   sorted = subst (λ (l : List (Name × Bounds)). T (is_sorted name_cmp l)) (sym c.in_ok-boxes.ensures) (boxes_sorted c.args.cell.now);
   ordered = c.in_ok-entries.ensures.ordered;
   entered =
-      subst (λ (l : List (Name × Bounds)). AreEntered l c.over-rows.result c.over-columns.result c.in_ok-entries.entries.items) c.as_slice-2.ensures.value c.in_ok-entries.ensures.entered;
+      subst (λ (l : List (Name × Bounds)). AreEntered l c.over-rows.result c.over-columns.result c.in_ok-entries.entries.items) c.as_slice-3.ensures.value c.in_ok-entries.ensures.entered;
 }
 
 pub returns : goal.returns
