@@ -1,5 +1,5 @@
--- A leg meets no shape in a box that it doesn't reach.
-use Rattle.std.proofs.Common.{◌≡◌, inl, inr, ℤ, Bool, true, false, List, [], ◌∷◌, refl}
+-- A leg meets a shape in a box only where it reaches the box.
+use Rattle.std.proofs.Common.{◌≡◌, inl, inr, Bool, true, false, List, [], ◌∷◌, refl}
 use Rattle.std.specs.List.{All, Any, list_any}
 use Rattle.std.proofs.lemmas.List.Folds.{Any-from_list_any}
 use Rattle.chart_model.specs.declared.record.Coord.{Coord}
@@ -7,7 +7,7 @@ use Rattle.plane_geometry.specs.declared.point.Pt.{Pt}
 use Rattle.plane_geometry.specs.EvenOdd.{all_segments}
 use Rattle.plane_geometry.proofs.Walk.{AnyOf, any_out}
 use Rattle.plane_bounds.specs.declared.bounds.Bounds.{Bounds}
-use Rattle.plane_bounds.specs.Bounds.{IsIn, RingsIn}
+use Rattle.plane_bounds.specs.Bounds.{IsIn, RingsIn, Meets}
 use Rattle.plane_bounds.proofs.Ends.{AllOf, all_out, Ends, ends_zip, ends_rings}
 use Rattle.plane_bounds.proofs.Outside.{inside_in_bounds}
 use Rattle.area_rings.specs.declared.shape.Shape.{Shape}
@@ -20,8 +20,8 @@ use Rattle.route_geometry.specs.Parted.{meets_segment}
 use Rattle.route_geometry.proofs.Tested.{tested_is_met, tested_area_is_met}
 use Rattle.route_check.specs.Meeting.{line_segments, meets_coord, meets_line, meets_shape}
 use Rattle.route_check.specs.Object.{ShapeIn}
-use Rattle.route_check.specs.Reach.{IsReach, Overlaps}
-use Rattle.route_check.proofs.Reaches.{met_overlaps, begun_overlaps}
+use Rattle.route_check.specs.Reach.{reach_of}
+use Rattle.route_check.proofs.Reaches.{met_meets, begun_meets}
 
 not_true : (b : Bool) → (b ≡ true → ⊥) → b ≡ false
 not_true true h = absurd (h refl)
@@ -49,29 +49,29 @@ ends_line : (P : Pt → Type 0) (line : List Pt) → AllOf P line → AllOf (End
 ends_line P [] h = tt
 ends_line P (first ∷ others) h = ends_zip P (first ∷ others) others h h.1
 
-module _ (leg : Leg) (bounds : Bounds) (west south east north : ℤ) (reach : IsReach leg west south east north) where
+module _ (leg : Leg) (bounds : Bounds) where
   abbrev Reaches : Type 0
-  Reaches = Overlaps bounds west south east north
+  Reaches = Meets bounds (reach_of leg)
 
   segment_reached : (ends : Both (Ends (IsIn bounds)) (λ s. MeetsSegment leg s.0 s.1)) → Reaches
-  segment_reached ends = met_overlaps leg bounds west south east north reach ends.x.0 ends.x.1 ends.first.0 ends.first.1 ends.second
+  segment_reached ends = met_meets leg bounds ends.x.0 ends.x.1 ends.first.0 ends.first.1 ends.second
 
   coord_reached : (coord : Coord) → IsIn bounds (point_of coord) → meets_coord leg coord ≡ true → Reaches
   coord_reached coord q e =
-      met_overlaps leg bounds west south east north reach (point_of coord) (point_of coord) q q (tested_is_met leg (point_of coord) (point_of coord) e)
+      met_meets leg bounds (point_of coord) (point_of coord) q q (tested_is_met leg (point_of coord) (point_of coord) e)
 
   line_reached : (line : List Pt) → All (IsIn bounds) line → meets_line leg line ≡ true → Reaches
   line_reached line all e =
       let ends = both (Ends (IsIn bounds)) (λ s. meets_segment leg s.0 s.1 ≡ true) (line_segments line) (ends_line (IsIn bounds) line (all_out (IsIn bounds) line all)) (Any-from_list_any (λ s. meets_segment leg s.0 s.1) (line_segments line) e) in
-      met_overlaps leg bounds west south east north reach ends.x.0 ends.x.1 ends.first.0 ends.first.1 (tested_is_met leg ends.x.0 ends.x.1 ends.second)
+      met_meets leg bounds ends.x.0 ends.x.1 ends.first.0 ends.first.1 (tested_is_met leg ends.x.0 ends.x.1 ends.second)
 
   area_reached : (rings : List (List Pt)) → RingsIn bounds rings → MeetsArea leg rings → Reaches
   area_reached rings all (inl some) =
       segment_reached (both (Ends (IsIn bounds)) (λ s. MeetsSegment leg s.0 s.1) (all_segments rings) (ends_rings (IsIn bounds) rings (all_out (All (IsIn bounds)) rings all)) some)
   area_reached rings all (inr inside) =
-      begun_overlaps leg bounds west south east north reach (inside_in_bounds bounds leg.a rings all inside)
+      begun_meets leg bounds (inside_in_bounds bounds leg.a rings all inside)
 
-  reached : (shape : Shape) → ShapeIn bounds shape → meets_shape leg shape ≡ true → Reaches
+  pub reached : (shape : Shape) → ShapeIn bounds shape → meets_shape leg shape ≡ true → Reaches
   reached (Points coords) all e =
       let found = tested (λ coord. IsIn bounds (point_of coord)) (meets_coord leg) coords all e in
       coord_reached found.x found.first found.second

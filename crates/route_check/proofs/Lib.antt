@@ -13,4 +13,9 @@ pub mod RouteLines
 pub mod Drafts
 pub mod Progress
 pub mod Files
-pub mod Areas
+pub mod Gaining
+pub mod Once
+pub mod Unique
+pub mod Asking
+pub mod Asked
+pub mod Whole

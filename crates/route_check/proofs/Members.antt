@@ -19,16 +19,16 @@ has_in (y ∷ ys) x (inr h) =
     let w = has_in ys x h in
     (suc w.0, omega (arith, w.1), w.2)
 
-has_left : {X : Type 0} (xs ys : List X) (x : X) → Has x xs → Has x (xs ++ ys)
+pub has_left : {X : Type 0} (xs ys : List X) (x : X) → Has x xs → Has x (xs ++ ys)
 has_left [] ys x h = absurd h
 has_left (z ∷ zs) ys x (inl e) = inl e
 has_left (z ∷ zs) ys x (inr h) = inr (has_left zs ys x h)
 
-has_right : {X : Type 0} (xs ys : List X) (x : X) → Has x ys → Has x (xs ++ ys)
+pub has_right : {X : Type 0} (xs ys : List X) (x : X) → Has x ys → Has x (xs ++ ys)
 has_right [] ys x h = h
 has_right (z ∷ zs) ys x h = inr (has_right zs ys x h)
 
-has_either : {X : Type 0} (xs ys : List X) (x : X) → Has x (xs ++ ys) → Has x xs ⊎ Has x ys
+pub has_either : {X : Type 0} (xs ys : List X) (x : X) → Has x (xs ++ ys) → Has x xs ⊎ Has x ys
 has_either [] ys x h = inr h
 has_either (z ∷ zs) ys x (inl e) = inl (inl e)
 has_either (z ∷ zs) ys x (inr h) = elim (has_either zs ys x h) [ inl a ↦ inl (inr a) | inr b ↦ inr b ]

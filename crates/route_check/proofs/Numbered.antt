@@ -1,31 +1,7 @@
 -- Lists whose elements are numbered.
-use Rattle.std.proofs.Common.{◌≡◌, ℕ, ◌+◌, ◌-◌, ◌<◌, ◌≤◌, zero, suc, List, [], ◌∷◌, ◌++◌, inl, inr, length, drop, Some, None, sym, ap, ◌∙◌, append_assoc, subst, arith}
-use Rattle.std.specs.List.{slice_get, flat_map, enumerate_from}
-use Rattle.std.proofs.lemmas.List.{drop_more, drop_all, append-nil}
-use Rattle.std.proofs.lemmas.Option.{slice_get_within, get_or_from_slice_get}
+use Rattle.std.proofs.Common.{◌≡◌, ℕ, ◌+◌, ◌-◌, ◌<◌, ◌≤◌, zero, suc, List, [], ◌∷◌, inl, inr, Some, None, ap, subst, arith}
+use Rattle.std.specs.List.{slice_get, enumerate_from}
 use Rattle.route_check.proofs.Members.{Has, IsBefore, Rises}
-
--- the next element, with its number, and those behind it
-pub next_numbered : {X A : Type 0} (f : ℕ × X → List A) (xs : List X) (n i : ℕ) (x : X) → slice_get xs i ≡ Some x
-    → flat_map f (enumerate_from n (drop i xs)) ≡ f (n, x) ++ flat_map f (enumerate_from (n + 1) (drop (i + 1) xs))
-next_numbered {X} f xs n i x e =
-    ap (λ (l : List X). flat_map f (enumerate_from n l)) (drop_more xs i x (slice_get_within xs i x e))
-    ∙ ap (λ (y : X). f (n, y) ++ flat_map f (enumerate_from (n + 1) (drop (i + 1) xs))) (get_or_from_slice_get xs i x x e)
-
-module _ {X A : Type 0} (f : ℕ × X → List A) (xs : List X) (n i : ℕ) (all : List A) where
-  -- a walk that has come to the next element, and to the end
-  pub more_numbered : (done more : List A) (x : X) → slice_get xs i ≡ Some x → more ≡ done ++ f (n, x) → done ++ flat_map f (enumerate_from n (drop i xs)) ≡ all
-      → more ++ flat_map f (enumerate_from (n + 1) (drop (i + 1) xs)) ≡ all
-  more_numbered done more x there made e =
-      let rest = flat_map f (enumerate_from (n + 1) (drop (i + 1) xs)) in
-      ap (λ (l : List A). l ++ rest) made
-      ∙ append_assoc done (f (n, x)) rest
-      ∙ ap (λ (l : List A). done ++ l) (sym (next_numbered f xs n i x there))
-      ∙ e
-
-  pub none_numbered : (done : List A) → length xs ≤ i → done ++ flat_map f (enumerate_from n (drop i xs)) ≡ all → done ≡ all
-  none_numbered done le e =
-      sym (append-nil done) ∙ ap (λ (l : List X). done ++ flat_map f (enumerate_from n l)) (sym (drop_all i xs le)) ∙ e
 
 -- ---- which elements have which numbers
 

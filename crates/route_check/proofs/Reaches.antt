@@ -1,13 +1,30 @@
 -- A widened leg stays in the box that it reaches.
 use Rattle.std.proofs.Common.{◌≡◌, ℕ, ◌*◌, ◌≤◌, ℤ, pos, ◌+ℤ◌, ◌-ℤ◌, ◌*ℤ◌, neg_ℤ, ◌≤ℤ◌, arith}
-use Rattle.std.proofs.lemmas.Int.{ints, by_lt_z}
+use Rattle.std.specs.Int.{int_min, int_max}
+use Rattle.std.proofs.lemmas.Int.{ints, clamps, by_lt_z}
 use Rattle.plane_geometry.specs.declared.point.Pt.{Pt}
 use Rattle.plane_geometry.proofs.Integers.{times_sum, times_neg, cancel_le, scale_le, fewer_le}
 use Rattle.plane_bounds.specs.declared.bounds.Bounds.{Bounds}
-use Rattle.plane_bounds.specs.Bounds.{IsIn}
+use Rattle.plane_bounds.specs.Bounds.{IsIn, HaveCommon, Meets}
+use Rattle.plane_bounds.proofs.Meeting.{meets_where}
 use Rattle.route_geometry.specs.declared.leg.Leg.{Leg}
 use Rattle.route_geometry.specs.Leg.{place, apart, MeetsSegment}
-use Rattle.route_check.specs.Reach.{Covers, IsReach, Overlaps}
+use Rattle.route_check.specs.Reach.{reach_of}
+
+-- from low to high is all that is at most w from a or from b
+record Covers (low high a b : ℤ) (w : ℕ) : Type 0 where
+  below_a : low ≤ℤ (a -ℤ pos w)
+  below_b : low ≤ℤ (b -ℤ pos w)
+  above_a : (a +ℤ pos w) ≤ℤ high
+  above_b : (b +ℤ pos w) ≤ℤ high
+
+covers : (a b : ℤ) (w : ℕ) → Covers (int_min a b -ℤ pos w) (int_max a b +ℤ pos w) a b w
+covers a b w = record {
+  below_a = omega (arith, ints, clamps);
+  below_b = omega (arith, ints, clamps);
+  above_a = omega (arith, ints, clamps);
+  above_b = omega (arith, ints, clamps);
+}
 
 -- a way leads through no coordinate below both of its ends
 place_low : (d t : ℕ) (x a b : ℤ) → t ≤ d → x ≤ℤ a → x ≤ℤ b → (pos d *ℤ x) ≤ℤ place d t a b
@@ -44,21 +61,39 @@ near_high d t s w low high from a b c e h on on' covers above above' near =
     cancel_le d from high h
     (omega (arith, ints, near, place_high d t (high -ℤ pos w) a b on (omega (arith, ints, covers.above_a)) (omega (arith, ints, covers.above_b)), place_low d s from c e on' above above', times_sum (pos d) high (neg_ℤ (pos w)), times_neg (pos d) (pos w)))
 
-module _ (leg : Leg) (bounds : Bounds) (west south east north : ℤ) (reach : IsReach leg west south east north) where
-  -- a segment in the box is met only where the reach overlaps it
-  pub met_overlaps : (c e : Pt) → IsIn bounds c → IsIn bounds e → MeetsSegment leg c e → Overlaps bounds west south east north
-  met_overlaps c e c_in e_in m = record {
-    from_west = near_low m.d m.t m.s leg.w west east bounds.x1 leg.a.x leg.b.x c.x e.x m.parts m.on_leg m.on_segment reach.across c_in.east e_in.east m.near_x;
-    from_east = near_high m.d m.t m.s leg.w west east bounds.x0 leg.a.x leg.b.x c.x e.x m.parts m.on_leg m.on_segment reach.across c_in.west e_in.west m.near_x;
-    from_south = near_low m.d m.t m.s leg.h south north bounds.y1 leg.a.y leg.b.y c.y e.y m.parts m.on_leg m.on_segment reach.along c_in.north e_in.north m.near_y;
-    from_north = near_high m.d m.t m.s leg.h south north bounds.y0 leg.a.y leg.b.y c.y e.y m.parts m.on_leg m.on_segment reach.along c_in.south e_in.south m.near_y;
-  }
+-- what comes near a way from one number to another reaches into them
+near_common : (d t s w : ℕ) (low high from to a b c e : ℤ) → 1 ≤ d → t ≤ d → s ≤ d → Covers low high a b w → from ≤ℤ c → from ≤ℤ e → c ≤ℤ to → e ≤ℤ to
+    → apart d t s a b c e ≤ d * w → HaveCommon from to low high
+near_common d t s w low high from to a b c e h on on' covers above above' below below' near = record {
+  some = omega (arith, ints, above, below);
+  others = omega (arith, ints, covers.below_a, covers.above_a);
+  before = near_high d t s w low high from a b c e h on on' covers above above' near;
+  behind = near_low d t s w low high to a b c e h on on' covers below below' near;
+}
 
-  -- the leg begins in the box only where the reach overlaps it
-  pub begun_overlaps : IsIn bounds leg.a → Overlaps bounds west south east north
-  begun_overlaps q = record {
-    from_west = omega (arith, ints, q.east, reach.across.below_a);
-    from_east = omega (arith, ints, q.west, reach.across.above_a);
-    from_south = omega (arith, ints, q.north, reach.along.below_a);
-    from_north = omega (arith, ints, q.south, reach.along.above_a);
+module _ (leg : Leg) (bounds : Bounds) where
+  abbrev across : Covers (reach_of leg).x0 (reach_of leg).x1 leg.a.x leg.b.x leg.w
+  across = covers leg.a.x leg.b.x leg.w
+
+  abbrev along : Covers (reach_of leg).y0 (reach_of leg).y1 leg.a.y leg.b.y leg.h
+  along = covers leg.a.y leg.b.y leg.h
+
+  -- a segment in the box is met only where the leg reaches the box
+  pub met_meets : (c e : Pt) → IsIn bounds c → IsIn bounds e → MeetsSegment leg c e → Meets bounds (reach_of leg)
+  met_meets c e c_in e_in m =
+      meets_where bounds (reach_of leg)
+      (near_common m.d m.t m.s leg.w (reach_of leg).x0 (reach_of leg).x1 bounds.x0 bounds.x1 leg.a.x leg.b.x c.x e.x m.parts m.on_leg m.on_segment across c_in.west e_in.west c_in.east e_in.east m.near_x)
+      (near_common m.d m.t m.s leg.h (reach_of leg).y0 (reach_of leg).y1 bounds.y0 bounds.y1 leg.a.y leg.b.y c.y e.y m.parts m.on_leg m.on_segment along c_in.south e_in.south c_in.north e_in.north m.near_y)
+
+  -- the leg begins in the box only where it reaches the box
+  pub begun_meets : IsIn bounds leg.a → Meets bounds (reach_of leg)
+  begun_meets q = record {
+    p = leg.a;
+    in_one = q;
+    in_other = record {
+      west = omega (arith, ints, across.below_a);
+      east = omega (arith, ints, across.above_a);
+      south = omega (arith, ints, along.below_a);
+      north = omega (arith, ints, along.above_a);
+    };
   }

@@ -3,8 +3,13 @@ pub mod Route
 pub mod Reach
 pub mod Meeting
 pub mod Object
+pub mod Target
+pub mod Gains
+pub mod Grids
 pub mod Danger
 pub mod Report
+pub mod Ask
+pub mod Found
 pub mod RouteLine
 pub mod Reading
 pub mod Draft

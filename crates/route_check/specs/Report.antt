@@ -20,6 +20,7 @@ use Rattle.route_check.specs.Route.{legs_of}
 use Rattle.route_check.specs.Meeting.{MeetsShape, meets_shape}
 use Rattle.route_check.specs.Object.{ObjectValue}
 use Rattle.route_check.specs.Danger.{IsObject, objects_of}
+use Rattle.route_check.specs.Grids.{GridsValue, IsAsked}
 
 -- the leg of that number meets an object of that place, of the feature of that number, of the chart that is held under
 -- that key
@@ -46,6 +47,13 @@ danger_cmp x y =
 -- all that meet and no others, in order, each once
 pub record IsReport (state : StateValue) (settings : Settings) (route : Route) (report : List Danger) : Type 0 where
   pub rows : (danger : Danger) → Contains report danger ↔ IsRow state settings route danger
+  pub ordered : AllPairs (λ x y. danger_cmp x y ≡ Less) report
+
+-- of all these, those whose feature is a candidate of the chart's grid
+pub record IsReportBy (grids : GridsValue) (state : StateValue) (settings : Settings) (route : Route)
+    (report : List Danger) : Type 0 where
+  pub rows : (danger : Danger) → Contains report danger
+      ↔ (IsRow state settings route danger × IsAsked grids route danger)
   pub ordered : AllPairs (λ x y. danger_cmp x y ≡ Less) report
 
 -- ---- as a function

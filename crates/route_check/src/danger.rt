@@ -1,9 +1,15 @@
-//! The rows of a report.
+//! The rows of a report, and their order.
+
+ghost use Rattle.std.specs.Prelude.{◌≡◌, ◌↔◌, IfOk, Contains, AllPairs};
+ghost use Rattle.std.specs.declared.cmp.Ordering.TheVariants.{Less};
+ghost use Rattle.route_check.specs.Report.{danger_cmp};
 
 use chart_model::{Key, Sequence};
+use std::alloc::AllocError;
 
-/// A leg of a route that meets a dangerous object of a chart.
-#[derive(Clone, Copy, Debug, PartialEq, Eq)]
+/// A leg of a route that meets a dangerous object of a chart. Rows stand by leg, then by key, by the feature's number
+/// and by place.
+#[derive(Clone, Copy, Debug, PartialEq, Eq, PartialOrd, Ord)]
 pub struct Danger {
     /// The number of the leg, counted from 1.
     pub leg: u32,
@@ -15,5 +21,16 @@ pub struct Danger {
     pub place: u64,
 }
 
-/// Rows by leg, then by key, by the feature's number and by place.
+/// Rows in their order.
 pub type DangerList = Sequence<Danger>;
+
+/// The rows in order, each once.
+pub(crate) fn each_once(mut rows: Vec<Danger>) -> Result<Vec<Danger>, AllocError>
+    ensures same { IfOk result
+        (λ sorted. (danger : Danger) → Contains sorted.items danger ↔ Contains rows.items danger) }
+    ensures ordered { IfOk result (λ sorted. AllPairs (λ x y. danger_cmp x y ≡ Less) sorted.items) }
+{
+    rows.sort()?;
+    rows.dedup();
+    Ok(rows)
+}

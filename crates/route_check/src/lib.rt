@@ -13,12 +13,18 @@
 //! held, the unsafe areas and the wrecks, rocks and obstructions up to the safety contour, each with its whole shape;
 //! and each sounding up to the safety depth, a point. Rows stand by leg, then by the charts' keys, the features'
 //! numbers and the places of soundings among the coordinates of their features.
+//!
+//! Charts come with their grids (`spatial_grid`): a leg is tried with the features alone whose boxes it reaches. With
+//! the grids of all charts nothing is lost by that; a chart without a grid isn't looked at.
 #![tactic(auto)]
 
+mod asks;
 mod chart_objects;
 mod danger;
+mod depths;
 mod draft;
 mod fault;
+mod found;
 mod laws;
 mod line;
 mod meeting;
@@ -28,11 +34,12 @@ mod read;
 mod report_laws;
 mod reports;
 mod route;
+mod target;
 
 pub use danger::{Danger, DangerList};
 pub use fault::RouteFault;
 pub use laws::routes_are_read;
 pub use read::read_route;
-pub use report_laws::reports_are_exact;
+pub use report_laws::{reports_are_exact, reports_are_one};
 pub use reports::report;
 pub use route::{PtList, Route};

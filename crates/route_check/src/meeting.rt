@@ -19,7 +19,7 @@ fn meets_segment(leg: &Leg, from: Pt, to: Pt) -> bool
 }
 
 /// Whether the leg meets the point of a coordinate.
-fn meets_coord(leg: &Leg, coord: &Coord) -> bool
+pub(crate) fn meets_coord(leg: &Leg, coord: &Coord) -> bool
     ensures { result ≡ meets_coord leg.now coord.now }
 {
     let place = point(coord);

@@ -1,17 +1,15 @@
 //! A dangerous object of a chart.
 
-ghost use Rattle.std.specs.Prelude.{All};
-ghost use Rattle.plane_bounds.specs.Bounds.{IsIn};
-ghost use Rattle.area_rings.specs.Edge.{point_of};
-ghost use Rattle.route_check.specs.Object.{ShapeIn};
-
 use crate::danger::Danger;
-use crate::meeting::meets_shape;
-use crate::reach::Reach;
-use area_rings::{Shape, point};
-use chart_model::{Coord, Key};
-use plane_bounds::{Bounds, bounds_of};
+use crate::reach::reach_of;
+use crate::target::{Target, bounds_of_target, meets_target, size_of_target};
+use chart_model::Key;
+use plane_bounds::Bounds;
+use route_geometry::Leg;
 use std::marker::Model;
+
+/// What it costs to test a leg against a segment, in tests of a point against one.
+const COST_OF_SEGMENT: usize = 2;
 
 /// A dangerous object of a chart, with a box round it.
 #[derive(Debug, Drop)]
@@ -19,12 +17,15 @@ pub(crate) struct Object {
     key: Key,
     rcid: u32,
     place: u64,
-    shape: Shape,
+    target: Target,
     bounds: Bounds,
+    /// How many points it has.
+    size: usize,
 }
 
 impl Model for Object {
     ghost use Rattle.route_check.specs.Object.{ObjectValue, ShapeIn};
+    ghost use Rattle.route_check.specs.Target.{shape_in};
 
     ghost Value = { ObjectValue };
 
@@ -32,51 +33,32 @@ impl Model for Object {
       key = object.key;
       rcid = object.rcid;
       place = object.place;
-      shape = object.shape;
+      shape = shape_in object.target;
     } };
 
-    ghost invariant = { λ object. ShapeIn object.bounds object.shape };
-}
-
-/// The box round the points of coordinates.
-fn bounds_of_coords(coords: &[Coord]) -> Bounds
-    ensures { All (λ coord. IsIn result (point_of coord)) coords.now }
-{
-    let mut bounds = Bounds::NOTHING;
-    for coord in coords {
-        bounds = bounds.with(point(coord));
-    }
-    bounds
-}
-
-/// The box round a shape.
-fn bounds_of_shape(shape: &Shape) -> Bounds
-    ensures { ShapeIn result shape.now }
-{
-    match shape {
-        Shape::Points(coords) => bounds_of_coords(coords.as_slice()),
-        Shape::Lines(lines) => bounds_of(lines.as_slice()),
-        Shape::Rings(rings) => bounds_of(rings.as_slice()),
-        Shape::Bare => Bounds::NOTHING,
-    }
+    ghost invariant = { λ object. ShapeIn object.bounds (shape_in object.target) };
 }
 
 impl Object {
     ghost use Rattle.std.specs.Prelude.{◌≡◌};
     ghost use Rattle.route_check.specs.Meeting.{meets_shape};
+    ghost use Rattle.route_check.specs.Reach.{reach_of};
     ghost use Rattle.route_check.specs.Report.{row_of};
+    ghost use Rattle.route_check.specs.Target.{shape_in};
 
     /// The object of a feature of a chart at a place. It takes no memory.
-    pub(crate) fn new(key: Key, rcid: u32, place: u64, shape: Shape) -> Object
-        ensures { result ≡ record { key = key; rcid = rcid; place = place; shape = shape } }
+    pub(crate) fn new(key: Key, rcid: u32, place: u64, target: Target) -> Object
+        ensures { result ≡ record { key = key; rcid = rcid; place = place; shape = shape_in target } }
     {
-        let bounds = bounds_of_shape(&shape);
+        let bounds = bounds_of_target(&target);
+        let size = size_of_target(&target);
         Object {
             key,
             rcid,
             place,
-            shape,
+            target,
             bounds,
+            size,
         }
     }
 
@@ -92,10 +74,22 @@ impl Object {
         }
     }
 
-    /// Whether a leg meets the object. The boxes round both are asked first: most objects are far from most legs.
-    pub(crate) fn is_met(&self, reach: &Reach) -> bool
-        ensures { result ≡ meets_shape reach.now.leg self.now.shape }
+    /// What it costs to ask whether a leg meets the object, in tests of a point against a segment. Nothing that is
+    /// answered hangs on it, but whether there is an answer. It takes no memory.
+    pub(crate) fn cost(&self, reach: Bounds) -> usize {
+        if self.bounds.meets(reach) {
+            self.size.saturating_mul(COST_OF_SEGMENT)
+        } else {
+            1
+        }
+    }
+
+    /// Whether a leg meets the object. The box that the leg reaches is asked first: most objects are far from most
+    /// legs. It takes no memory.
+    pub(crate) fn is_met(&self, leg: &Leg, reach: Bounds) -> bool
+        requires { reach ≡ reach_of leg.now }
+        ensures { result ≡ meets_shape leg.now self.now.shape }
     {
-        reach.overlaps(self.bounds) && meets_shape(&reach.leg, &self.shape)
+        self.bounds.meets(reach) && meets_target(leg, &self.target)
     }
 }

@@ -1,7 +1,9 @@
 //! What holds of the report.
 
+ghost use Rattle.std.specs.Prelude.{◌≡◌, List};
 ghost use Rattle.chart_model.specs.declared.settings.Settings.{Settings};
 ghost use Rattle.chart_model.specs.State.{StateValue, IsState};
+ghost use Rattle.route_check.specs.declared.danger.Danger.{Danger as DangerValue};
 ghost use Rattle.route_check.specs.declared.route.Route.{Route};
 ghost use Rattle.route_check.specs.Report.{IsReport, report_of};
 
@@ -10,4 +12,10 @@ ghost use Rattle.route_check.specs.Report.{IsReport, report_of};
 pub fn reports_are_exact()
     ensures { (state : StateValue) (settings : Settings) (route : Route) → IsState state →
         IsReport state settings route (report_of state settings route) }
+{}
+
+/// A state has one report: that of the definition `report_of`, and no other.
+pub fn reports_are_one()
+    ensures { (state : StateValue) (settings : Settings) (route : Route) (report : List DangerValue) →
+        IsState state → IsReport state settings route report → report ≡ report_of state settings route }
 {}

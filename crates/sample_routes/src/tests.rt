@@ -1,2 +1,4 @@
+mod charts;
 mod reading;
 mod report;
+mod squares;

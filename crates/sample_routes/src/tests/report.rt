@@ -1,15 +1,13 @@
 //! Reports worked out by hand over small charts.
 
-ghost use Rattle.std.specs.Prelude.{◌≡◌, ◌↔◌, ◌≤◌, None, true, length, All, IfOk, IfSome};
-ghost use Rattle.chart_model.specs.State.{IsHeld, IsChartOf, IsFileLength};
-
-use chart_model::{
-    Cell, FileList, Header, Held, Holding, HoldingMap, Key, Octets, Settings, Shades, Shared, State,
+use crate::tests::charts::{
+    chart_under, grids_over, hold, hold_chart, nothing_held, rows_along, whole,
 };
-use plane_geometry::Pt;
-use route_check::{Danger, DangerList, PtList, Route, report, reports_are_exact};
+use chart_model::{Cell, Held, Key, State};
+use route_check::{Danger, DangerList, reports_are_exact, reports_are_one};
 use sample_rows::{Row, Setting, add_rows, feature, name, vector};
-use std::alloc::{AllocError, Global};
+use spatial_grid::GridMap;
+use std::alloc::Global;
 use std::test::Fail;
 
 const OBSTRN: u16 = 86;
@@ -21,19 +19,6 @@ const WRECKS: u16 = 159;
 const SOUNDG: u16 = 129;
 
 const LNDARE: u16 = 71;
-
-/// A safety contour and a safety depth, in centimetres.
-fn settings(safety_contour: i32, safety_depth: i32) -> Settings {
-    Settings {
-        safety_contour,
-        safety_depth,
-        shallow: 200,
-        deep: 3_000,
-        shades: Shades::Two,
-        pattern: false,
-        scale: 1,
-    }
-}
 
 /// Two wrecks side by side, of 5 m and of 5.01 m; soundings of 3 m, 3.1 m and 5 m behind two coordinates without a
 /// depth; an obstruction along two lines; and three squares of land, of depths from 10 m on with a rock at their
@@ -280,87 +265,6 @@ static CASES: [Case; 43] = [
     (500, 0, [0, 0], &[[EAST, NORTH], [EAST, NORTH]], &[]),
 ];
 
-/// The route of half-widths over points.
-fn route_over(alloc: Global, half: [u32; 2], points: &[[i32; 2]]) -> Result<Route, Fail> {
-    let mut list = Vec::new(alloc);
-    for point in points {
-        list.push(Pt {
-            x: point[0],
-            y: point[1],
-        })?;
-    }
-    let points = PtList::from_vec(list).ok_or("points of a route")?;
-    Ok(Route {
-        w: half[0],
-        h: half[1],
-        points,
-    })
-}
-
-/// The chart of rows under a key.
-fn chart_under(alloc: Global, key: Key, rows: &[Row]) -> Result<Cell, Fail> {
-    let header = Header {
-        key,
-        edition: 1,
-        update: 0,
-        issued: *b"20260101",
-        agency: 1,
-        scale: 50_000,
-    };
-    // For the proof alone: a key is known to be one where it is read.
-    let _ = key.as_slice();
-    let mut cell = Cell::new(alloc, header);
-    add_rows(alloc, &mut cell, rows)?;
-    Ok(cell)
-}
-
-/// No cell.
-fn nothing_held(alloc: Global) -> State {
-    State {
-        cells: HoldingMap::new(alloc),
-    }
-}
-
-/// The files of a cell: one without a byte.
-fn one_file(alloc: Global) -> Result<FileList, AllocError>
-    ensures nonempty { IfOk result (λ files. 1 ≤ length files) }
-    ensures files { IfOk result (All (λ file. IsFileLength (length file))) }
-{
-    let mut files = FileList::new(alloc);
-    files.push(Shared::of(alloc, Octets::from_vec(Vec::new(alloc)))?)?;
-    Ok(files)
-}
-
-/// Holds a cell under a key, with one file.
-fn hold(
-    alloc: Global,
-    state: &mut State,
-    key: Key,
-    held: Held,
-    chart: Option<Cell>,
-) -> Result<(), AllocError>
-    requires held { IsHeld held }
-    requires cancelled { (chart ≡ None) ↔ (held.cancelled ≡ true) }
-    requires chart { IfSome chart (IsChartOf key held) }
-{
-    // For the proof alone: a key is known to be one where it is read.
-    let _ = key.as_slice();
-    let files = one_file(alloc)?;
-    state.cells.insert(key, Holding { held, files, chart })?;
-    Ok(())
-}
-
-/// Holds a chart.
-fn hold_chart(alloc: Global, state: &mut State, chart: Cell) -> Result<(), AllocError> {
-    let header = chart.header;
-    let held = Held {
-        edition: header.edition,
-        update: header.update,
-        cancelled: false,
-    };
-    hold(alloc, state, header.key, held, Some(chart))
-}
-
 /// Whether the rows are these, all of one chart.
 fn are_rows(found: &DangerList, key: Key, wanted: &[Wanted]) -> bool {
     let found = found.as_slice();
@@ -376,19 +280,27 @@ fn is_row(row: &Danger, key: Key, wanted: &Wanted) -> bool {
     row.key == key && (row.leg, row.rcid, row.place) == *wanted
 }
 
+/// The harbour with its rocks, held under a key.
+fn harbour_held(alloc: Global, key: Key) -> Result<State, Fail> {
+    let mut chart = chart_under(alloc, key, &HARBOUR)?;
+    add_rows(alloc, &mut chart, &ROCKS)?;
+    let mut state = nothing_held(alloc);
+    hold_chart(alloc, &mut state, chart)?;
+    Ok(state)
+}
+
 #[test]
 fn rows_of_a_chart(rt: HostRuntime) -> Result<(), Fail> {
     let key = Key::from_bytes(b"AA5TEST1").ok_or("a key")?;
-    let mut chart = chart_under(rt.alloc(), key, &HARBOUR)?;
-    add_rows(rt.alloc(), &mut chart, &ROCKS)?;
-    let mut state = nothing_held(rt.alloc());
-    hold_chart(rt.alloc(), &mut state, chart)?;
+    let state = harbour_held(rt.alloc(), key)?;
+    let grids = grids_over(rt.alloc(), &state)?;
     for (at, (contour, depth, half, points, wanted)) in CASES.iter().enumerate() {
-        let route = route_over(rt.alloc(), *half, points)?;
-        let found = report(rt.alloc(), &state, &settings(*contour, *depth), &route)?;
+        let depths = (*contour, *depth);
+        let found = rows_along(rt.alloc(), &state, &grids, depths, *half, points)?;
         assert!(rt; are_rows(&found, key, wanted), "case {at}");
     }
     reports_are_exact();
+    reports_are_one();
     Ok(())
 }
 
@@ -409,14 +321,30 @@ static THREE: [Row; 2] = [
     },
 ];
 
-/// The row of a whole feature.
-fn whole(leg: u32, key: Key, rcid: u32) -> Danger {
-    Danger {
-        leg,
-        key,
-        rcid,
-        place: 0,
-    }
+/// The chart of number 9 under a key, and that of number 3 under the last; between them a cancelled cell.
+fn three_held(alloc: Global, first: Key, cancelled: Key, last: Key) -> Result<State, Fail> {
+    let mut state = nothing_held(alloc);
+    hold_chart(alloc, &mut state, chart_under(alloc, last, &THREE)?)?;
+    let held = Held {
+        edition: 1,
+        update: 1,
+        cancelled: true,
+    };
+    hold(alloc, &mut state, cancelled, held, None)?;
+    hold_chart(alloc, &mut state, chart_under(alloc, first, &NINE)?)?;
+    Ok(state)
+}
+
+/// Whether the report along two legs has these rows.
+fn are_found(
+    alloc: Global,
+    state: &State,
+    grids: &GridMap,
+    wanted: &[Danger],
+) -> Result<bool, Fail> {
+    let points = [[0, 10], [10, 10], [20, 10]];
+    let found = rows_along(alloc, state, grids, (0, 0), [0, 0], &points)?;
+    Ok(found.as_slice() == wanted)
 }
 
 #[test]
@@ -424,28 +352,20 @@ fn rows_of_charts(rt: HostRuntime) -> Result<(), Fail> {
     let first = Key::from_bytes(b"AA1").ok_or("a key")?;
     let cancelled = Key::from_bytes(b"AA2").ok_or("a key")?;
     let last = Key::from_bytes(b"B").ok_or("a key")?;
-    let route = route_over(rt.alloc(), [0, 0], &[[0, 10], [10, 10], [20, 10]])?;
-    let mut state = nothing_held(rt.alloc());
-    let found = report(rt.alloc(), &state, &settings(0, 0), &route)?;
-    assert!(rt; found.as_slice().is_empty());
-    let chart = chart_under(rt.alloc(), last, &THREE)?;
-    hold_chart(rt.alloc(), &mut state, chart)?;
-    let held = Held {
-        edition: 1,
-        update: 1,
-        cancelled: true,
-    };
-    hold(rt.alloc(), &mut state, cancelled, held, None)?;
-    let chart = chart_under(rt.alloc(), first, &NINE)?;
-    hold_chart(rt.alloc(), &mut state, chart)?;
-    let found = report(rt.alloc(), &state, &settings(0, 0), &route)?;
+    let state = three_held(rt.alloc(), first, cancelled, last)?;
+    let mut grids = grids_over(rt.alloc(), &state)?;
     let wanted = [
         whole(1, first, 9),
         whole(1, last, 3),
         whole(2, first, 9),
         whole(2, last, 3),
     ];
-    assert!(rt; found.as_slice() == wanted.as_slice());
+    assert!(rt; are_found(rt.alloc(), &state, &grids, &wanted)?);
+    // the one of two charts has no grid
+    let _ = grids.remove(first);
+    let wanted = [whole(1, last, 3), whole(2, last, 3)];
+    assert!(rt; are_found(rt.alloc(), &state, &grids, &wanted)?);
+    assert!(rt; are_found(rt.alloc(), &nothing_held(rt.alloc()), &grids, &[])?);
     Ok(())
 }
 
@@ -477,9 +397,9 @@ fn many_areas(alloc: Global, key: Key, shoal: u32) -> Result<Cell, Fail> {
 }
 
 /// How many rows the report at the rock has, of a safety contour.
-fn count_rows(alloc: Global, state: &State, contour: i32) -> Result<usize, Fail> {
-    let route = route_over(alloc, [0, 0], &[[150, 165], [150, 165]])?;
-    let found = report(alloc, state, &settings(contour, 0), &route)?;
+fn count_rows(alloc: Global, state: &State, grids: &GridMap, contour: i32) -> Result<usize, Fail> {
+    let points = [[150, 165], [150, 165]];
+    let found = rows_along(alloc, state, grids, (contour, 0), [0, 0], &points)?;
     Ok(found.as_slice().len())
 }
 
@@ -493,8 +413,9 @@ fn a_hazard_over_many_areas(rt: HostRuntime) -> Result<(), Fail> {
         let chart = many_areas(rt.alloc(), key, shoal)?;
         let mut state = nothing_held(rt.alloc());
         hold_chart(rt.alloc(), &mut state, chart)?;
+        let grids = grids_over(rt.alloc(), &state)?;
         for (contour, count) in [(149, 0), (150, 1), (151, 2), (2_000, 3), (2_001, 1_002)] {
-            let found = count_rows(rt.alloc(), &state, contour)?;
+            let found = count_rows(rt.alloc(), &state, &grids, contour)?;
             assert_eq!(rt; found, count, "{shoal} {contour}");
         }
     }

@@ -11,8 +11,8 @@ none : (shallow : Bool) → ◌≡◌ {A = List ObjectValue} [] (cond shallow []
 none true = refl
 none false = refl
 
-pub returns-in_default : goal.returns-in_default
-returns-in_default c =
+pub returns-in_default-clause-objects : goal.returns-in_default-clause-objects
+returns-in_default-clause-objects c =
     let from = c.args.from.now in
     let objects = c.args.objects.now.items in
     let shallow = int_le (hazard_depth from.cell.now c.args.feature.now) from.settings.now.safety_contour in

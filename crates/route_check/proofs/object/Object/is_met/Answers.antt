@@ -1,14 +1,20 @@
-use Rattle.std.proofs.Common.{sym, ap, ◌∙◌}
+use Rattle.std.proofs.Common.{sym, ap, ◌∙◌, subst}
 use Rattle.std.proofs.lemmas.Bool.{false≢true}
+use Rattle.plane_bounds.specs.declared.bounds.Bounds.{Bounds}
+use Rattle.plane_bounds.specs.Bounds.{Meets}
 use Rattle.route_check.specs.Meeting.{meets_shape}
 use Rattle.route_check.specs.Object.{ObjectValue}
+use Rattle.route_check.specs.Reach.{reach_of}
+use Rattle.route_check.specs.Target.{shape_in}
 use Rattle.route_check.proofs.Far.{far_not_met}
 use Rattle.route_check.proofs.object.Object.is_met.Goals as goal
 
-pub returns-else-overlaps : goal.returns-else-overlaps
-returns-else-overlaps c =
-    let reach = c.args.reach.now in
+pub returns-else-meets : goal.returns-else-meets
+returns-else-meets c =
+    let leg = c.args.leg.now in
     let object = c.self.inside in
-    c.if-overlaps.false
-    ∙ sym (far_not_met reach.leg object.bounds reach.west reach.south reach.east reach.north reach.covers object.shape c.self.invariant (λ q. false≢true (sym c.if-overlaps.false ∙ c.overlaps.ensures.1 q)))
-    ∙ ap (λ (value : ObjectValue). meets_shape reach.leg value.shape) c.self.view_is
+    let far = λ (m : Meets object.bounds (reach_of leg)).
+    false≢true (sym c.if-meets.false ∙ c.meets.ensures.1 (subst (λ (b : Bounds). Meets object.bounds b) (sym c.requires) m)) in
+    c.if-meets.false
+    ∙ sym (far_not_met leg object.bounds (shape_in object.target) c.self.invariant far)
+    ∙ ap (λ (value : ObjectValue). meets_shape leg value.shape) c.self.view_is
