@@ -11,4 +11,4 @@ mod name_set;
 mod pair;
 mod users;
 
-pub use users::{Users, users_of};
+pub use users::{Users, UsersMap, users_of};

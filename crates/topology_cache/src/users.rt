@@ -11,7 +11,7 @@ ghost use Rattle.topology_cache.specs.Sets.{is_user, pointers_at, AreBetween};
 
 use crate::name_set::NameSet;
 use chart_model::codes::FEATURE;
-use chart_model::{Cell, Name, NameList, Pointer};
+use chart_model::{Cell, KeyMap, Name, NameList, Pointer};
 use chart_ports::Steps;
 use std::alloc::{AllocError, Global};
 use std::collections::BTreeMap;
@@ -38,6 +38,9 @@ impl Model for Users {
 
     ghost invariant = { λ users. HasNoEmpty (finite.from_entries users.sets.entries) };
 }
+
+/// Users by the keys of the charts.
+pub type UsersMap = KeyMap<Users>;
 
 /// The pointers of the feature with a name, and none where there is no such feature.
 fn pointers_at(cell: &Cell, name: Name) -> &[Pointer]
