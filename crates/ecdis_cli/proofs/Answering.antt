@@ -271,12 +271,12 @@ Replied-quiet clock might T tells files desk may_leave before IsGiven only_now s
 
 -- a turn is taken
 pub Replied-turn : (tells : Bool) (files : Files) (Leaves : (Images → List ℕ → Type 0) → Type 0) (before : Standing)
-    (faults : ℕ) (event : Event) (IsTurn : Turn → Type 0) (IsGiven : Step → Type 0)
+    (faults : ℕ) (event : Event) (IsWithin : ℕ → Type 0) (IsTurn : Turn → Type 0) (IsGiven : Step → Type 0)
     → ((fetches : Fetches) → step_at fetches before ≡ step_of (turn_of fetches before.model event))
     → ((turn : Turn) → IsTurn turn → IsGiven (step_of turn))
-    → TakesTurn (AreFetched tells files before.faults faults) Leaves before.said event before.model IsTurn
+    → TakesTurn (AreFetched tells files before.faults faults) Leaves before.said event before.model IsWithin IsTurn
     → ReplyIsFound tells files Leaves before faults IsGiven
-Replied-turn tells files Leaves before faults event IsTurn IsGiven is gives x = record {
+Replied-turn tells files Leaves before faults event IsWithin IsTurn IsGiven is gives x = record {
   fetches = x.fetches;
   answers = x.answers;
   gives = subst IsGiven (sym (is x.fetches)) (gives (turn_of x.fetches before.model event) x.gives);

@@ -44,7 +44,8 @@ use std::sync::ledger::Ledger;
 /// the script line by line. Each reply is said before the next line is run.
 ///
 /// `words` are those of the command line, the program's name first. The files that words and lines name are those of
-/// the shelf. `steps` counts the data records that are come to, and the features of each chart that is drawn.
+/// the shelf. `steps` counts the data records that are come to, the features of the charts that are held at the start,
+/// and those whose records differ after a command.
 pub fn run_ecdis<S: Source, L: Shelf, D: Desk, C: Ledger>(
     alloc: Global,
     words: &[String],

@@ -1,2 +1,3 @@
+mod kept;
 mod refusals;
 mod turns;

@@ -5,3 +5,6 @@ pub mod Following
 pub mod Checking
 pub mod Writing
 pub mod Reissuing
+pub mod Keeping
+pub mod Stepping
+pub mod Renewing

@@ -7,6 +7,7 @@ use Rattle.chart_ports.specs.declared.images.Images.{Images}
 use Rattle.chart_ports.proofs.Moments.{started}
 use Rattle.chart_store.specs.Images.{StandFor}
 use Rattle.chart_store.specs.Loaded.{FILE_LIMIT}
+use Rattle.chart_store.specs.Outcome.{most_steps}
 use Rattle.chart_store.specs.Store.{StandsForEither}
 use Rattle.script_reader.specs.declared.event.Event.{Event}
 use Rattle.script_reader.specs.declared.event.Event.TheVariants as asks
@@ -17,13 +18,14 @@ use Rattle.session_core.specs.declared.fault.EventFault.TheVariants.{Refused, De
 use Rattle.session_core.specs.declared.refusal.LineRefusal.{LineRefusal}
 use Rattle.session_core.specs.Answers.{Gives}
 use Rattle.session_core.specs.Draw.{draw_of}
-use Rattle.session_core.specs.Fetch.{Fetches}
+use Rattle.session_core.specs.Fetch.{Fetches, file_in}
 use Rattle.session_core.specs.Info.{info_of}
 use Rattle.session_core.specs.Listing.{cells_reply}
 use Rattle.session_core.specs.Model.{Model}
 use Rattle.session_core.specs.Order.{drop_order, load_order, make_order, reissue_order, rollback_order}
 use Rattle.session_core.specs.Route.{ROUTE_LIMIT, route_of}
 use Rattle.session_core.specs.Session.{GivesEvent, TakesTurn}
+use Rattle.session_core.specs.Steps.{most_steps_at, most_steps_for, records_of_file}
 use Rattle.session_core.specs.Turn.{Turn, order_turn, reply_turn, turn_of}
 use Rattle.session_core.proofs.Fetching.{passed-is}
 
@@ -47,7 +49,7 @@ ordered-fails : (before : Model) (fault : EventFault) (wanted : Result Order Lin
     → GivesEvent (Err fault) before before (order_turn before wanted)
 ordered-fails before (Refused refusal) wanted h = (ap (order_turn before) h, refl)
 ordered-fails before DeskFault wanted h = refl
-ordered-fails before NoMemory wanted h = refl
+ordered-fails before NoMemory wanted h = inl refl
 
 replied-gives : (before : Model) (r : Result Reply EventFault) (wanted : Result Reply LineRefusal) → Gives {A = Reply} r wanted
     → GivesEvent r before before (reply_turn before wanted)
@@ -55,47 +57,56 @@ replied-gives before (Ok reply) wanted h =
     (ap (λ (w : Result Reply LineRefusal). (reply_turn before w).reply) h, ap (λ (w : Result Reply LineRefusal). (reply_turn before w).model) h)
 replied-gives before (Err (Refused refusal)) wanted h = (ap (reply_turn before) h, refl)
 replied-gives before (Err DeskFault) wanted h = refl
-replied-gives before (Err NoMemory) wanted h = refl
+replied-gives before (Err NoMemory) wanted h = inl refl
 
 -- ---- questions and orders
 
-module _ (A : Fetches → Type 0) (L : (Images → List ℕ → Type 0) → Type 0) (said : List ℕ) (event : Event) (before : Model) where
+-- what a line orders, as far as its turn and its steps go
+pub record Orders (fetches : Fetches) (before : Model) (event : Event) (wanted : Result Order LineRefusal) : Type 0 where
+  pub turn : turn_of fetches before event ≡ order_turn before wanted
+  pub steps : most_steps_at fetches before event ≡ most_steps_for before.state wanted
+
+module _ (A : Fetches → Type 0) (L : (Images → List ℕ → Type 0) → Type 0) (said : List ℕ) (event : Event) (before : Model) (W : ℕ → Type 0) where
   -- a question is answered, or refused
   pub question-turns : (fetches : Fetches) (wanted : Result Reply LineRefusal) (r : Result Reply EventFault) → A fetches
-      → turn_of fetches before event ≡ reply_turn before wanted → Gives {A = Reply} r wanted
+      → turn_of fetches before event ≡ reply_turn before wanted → W (most_steps_at fetches before event) → Gives {A = Reply} r wanted
       → ((after : StateValue) → L (StandsForEither said before.state after))
-      → TakesTurn A L said event before (GivesEvent r before before)
-  question-turns fetches wanted r answers is given leaves = record {
+      → TakesTurn A L said event before W (GivesEvent r before before)
+  question-turns fetches wanted r answers is steps given leaves = record {
     fetches = fetches;
     answers = answers;
     gives = subst (GivesEvent r before before) (sym is) (replied-gives before r wanted given);
+    steps = steps;
     leaves = leaves (turn_of fetches before event).model.state;
   }
 
   -- nothing is ordered
   pub order-fails : (fetches : Fetches) (wanted : Result Order LineRefusal) (r : Result Reply EventFault) (fault : EventFault) → A fetches
-      → turn_of fetches before event ≡ order_turn before wanted → IsErrAnd r (λ passed. passed ≡ fault)
+      → Orders fetches before event wanted → W (most_steps_at fetches before event) → IsErrAnd r (λ passed. passed ≡ fault)
       → Gives {A = Order} (Err fault) wanted → ((after : StateValue) → L (StandsForEither said before.state after))
-      → TakesTurn A L said event before (GivesEvent r before before)
-  order-fails fetches wanted r fault answers is passed given leaves = record {
+      → TakesTurn A L said event before W (GivesEvent r before before)
+  order-fails fetches wanted r fault answers is steps passed given leaves = record {
     fetches = fetches;
     answers = answers;
-    gives = subst (GivesEvent r before before) (sym is)
+    gives = subst (GivesEvent r before before) (sym is.turn)
         (passed-event r fault before before (order_turn before wanted) passed (ordered-fails before fault wanted given));
+    steps = steps;
     leaves = leaves (turn_of fetches before event).model.state;
   }
 
   -- what comes of an order
   pub order-turns : (fetches : Fetches) (wanted : Result Order LineRefusal) (order : Order) (r : Result Reply EventFault) (now : Model) → A fetches
-      → turn_of fetches before event ≡ order_turn before wanted → wanted ≡ Ok order → GivesEvent r before now (order_turn before (Ok order))
+      → Orders fetches before event wanted → wanted ≡ Ok order → W (most_steps before.state order.command)
+      → GivesEvent r before now (order_turn before (Ok order))
       → L (StandsForEither said before.state (order_turn before (Ok order)).model.state)
-      → TakesTurn A L said event before (GivesEvent r before now)
-  order-turns fetches wanted order r now answers is found given leaves =
-      let same : turn_of fetches before event ≡ order_turn before (Ok order) = is ∙ ap (order_turn before) found in
+      → TakesTurn A L said event before W (GivesEvent r before now)
+  order-turns fetches wanted order r now answers is found steps given leaves =
+      let same : turn_of fetches before event ≡ order_turn before (Ok order) = is.turn ∙ ap (order_turn before) found in
       record {
         fetches = fetches;
         answers = answers;
         gives = subst (GivesEvent r before now) (sym same) given;
+        steps = subst W (sym (is.steps ∙ ap (most_steps_for before.state) found)) steps;
         leaves = subst (λ (turn : Turn). L (StandsForEither said before.state turn.model.state)) (sym same) leaves;
       }
 
@@ -121,26 +132,27 @@ module _ (fetches : Fetches) (model : Model) (event : Event) where
   unfolding turn_of
   route-is name is = ap (turn_of fetches model) is
 
-  pub load-is : (name : List ℕ) → event ≡ asks.Load name
-      → turn_of fetches model event ≡ order_turn model (load_order name (fetches FILE_LIMIT name))
-  unfolding turn_of
-  load-is name is = ap (turn_of fetches model) is
+  pub info-steps : (name : List ℕ) → event ≡ asks.Info name
+      → most_steps_at fetches model event ≡ records_of_file (file_in FILE_LIMIT name (fetches FILE_LIMIT name))
+  unfolding most_steps_at
+  info-steps name is = ap (most_steps_at fetches model) is
 
-  pub rollback-is : (key : List ℕ) (update : ℕ) → event ≡ asks.Rollback key update
-      → turn_of fetches model event ≡ order_turn model (Ok (rollback_order key update))
-  unfolding turn_of
-  rollback-is key update is = ap (turn_of fetches model) is
+  pub load-is : (name : List ℕ) → event ≡ asks.Load name → Orders fetches model event (load_order name (fetches FILE_LIMIT name))
+  unfolding turn_of most_steps_at
+  load-is name is = record { turn = ap (turn_of fetches model) is; steps = ap (most_steps_at fetches model) is }
 
-  pub drop-is : (key : List ℕ) → event ≡ asks.Drop key → turn_of fetches model event ≡ order_turn model (Ok (drop_order key))
-  unfolding turn_of
-  drop-is key is = ap (turn_of fetches model) is
+  pub rollback-is : (key : List ℕ) (update : ℕ) → event ≡ asks.Rollback key update → Orders fetches model event (Ok (rollback_order key update))
+  unfolding turn_of most_steps_at
+  rollback-is key update is = record { turn = ap (turn_of fetches model) is; steps = ap (most_steps_at fetches model) is }
 
-  pub make-is : (areas update : ℕ) → event ≡ asks.Make areas update
-      → turn_of fetches model event ≡ order_turn model (make_order areas update)
-  unfolding turn_of
-  make-is areas update is = ap (turn_of fetches model) is
+  pub drop-is : (key : List ℕ) → event ≡ asks.Drop key → Orders fetches model event (Ok (drop_order key))
+  unfolding turn_of most_steps_at
+  drop-is key is = record { turn = ap (turn_of fetches model) is; steps = ap (most_steps_at fetches model) is }
 
-  pub reissue-is : (key : List ℕ) → event ≡ asks.Reissue key
-      → turn_of fetches model event ≡ order_turn model (reissue_order model.state.cells key)
-  unfolding turn_of
-  reissue-is key is = ap (turn_of fetches model) is
+  pub make-is : (areas update : ℕ) → event ≡ asks.Make areas update → Orders fetches model event (make_order areas update)
+  unfolding turn_of most_steps_at
+  make-is areas update is = record { turn = ap (turn_of fetches model) is; steps = ap (most_steps_at fetches model) is }
+
+  pub reissue-is : (key : List ℕ) → event ≡ asks.Reissue key → Orders fetches model event (reissue_order model.state.cells key)
+  unfolding turn_of most_steps_at
+  reissue-is key is = record { turn = ap (turn_of fetches model) is; steps = ap (most_steps_at fetches model) is }

@@ -11,5 +11,7 @@ pub mod Route
 pub mod Written
 pub mod Order
 pub mod Turn
+pub mod Kept
+pub mod Steps
 pub mod Session
 pub mod Reissue

@@ -1,19 +1,28 @@
 -- What contracts see of a session, and what a turn of it does.
-use Rattle.std.specs.Prelude.{◌≡◌, ◌≢◌, ℕ, ◌+◌, ◌≤◌, Bool, IsTrue, List, Result, Ok, Err, OnErr}
+use Rattle.std.specs.Prelude.{◌≡◌, ◌≢◌, ◌⊎◌, ℕ, ◌+◌, ◌≤◌, Bool, IsTrue, List, Result, Ok, Err}
+use Rattle.std.specs.FinMap as finite
 use Rattle.bank_journal.specs.Fault.{HasDeskCause}
+use Rattle.chart_model.specs.Keys.{key_cmp}
+use Rattle.chart_model.specs.Names.{name_cmp}
 use Rattle.chart_ports.specs.Disk.{LeavesNoMoreOfOthers, SameOthers}
 use Rattle.chart_ports.specs.declared.images.Images.{Images}
 use Rattle.chart_store.specs.declared.store.Store.{Store}
 use Rattle.chart_store.specs.Store.{IsKept, StandsForEither, count_of, is_sound, room_of, state_of}
+use Rattle.plane_bounds.specs.declared.bounds.Bounds.{Bounds}
 use Rattle.script_reader.specs.declared.event.Event.{Event}
 use Rattle.script_reader.specs.declared.reply.Reply.{Reply}
 use Rattle.session_core.specs.declared.fault.EventFault.{EventFault}
 use Rattle.session_core.specs.declared.fault.EventFault.TheVariants.{Refused, DeskFault, NoMemory}
 use Rattle.session_core.specs.declared.fault.TurnFault.{TurnFault}
+use Rattle.session_core.specs.declared.fault.TurnFault.TheVariants as no_turn
 use Rattle.session_core.specs.declared.session.Session.{Session}
 use Rattle.session_core.specs.Fetch.{Fetches}
+use Rattle.session_core.specs.Kept.{IsKeptOfEach}
 use Rattle.session_core.specs.Model.{Model, Portrayal, portrayal_with}
+use Rattle.session_core.specs.Steps.{most_steps_at}
 use Rattle.session_core.specs.Turn.{Turn, refusal_turn, turn_of}
+use Rattle.spatial_grid.specs.Box.{IsGridOf}
+use Rattle.topology_cache.specs.Users.{AreUsersOf, UsersValue}
 
 -- its store
 abbrev pub store_of : Session → Store
@@ -31,45 +40,68 @@ model_of session = record {
   portrayal = portrayal_of session;
 }
 
+-- the users that it keeps, by the keys of the charts
+abbrev pub users_in : Session → finite.FinMap key_cmp UsersValue
+users_in session = session.users
+
+-- the grids that it keeps, by the keys of the charts
+abbrev pub grids_in : Session → finite.FinMap key_cmp (finite.FinMap name_cmp Bounds)
+grids_in session = session.grids
+
 -- ---- between turns
 
--- The desk keeps the session's store, and no call of it has failed.
+-- It keeps the users and the grid of each chart that is held, and of nothing else.
+pub record KeepsCharts (session : Session) : Type 0 where
+  pub users : IsKeptOfEach AreUsersOf (state_of (store_of session)).cells (users_in session)
+  pub grids : IsKeptOfEach IsGridOf (state_of (store_of session)).cells (grids_in session)
+
+-- The desk keeps the session's store, and no call of it has failed; and the session keeps what is drawn by.
 pub record IsReady (tells : Bool) (contents : ℕ → List ℕ) (may_leave : ℕ → List ℕ → Type 0) (session : Session)
     : Type 0 where
   pub sound : IsTrue (is_sound (store_of session))
   pub kept : IsTrue tells → IsKept contents may_leave (store_of session)
+  pub charts : KeepsCharts session
 
 -- ---- a turn
 
--- the answer and the model after it are those of the turn; where there is none, what is held is as it was
+-- Where memory ran out all is as it was, or the model is what the turn leaves: its command was accepted, and its reply
+-- isn't told.
+abbrev pub LeavesEither : Model → Model → Turn → Type 0
+LeavesEither before now turn = (now ≡ before) ⊎ (turn.model ≡ now)
+
+-- The answer and the model after it are those of the turn. A fault of the desk leaves what is held as it was.
 abbrev pub GivesTurn : Result Reply TurnFault → Model → Model → Turn → Type 0
 GivesTurn (Ok reply) before now turn = (turn.reply ≡ reply) × (turn.model ≡ now)
-GivesTurn (Err fault) before now turn = now.state ≡ before.state
+GivesTurn (Err no_turn.DeskFault) before now turn = now.state ≡ before.state
+GivesTurn (Err no_turn.NoMemory) before now turn = LeavesEither before now turn
 
 -- the same of an event that is carried out: a refusal leaves all as it was
 abbrev pub GivesEvent : Result Reply EventFault → Model → Model → Turn → Type 0
 GivesEvent (Ok reply) before now turn = (turn.reply ≡ reply) × (turn.model ≡ now)
 GivesEvent (Err (Refused refusal)) before now turn = (turn ≡ refusal_turn before refusal) × (now ≡ before)
 GivesEvent (Err DeskFault) before now turn = now.state ≡ before.state
-GivesEvent (Err NoMemory) before now turn = now.state ≡ before.state
+GivesEvent (Err NoMemory) before now turn = LeavesEither before now turn
 
--- A turn of an event: by some answers of the shelf it is the one that is given, and a crash at any moment of it leaves
--- files that stand for what was held before, or for what the turn leaves. Nothing is said.
+-- A turn of an event: by some answers of the shelf it is the one that is given, it takes no more steps than the event
+-- may, and a crash at any moment of it leaves files that stand for what was held before, or for what the turn leaves.
+-- Nothing is said.
 pub record TakesTurn (AreAnswers : Fetches → Type 0) (Leaves : (Images → List ℕ → Type 0) → Type 0)
-    (said : List ℕ) (event : Event) (before : Model) (IsGiven : Turn → Type 0) : Type 0 where
+    (said : List ℕ) (event : Event) (before : Model) (IsWithin : ℕ → Type 0) (IsGiven : Turn → Type 0)
+    : Type 0 where
   pub fetches : Fetches
   pub answers : AreAnswers fetches
   pub gives : IsGiven (turn_of fetches before event)
+  pub steps : IsWithin (most_steps_at fetches before event)
   pub leaves : Leaves (StandsForEither said before.state (turn_of fetches before event).model.state)
 
--- What every turn keeps, whatever comes of it. One command at most is accepted, and none where there is no reply; where
+-- What every turn keeps, whatever comes of it. One command at most is accepted, and none where the desk failed; where
 -- none is, the desk is as it was, unless it failed, which has its cause. Nothing is said, and of the desk's files all
 -- but the bank's stay, at a crash too.
 pub record KeepsDesk {D E : Type 0} (tells : Bool) (said : D → List ℕ) (contents : D → ℕ → List ℕ)
     (may_leave : D → ℕ → List ℕ → Type 0) (faults : D → ℕ) (failed : E) (result : Result Reply E)
     (before now : Session) (desk desk' : D) : Type 0 where
   pub one_command : count_of (store_of now) ≤ count_of (store_of before) + 1
-  pub replied : OnErr result (count_of (store_of now) ≡ count_of (store_of before))
+  pub unaccepted : result ≡ Err failed → count_of (store_of now) ≡ count_of (store_of before)
   pub untouched : result ≢ Err failed → count_of (store_of now) ≡ count_of (store_of before) → desk' ≡ desk
   pub cause : HasDeskCause failed (faults desk) (faults desk') result
   pub silent : IsTrue tells → said desk' ≡ said desk

@@ -13,12 +13,14 @@ use std::alloc::{AllocError, AllocFailed};
 use thiserror::Error;
 use update_sequence::ReadFault;
 
-/// Why an event has no reply. What is held is as it was; the session is used no more.
+/// Why an event has no reply. The session is used no more.
 #[derive(Clone, Copy, Debug, PartialEq, Eq, Error)]
 pub enum TurnFault {
-    /// A call of the desk failed. A store that is opened again holds what was held, or what the event leaves.
+    /// A call of the desk failed. What is held is as it was; a store that is opened again holds that, or what the event
+    /// leaves.
     #[error("the disk failed")]
     DeskFault,
+    /// There was no memory. What is held is as it was, or what the event leaves.
     #[error("there was no memory")]
     NoMemory,
 }
@@ -31,7 +33,8 @@ impl From<AllocError> for TurnFault {
     }
 }
 
-/// Why an event is not carried out. What is held stays as it was.
+/// Why an event is not carried out, or has no reply. What is held stays as it was, unless memory ran out after its
+/// command was accepted.
 #[derive(Debug, Drop)]
 pub enum EventFault {
     /// It is refused.

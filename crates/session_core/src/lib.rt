@@ -13,6 +13,7 @@ mod laws;
 mod questions;
 mod refusal;
 mod session;
+mod upkeep;
 mod values;
 
 pub use fault::TurnFault;

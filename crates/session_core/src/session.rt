@@ -2,57 +2,120 @@
 
 use crate::changes::{Order, drop_order, load_order, make_order, reissue_order, rollback_order};
 use crate::fault::{EventFault, TurnFault};
+use crate::held::{cells_of, chart_of};
 use crate::questions::{check_route, draw_chart, inform, list_cells};
+use crate::upkeep::{all_grids, all_users, make_grid, renew_users};
 use chart_model::Settings;
 use chart_ports::{Desk, Shelf, Steps};
-use chart_store::{Store, kept_stores_are_read};
+use chart_store::{Accepted, Store, commands_change_their_cell_alone, kept_stores_are_read};
 use lookup_table::Table;
 use script_reader::{Event, Reply};
+use spatial_grid::GridMap;
 use std::alloc::{AllocError, Global};
 use std::sync::ledger::Ledger;
+use topology_cache::UsersMap;
 
 /// What a run of events goes on with: the store, and the table and the settings by which cells are drawn. The shelf and
 /// the desk are handed in at each turn.
+///
+/// Beside each chart that is held it keeps the users of its edges and its grid.
 #[derive(Drop)]
 pub struct Session {
     store: Store,
     table: Table,
     settings: Settings,
+    users: UsersMap,
+    grids: GridMap,
 }
 
 impl Session {
-    ghost use Rattle.std.specs.Prelude.{◌≡◌, ◌≢◌, ◌+◌, ◌<◌, ◌^◌, ℕ, List, Ok, Err, IfOk, IsTrue, OnOk};
+    ghost use Rattle.std.specs.Prelude.{◌≡◌, ◌≢◌, ◌+◌, ◌<◌, ◌≤◌, ◌^◌, ℕ, List, length, Ok, Err, IfOk, IsTrue, OnOk};
+    ghost use Rattle.std.specs.FinMap as finite;
+    ghost use Rattle.chart_difference.specs.Difference.{AreChanged};
     ghost use Rattle.chart_ports.specs.Moments.{LeavesOnly};
-    ghost use Rattle.chart_store.specs.Store.{StandsForEither, count_of, is_sound};
+    ghost use Rattle.chart_store.specs.Outcome.{most_steps};
+    ghost use Rattle.chart_store.specs.Store.{StandsForEither, count_of, is_sound, state_of};
     ghost use Rattle.script_reader.specs.Line.{AreInRange};
     ghost use Rattle.script_reader.specs.declared.event.Event.TheVariants.{Reissue};
     ghost use Rattle.session_core.specs.declared.fault.EventFault.TheVariants.{DeskFault as EventFailed};
     ghost use Rattle.session_core.specs.declared.fault.EventFault.TheVariants.{NoMemory as NoMemoryForEvent};
     ghost use Rattle.session_core.specs.declared.fault.TurnFault.TheVariants.{DeskFault};
     ghost use Rattle.session_core.specs.Fetch.{AreFetched, KeepsShelf};
+    ghost use Rattle.session_core.specs.Held.{chart_of};
+    ghost use Rattle.session_core.specs.Kept.{IsKeptOf, IsRenewed, feature_count};
     ghost use Rattle.session_core.specs.Model.{portrayal_with};
     ghost use Rattle.session_core.specs.Reissue.{ReissueKeepsChart};
-    ghost use Rattle.session_core.specs.Session.{GivesEvent, GivesTurn, IsReady, KeepsDesk, TakesTurn};
-    ghost use Rattle.session_core.specs.Session.{model_of, portrayal_of, store_of};
+    ghost use Rattle.session_core.specs.Session.{GivesEvent, GivesTurn, IsReady, KeepsCharts, KeepsDesk, TakesTurn};
+    ghost use Rattle.session_core.specs.Session.{grids_in, model_of, portrayal_of, store_of, users_in};
+    ghost use Rattle.session_core.specs.Steps.{TakesAtMost};
     ghost use Rattle.session_core.specs.Turn.{order_turn};
+    ghost use Rattle.spatial_grid.specs.Box.{IsGridOf};
+    ghost use Rattle.topology_cache.specs.Users.{AreUsersOf};
 
-    /// A session over a store that was just opened, which draws cells by a table and by what the mariner set.
-    pub fn new(
-        _alloc: Global,
+    /// A session over a store that was just opened, which draws cells by a table and by what the mariner set. Each
+    /// feature of a chart is a step.
+    pub fn new<C: Ledger>(
+        alloc: Global,
         store: Store,
         table: Table,
         settings: Settings,
+        steps: &mut Steps<C>,
     ) -> Result<Session, AllocError>
         requires sound { IsTrue (is_sound store) }
         requires fresh { count_of store ≡ 0 }
         ensures store { IfOk result (λ session. store_of session ≡ store) }
         ensures portrayal { IfOk result (λ session. portrayal_of session ≡ portrayal_with table settings) }
+        ensures charts { IfOk result KeepsCharts }
+        ensures at_most { steps.new ≤ steps.old + feature_count (state_of store).cells }
     {
+        let cells = cells_of(&store);
+        let users = all_users(alloc, cells, steps)?;
+        let grids = all_grids(alloc, cells)?;
         Ok(Session {
             store,
             table,
             settings,
+            users,
+            grids,
         })
+    }
+
+    /// The users of each chart that is held, by the charts' keys.
+    pub fn users(&self) -> &UsersMap
+        ensures { result.now ≡ users_in self.now }
+    {
+        &self.users
+    }
+
+    /// The grid of each chart that is held, by the charts' keys.
+    pub fn grids(&self) -> &GridMap
+        ensures { result.now ≡ grids_in self.now }
+    {
+        &self.grids
+    }
+
+    /// Brings what is kept of a cell's chart up to date after a command. Each name whose records differ is a step at
+    /// most.
+    fn keep_up<C: Ledger>(
+        &mut self,
+        alloc: Global,
+        done: &Accepted,
+        steps: &mut Steps<C>,
+    ) -> Result<(), AllocError>
+        requires kept { IsKeptOf AreUsersOf done.now.old (finite.get (users_in self.old) done.now.key) }
+        requires changed { AreChanged done.now.old
+            (chart_of (state_of (store_of self.old)).cells done.now.key) done.now.changed }
+        ensures store { store_of self.new ≡ store_of self.old }
+        ensures portrayal { portrayal_of self.new ≡ portrayal_of self.old }
+        ensures users { OnOk result (IsRenewed AreUsersOf done.now.key
+            (chart_of (state_of (store_of self.old)).cells done.now.key) (users_in self.old) (users_in self.new)) }
+        ensures grids { OnOk result (IsRenewed IsGridOf done.now.key
+            (chart_of (state_of (store_of self.old)).cells done.now.key) (grids_in self.old) (grids_in self.new)) }
+        ensures at_most { steps.new ≤ steps.old + length done.now.changed }
+    {
+        let now = chart_of(cells_of(&self.store), done.key);
+        renew_users(alloc, &mut self.users, done, now, steps)?;
+        make_grid(alloc, &mut self.grids, done.key, now)
     }
 
     /// Carries out what a line orders, and tells its reply where it isn't refused.
@@ -73,11 +136,15 @@ impl Session {
         ensures accepted { OnOk result (count_of (store_of self.new) ≡ count_of (store_of self.old) + 1) }
         ensures keeps { KeepsDesk D.tells D.said D.contents D.may_leave D.faults EventFailed result self.old self.new
             desk.old desk.new }
-        ensures ready { result ≢ Err EventFailed →
+        ensures ready { result ≢ Err EventFailed → result ≢ Err NoMemoryForEvent →
             IsReady D.tells (D.contents desk.new) (D.may_leave desk.new) self.new }
+        ensures steps { TakesAtMost (most_steps (model_of self.old).state order.command) (model_of self.old).state
+            (model_of self.new).state steps.old steps.new }
     {
+        commands_change_their_cell_alone();
         let Order { command, success } = order;
         let done = self.store.submit(alloc, command, desk, steps)?;
+        self.keep_up(alloc, &done, steps)?;
         Ok(success.reply(&done))
     }
 
@@ -95,29 +162,28 @@ impl Session {
         requires ranges { AreInRange event }
         ensures turned { TakesTurn (AreFetched L.tells (L.files shelf.old) (L.faults shelf.old) (L.faults shelf.new))
             (λ P. IsTrue D.tells → LeavesOnly D.clock D.might desk.old desk.new P) (D.said desk.old)
-            event (model_of self.old) (GivesEvent result (model_of self.old) (model_of self.new)) }
+            event (model_of self.old)
+            (λ most. TakesAtMost most (model_of self.old).state (model_of self.new).state steps.old steps.new)
+            (GivesEvent result (model_of self.old) (model_of self.new)) }
         ensures reissue { result ≢ Err NoMemoryForEvent → (key : List ℕ) → event ≡ Reissue key →
             ReissueKeepsChart (model_of self.old) key }
         ensures keeps { KeepsDesk D.tells D.said D.contents D.may_leave D.faults EventFailed result self.old self.new
             desk.old desk.new }
-        ensures ready { result ≢ Err EventFailed →
+        ensures ready { result ≢ Err EventFailed → result ≢ Err NoMemoryForEvent →
             IsReady D.tells (D.contents desk.new) (D.may_leave desk.new) self.new }
         ensures shelf { KeepsShelf L.tells L.files L.faults shelf.old shelf.new }
     {
         kept_stores_are_read::<D>();
         match event {
             Event::Info(name) => inform(alloc, name, shelf, steps),
-            Event::Cells => {
-                let cells = &self.store.state().cells;
-                list_cells(alloc, cells)
-            }
+            Event::Cells => list_cells(alloc, cells_of(&self.store)),
             Event::Draw(key) => {
-                let cells = &self.store.state().cells;
-                draw_chart(alloc, key, cells, &self.table, &self.settings, steps)
+                let cells = cells_of(&self.store);
+                draw_chart(alloc, key, cells, &self.users, &self.table, &self.settings)
             }
             Event::Route(name) => {
                 let state = self.store.state();
-                check_route(alloc, name, state, &self.settings, shelf)
+                check_route(alloc, name, state, &self.grids, &self.settings, shelf)
             }
             Event::Load(name) => {
                 let order = load_order(alloc, name, shelf)?;
@@ -132,7 +198,7 @@ impl Session {
                 self.obey(alloc, order, desk, steps)
             }
             Event::Reissue(key) => {
-                let order = reissue_order(alloc, key, &self.store.state().cells)?;
+                let order = reissue_order(alloc, key, cells_of(&self.store))?;
                 self.obey(alloc, order, desk, steps)
             }
         }
@@ -142,8 +208,9 @@ impl Session {
     ///
     /// # Errors
     ///
-    /// `DeskFault` only where the desk's count rose; `NoMemory`. What is held is then as it was, and the session is
-    /// used no more: after a fault of the desk the store is to be opened again.
+    /// `DeskFault` only where the desk's count rose: what is held is then as it was. `NoMemory`: what is held is as it
+    /// was, or what the event leaves, whose command is then on the disk although its reply isn't told, as after a
+    /// crash. The session is used no more: the store is to be opened again.
     pub fn turn<L: Shelf, D: Desk, C: Ledger>(
         &mut self,
         alloc: Global,
@@ -158,22 +225,25 @@ impl Session {
         // As of every event that a line asks for.
         requires ranges { AreInRange event }
 
-        // The reply and what is held after it are those of the event, by what the shelf answered. A crash at any
-        // moment leaves what stands for what was held, or for what the event leaves.
+        // The reply and what is held after it are those of the event, by what the shelf answered. No more steps are
+        // taken than the data records that are come to at the event, and the names whose records differ after it. A
+        // crash at any moment leaves what stands for what was held, or for what the event leaves.
         ensures turned { TakesTurn (AreFetched L.tells (L.files shelf.old) (L.faults shelf.old) (L.faults shelf.new))
             (λ P. IsTrue D.tells → LeavesOnly D.clock D.might desk.old desk.new P) (D.said desk.old)
-            event (model_of self.old) (GivesTurn result (model_of self.old) (model_of self.new)) }
+            event (model_of self.old)
+            (λ most. TakesAtMost most (model_of self.old).state (model_of self.new).state steps.old steps.new)
+            (GivesTurn result (model_of self.old) (model_of self.new)) }
 
         // A held chart is re-issued, unless there is no room, and stays as it is.
         ensures reissue { OnOk result ((key : List ℕ) → event ≡ Reissue key →
             ReissueKeepsChart (model_of self.old) key) }
 
-        // One command at most is accepted, and only with a reply. Where none is, the disk is left as it is, unless it
-        // fails. Nothing is said.
+        // One command at most is accepted, and none where the desk fails. Where none is, the disk is left as it is,
+        // unless it fails. Nothing is said.
         ensures keeps { KeepsDesk D.tells D.said D.contents D.may_leave D.faults DeskFault result self.old self.new
             desk.old desk.new }
 
-        // The next turn may follow.
+        // The next turn may follow: the session keeps the users and the grid of each chart that is held now.
         ensures ready { OnOk result (IsReady D.tells (D.contents desk.new) (D.may_leave desk.new) self.new) }
         ensures shelf { KeepsShelf L.tells L.files L.faults shelf.old shelf.new }
     {

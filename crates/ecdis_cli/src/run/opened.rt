@@ -87,7 +87,7 @@ pub fn run_opened<S: Source, L: Shelf, D: Desk, C: Ledger>(
         Ok(store) => store,
         Err(fault) => return Status::of_opening(fault),
     };
-    let Ok(session) = Session::new(alloc, store, table, settings) else {
+    let Ok(session) = Session::new(alloc, store, table, settings, devices.steps) else {
         return Status::NoMemory;
     };
     let Ok(mut buffer) = vec![in alloc; 0; BUFFER] else {

@@ -71,7 +71,7 @@ const CANCELLATION: &[u8] = b"00063 D   0900034   23 4DSID29000\x1e\
 AA5TEST1.002\x1f0\x1f2\x1f20240202\x02&\x02\x1e";
 
 /// What the mariner set.
-const SETTINGS: Settings = Settings {
+pub const SETTINGS: Settings = Settings {
     safety_contour: 3_000,
     safety_depth: 3_000,
     shallow: 200,
@@ -82,7 +82,7 @@ const SETTINGS: Settings = Settings {
 };
 
 /// A table with one line, for points of the class of the base file's feature.
-fn table(alloc: Global) -> Result<Table, AllocError> {
+pub fn table(alloc: Global) -> Result<Table, AllocError> {
     let Ok(catalogue) = read_objects(alloc, b"O 42 DEPARE\n") else {
         return Err(AllocError);
     };
@@ -93,7 +93,7 @@ fn table(alloc: Global) -> Result<Table, AllocError> {
 }
 
 /// The calls of this number fail: numbers from 1, or 0 for none.
-fn failing(alloc: Global, number: u64) -> Result<FailingCalls, AllocError> {
+pub fn failing(alloc: Global, number: u64) -> Result<FailingCalls, AllocError> {
     Ok(FailingCalls::from_vec([number].to_vec(alloc)?))
 }
 
@@ -121,7 +121,7 @@ fn put_route(
 }
 
 /// A shelf with the files.
-fn shelf(alloc: Global, call: u64) -> Result<MemoryShelf, AllocError> {
+pub fn shelf(alloc: Global, call: u64) -> Result<MemoryShelf, AllocError> {
     let mut shelf = MemoryShelf::new(alloc, failing(alloc, call)?);
     put_route(alloc, &mut shelf, "WAY", b"box 0 0\n100 0\n100 0\n100 5\n")?;
     put_route(alloc, &mut shelf, "BAD", b"box 0 0\n100\n")?;
@@ -134,16 +134,16 @@ fn shelf(alloc: Global, call: u64) -> Result<MemoryShelf, AllocError> {
 }
 
 /// The replies to lines, up to one at which the desk fails.
-fn replies<C: Ledger>(
+pub fn replies<C: Ledger>(
     alloc: Global,
-    mut session: Session,
+    session: &mut Session,
     shelf: &mut MemoryShelf,
     desk: &mut MemoryDesk,
     steps: &mut Steps<C>,
     lines: &[&[u8]],
 ) -> Result<Vec<u8>, AllocError>
-    requires ready { IsReady true (contents_of desk.old) (leaves_of desk.old) session }
-    requires count { count_of (store_of session) ≡ 0 }
+    requires ready { IsReady true (contents_of desk.old) (leaves_of desk.old) session.old }
+    requires count { count_of (store_of session.old) ≡ 0 }
 {
     let mut said = Vec::new(alloc);
     for line in lines {
@@ -179,8 +179,15 @@ fn replies_with<C: Ledger>(
     let mut desk = MemoryDesk::new(alloc, failing(alloc, call)?);
     match open_store(alloc, &mut desk, &mut steps) {
         Ok(store) => {
-            let session = Session::new(alloc, store, table(alloc)?, SETTINGS)?;
-            replies(alloc, session, &mut shelf, &mut desk, &mut steps, lines)
+            let mut session = Session::new(alloc, store, table(alloc)?, SETTINGS, &mut steps)?;
+            replies(
+                alloc,
+                &mut session,
+                &mut shelf,
+                &mut desk,
+                &mut steps,
+                lines,
+            )
         }
         Err(_) => Vec::from_slice(alloc, b"not opened"),
     }

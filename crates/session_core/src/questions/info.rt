@@ -1,11 +1,12 @@
 //! The line `info`.
 
-ghost use Rattle.std.specs.Prelude.{◌≡◌, ◌≢◌, ◌≤◌, Err, IsTrue};
+ghost use Rattle.std.specs.Prelude.{◌≡◌, ◌≢◌, ◌+◌, ◌≤◌, Err, IsTrue};
 ghost use Rattle.session_core.specs.declared.fault.EventFault.TheVariants.{DeskFault};
 ghost use Rattle.session_core.specs.Answers.{Gives};
-ghost use Rattle.session_core.specs.Fetch.{AreFetched, Fetches, KeepsShelf};
+ghost use Rattle.session_core.specs.Fetch.{AreFetched, Fetches, KeepsShelf, file_in};
 ghost use Rattle.chart_store.specs.Loaded.{FILE_LIMIT as LIMIT};
 ghost use Rattle.session_core.specs.Info.{info_of};
+ghost use Rattle.session_core.specs.Steps.{records_of_file};
 
 use crate::fault::EventFault;
 use crate::fetch::fetch;
@@ -25,7 +26,8 @@ pub fn inform<L: Shelf, C: Ledger>(
 ) -> Result<Reply, EventFault>
     ensures found { (fetches : Fetches)
         × AreFetched L.tells (L.files shelf.old) (L.faults shelf.old) (L.faults shelf.new) fetches
-        × Gives result (info_of name (fetches LIMIT name)) }
+        × Gives result (info_of name (fetches LIMIT name))
+        × (steps.new ≤ steps.old + records_of_file (file_in LIMIT name (fetches LIMIT name))) }
     ensures desk { result ≢ Err DeskFault }
     ensures keeps { KeepsShelf L.tells L.files L.faults shelf.old shelf.new }
 {

@@ -54,6 +54,7 @@ returns-clause-ready g c =
       store = record {
         sound = ready.store.sound;
         kept = λ d. c.kept_stores_are_read.ensures.stays mid c.say.new.desk (store_of c.reply_to.new.session) (ready.store.kept d) (c.say.ensures.files d) (c.say.ensures.crash d);
+        charts = ready.store.charts;
       };
       counted = ready.counted;
     })

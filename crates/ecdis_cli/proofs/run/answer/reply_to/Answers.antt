@@ -10,14 +10,14 @@ use Rattle.ecdis_cli.proofs.run.answer.reply_to.Goals as goal
 
 pub returns-in_err-turn-in-Ok-Some-clause-replied : goal.returns-in_err-turn-in-Ok-Some-clause-replied
 returns-in_err-turn-in-Ok-Some-clause-replied g c =
-    Replied-turn _ _ _ _ _ c.in-Ok-Some.event _ (GivesStep c.from_residual.result (model_of c.turn.new.self))
+    Replied-turn _ _ _ _ _ c.in-Ok-Some.event _ _ (GivesStep c.from_residual.result (model_of c.turn.new.self))
     (λ fetches. step-asked c.long_lines_are_read_by_their_front.ensures.front fetches _ _ _ _ (Ok (Some c.in-Ok-Some.event)) c.front_of.ensures (ap Ok (sym c.in-Ok-Some.field-0-is) ∙ c.in-Ok-Some.ensures.function))
     (λ turn h. gives-stopped c.from_residual.result _ _ c.from_residual.ensures.0)
     c.turn.ensures.turned
 
 pub returns-in_ok-turn-in-Ok-Some-clause-replied : goal.returns-in_ok-turn-in-Ok-Some-clause-replied
 returns-in_ok-turn-in-Ok-Some-clause-replied g c =
-    Replied-turn _ _ _ _ _ c.in-Ok-Some.event (GivesTurn (Ok c.in_ok-turn-in-Ok-Some.field-0) (model_of c.args.session.now) (model_of c.turn.new.self))
+    Replied-turn _ _ _ _ _ c.in-Ok-Some.event _ (GivesTurn (Ok c.in_ok-turn-in-Ok-Some.field-0) (model_of c.args.session.now) (model_of c.turn.new.self))
     (GivesStep (Ok (Some c.in_ok-turn-in-Ok-Some.field-0)) (model_of c.turn.new.self))
     (λ fetches. step-asked c.long_lines_are_read_by_their_front.ensures.front fetches _ _ _ _ (Ok (Some c.in-Ok-Some.event)) c.front_of.ensures (ap Ok (sym c.in-Ok-Some.field-0-is) ∙ c.in-Ok-Some.ensures.function))
     (λ turn h. gives-spoken c.in_ok-turn-in-Ok-Some.field-0 (model_of c.args.session.now) (model_of c.turn.new.self) turn h)

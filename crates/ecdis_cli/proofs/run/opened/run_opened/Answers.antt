@@ -37,6 +37,7 @@ run_script-requires-clause-ready g c =
       store = record {
         sound = subst (λ (store : Store). IsTrue (is_sound store)) (sym same) c.in-Ok.ensures.sound;
         kept = λ d. subst (λ (store : Store). IsKept (g.D.Desk.contents c.open_store.new.desk) (g.D.Desk.may_leave c.open_store.new.desk) store) (sym same) (c.in-Ok.ensures.kept d);
+        charts = c.in-Ok-new.ensures.charts;
       };
       counted = omega (arith, c.in-Ok.ensures.count, ap count_of same);
     }

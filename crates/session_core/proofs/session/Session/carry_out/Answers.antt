@@ -1,10 +1,8 @@
 -- Each event is answered, or stopped by a fault.
-use Rattle.std.proofs.Common.{◌≡◌, ℕ, false, Ok, Err, sym, ◌∙◌, ap, subst}
-use Rattle.std.specs.Prelude.{IfSome}
-use Rattle.chart_closure.specs.Closed.{IsClosed}
+use Rattle.std.proofs.Common.{◌≡◌, ◌+◌, ◌≤◌, ℕ, false, Ok, Err, sym, ◌∙◌, ap, subst}
 use Rattle.chart_model.specs.State.{StateValue}
-use Rattle.chart_store.specs.Live.{AreLive}
 use Rattle.chart_store.specs.Loaded.{HoldingsByKey}
+use Rattle.route_check.specs.Grids.{HasGrids}
 use Rattle.script_reader.specs.Line.{AreInRange, CanBeMade}
 use Rattle.script_reader.specs.declared.event.Event.{Event}
 use Rattle.script_reader.specs.declared.event.Event.TheVariants.{Make}
@@ -14,14 +12,17 @@ use Rattle.session_core.specs.declared.fault.EventFault.TheVariants.{NoMemory}
 use Rattle.session_core.specs.Answers.{Gives}
 use Rattle.session_core.specs.Draw.{draw_of}
 use Rattle.session_core.specs.Fetch.{fetches_of}
-use Rattle.session_core.specs.Held.{chart_of}
+use Rattle.session_core.specs.Kept.{IsKeptOfEach}
 use Rattle.session_core.specs.Listing.{cells_reply}
 use Rattle.session_core.specs.Order.{reissue_order}
 use Rattle.session_core.specs.Route.{ROUTE_LIMIT, route_of}
-use Rattle.session_core.specs.Session.{model_of, store_of}
+use Rattle.session_core.specs.Session.{grids_in, model_of, store_of, users_in}
 use Rattle.session_core.proofs.Fetching.{are-served}
 use Rattle.session_core.proofs.Reissuing.{event-keeps, not-passed}
-use Rattle.session_core.proofs.Turning.{no-call, question-turns, order-fails, order-turns, info-is, cells-is, draw-is, route-is, load-is, rollback-is, drop-is, make-is, reissue-is}
+use Rattle.session_core.proofs.Renewing.{has-grids}
+use Rattle.session_core.proofs.Stepping.{none-taken, within, within-none}
+use Rattle.session_core.proofs.Turning.{no-call, question-turns, order-fails, order-turns, info-is, info-steps, cells-is, draw-is, route-is, load-is, rollback-is, drop-is, make-is, reissue-is}
+use Rattle.topology_cache.specs.Users.{AreUsersOf}
 use Rattle.session_core.proofs.session.Session.carry_out.Goals as goal
 
 -- ---- questions
@@ -29,7 +30,11 @@ use Rattle.session_core.proofs.session.Session.carry_out.Goals as goal
 pub returns-in-Info-clause-turned : goal.returns-in-Info-clause-turned
 returns-in-Info-clause-turned g c =
     let found = c.inform.ensures.found in
-    question-turns _ _ _ c.args.event (model_of c.args.self.now) found.0 _ c.inform.result found.1 (info-is found.0 (model_of c.args.self.now) c.args.event c.in-Info.name c.in-Info.is) found.2 (λ after tells.
+    question-turns _ _ _ c.args.event (model_of c.args.self.now)
+    (within (model_of c.args.self.now).state (model_of c.args.self.now).state c.args.steps.now c.inform.new.steps) found.0 _ c.inform.result found.1 (info-is found.0 (model_of c.args.self.now) c.args.event c.in-Info.name c.in-Info.is)
+    (within-none _ (model_of c.args.self.now).state c.args.steps.now c.inform.new.steps
+    (subst (λ (most : ℕ). c.inform.new.steps ≤ c.args.steps.now + most)
+    (sym (info-steps found.0 (model_of c.args.self.now) c.args.event c.in-Info.name c.in-Info.is)) found.3)) found.2 (λ after tells.
     no-call g.D.Desk.clock g.D.Desk.might c.args.desk.now (g.D.Desk.may_leave c.args.desk.now) (g.D.Desk.said c.args.desk.now)
     (model_of c.args.self.now).state after
     (λ images bytes left. g.met.D.Desk.only_now c.args.desk.now images bytes tells left)
@@ -37,9 +42,10 @@ returns-in-Info-clause-turned g c =
 
 pub returns-in-Cells-clause-turned : goal.returns-in-Cells-clause-turned
 returns-in-Cells-clause-turned g c =
-    let same : c.behind-self.inside.cells ≡ (model_of c.args.self.now).state.cells = ap (λ (s : StateValue). s.cells) (c.behind-self.view_is ∙ c.state.ensures.state) in
-    question-turns _ _ _ c.args.event (model_of c.args.self.now) (fetches_of (g.L.Shelf.files c.args.shelf.now) false) _ c.list_cells.result (are-served g.L.Shelf.tells (g.L.Shelf.files c.args.shelf.now) _ _) (cells-is (fetches_of (g.L.Shelf.files c.args.shelf.now) false) (model_of c.args.self.now) c.args.event c.in-Cells.is)
-    (subst (λ (held : HoldingsByKey). Gives {A = Reply} c.list_cells.result (Ok (cells_reply held))) same c.list_cells.ensures.given) (λ after tells.
+    question-turns _ _ _ c.args.event (model_of c.args.self.now)
+    (within (model_of c.args.self.now).state (model_of c.args.self.now).state c.args.steps.now c.args.steps.now) (fetches_of (g.L.Shelf.files c.args.shelf.now) false) _ c.list_cells.result (are-served g.L.Shelf.tells (g.L.Shelf.files c.args.shelf.now) _ _) (cells-is (fetches_of (g.L.Shelf.files c.args.shelf.now) false) (model_of c.args.self.now) c.args.event c.in-Cells.is)
+    (none-taken _ (model_of c.args.self.now).state c.args.steps.now)
+    (subst (λ (held : HoldingsByKey). Gives {A = Reply} c.list_cells.result (Ok (cells_reply held))) c.cells_of.ensures.cells c.list_cells.ensures.given) (λ after tells.
     no-call g.D.Desk.clock g.D.Desk.might c.args.desk.now (g.D.Desk.may_leave c.args.desk.now) (g.D.Desk.said c.args.desk.now)
     (model_of c.args.self.now).state after
     (λ images bytes left. g.met.D.Desk.only_now c.args.desk.now images bytes tells left)
@@ -47,9 +53,10 @@ returns-in-Cells-clause-turned g c =
 
 pub returns-in-Draw-clause-turned : goal.returns-in-Draw-clause-turned
 returns-in-Draw-clause-turned g c =
-    let same : c.behind-self-in-Draw.inside.cells ≡ (model_of c.args.self.now).state.cells = ap (λ (s : StateValue). s.cells) (c.behind-self-in-Draw.view_is ∙ c.state-in-Draw.ensures.state) in
-    question-turns _ _ _ c.args.event (model_of c.args.self.now) (fetches_of (g.L.Shelf.files c.args.shelf.now) false) _ c.draw_chart.result (are-served g.L.Shelf.tells (g.L.Shelf.files c.args.shelf.now) _ _) (draw-is (fetches_of (g.L.Shelf.files c.args.shelf.now) false) (model_of c.args.self.now) c.args.event c.in-Draw.key c.in-Draw.is)
-    (subst (λ (held : HoldingsByKey). Gives {A = Reply} c.draw_chart.result (draw_of (model_of c.args.self.now).portrayal held c.in-Draw.key)) same c.draw_chart.ensures.given) (λ after tells.
+    question-turns _ _ _ c.args.event (model_of c.args.self.now)
+    (within (model_of c.args.self.now).state (model_of c.args.self.now).state c.args.steps.now c.args.steps.now) (fetches_of (g.L.Shelf.files c.args.shelf.now) false) _ c.draw_chart.result (are-served g.L.Shelf.tells (g.L.Shelf.files c.args.shelf.now) _ _) (draw-is (fetches_of (g.L.Shelf.files c.args.shelf.now) false) (model_of c.args.self.now) c.args.event c.in-Draw.key c.in-Draw.is)
+    (none-taken _ (model_of c.args.self.now).state c.args.steps.now)
+    (subst (λ (held : HoldingsByKey). Gives {A = Reply} c.draw_chart.result (draw_of (model_of c.args.self.now).portrayal held c.in-Draw.key)) c.cells_of-cells.ensures.cells c.draw_chart.ensures.given) (λ after tells.
     no-call g.D.Desk.clock g.D.Desk.might c.args.desk.now (g.D.Desk.may_leave c.args.desk.now) (g.D.Desk.said c.args.desk.now)
     (model_of c.args.self.now).state after
     (λ images bytes left. g.met.D.Desk.only_now c.args.desk.now images bytes tells left)
@@ -58,7 +65,9 @@ returns-in-Draw-clause-turned g c =
 pub returns-in-Route-clause-turned : goal.returns-in-Route-clause-turned
 returns-in-Route-clause-turned g c =
     let found = c.check_route.ensures.found in
-    question-turns _ _ _ c.args.event (model_of c.args.self.now) found.0 _ c.check_route.result found.1 (route-is found.0 (model_of c.args.self.now) c.args.event c.in-Route.name c.in-Route.is)
+    question-turns _ _ _ c.args.event (model_of c.args.self.now)
+    (within (model_of c.args.self.now).state (model_of c.args.self.now).state c.args.steps.now c.args.steps.now) found.0 _ c.check_route.result found.1 (route-is found.0 (model_of c.args.self.now) c.args.event c.in-Route.name c.in-Route.is)
+    (none-taken _ (model_of c.args.self.now).state c.args.steps.now)
     (subst (λ (state : StateValue). Gives {A = Reply} c.check_route.result (route_of (model_of c.args.self.now).portrayal.settings state c.in-Route.name (found.0 ROUTE_LIMIT c.in-Route.name)))
     c.state-state.ensures.state found.2) (λ after tells.
     no-call g.D.Desk.clock g.D.Desk.might c.args.desk.now (g.D.Desk.may_leave c.args.desk.now) (g.D.Desk.said c.args.desk.now)
@@ -71,8 +80,9 @@ returns-in-Route-clause-turned g c =
 pub returns-in_err-order-in-Load-clause-turned : goal.returns-in_err-order-in-Load-clause-turned
 returns-in_err-order-in-Load-clause-turned g c =
     let found = c.in_err-order-in-Load.ensures.found in
-    order-fails _ _ _ c.args.event (model_of c.args.self.now) found.0 _ c.from_residual.result c.in_err-order-in-Load.field-0.0 found.1
-    (load-is found.0 (model_of c.args.self.now) c.args.event c.in-Load.name c.in-Load.is) c.from_residual.ensures.1 found.2 (λ after tells.
+    order-fails _ _ _ c.args.event (model_of c.args.self.now)
+    (within (model_of c.args.self.now).state (model_of c.args.self.now).state c.args.steps.now c.args.steps.now) found.0 _ c.from_residual.result c.in_err-order-in-Load.field-0.0 found.1
+    (load-is found.0 (model_of c.args.self.now) c.args.event c.in-Load.name c.in-Load.is) (none-taken _ (model_of c.args.self.now).state c.args.steps.now) c.from_residual.ensures.1 found.2 (λ after tells.
     no-call g.D.Desk.clock g.D.Desk.might c.args.desk.now (g.D.Desk.may_leave c.args.desk.now) (g.D.Desk.said c.args.desk.now)
     (model_of c.args.self.now).state after
     (λ images bytes left. g.met.D.Desk.only_now c.args.desk.now images bytes tells left)
@@ -81,20 +91,23 @@ returns-in_err-order-in-Load-clause-turned g c =
 pub returns-in_ok-order-in-Load-clause-turned : goal.returns-in_ok-order-in-Load-clause-turned
 returns-in_ok-order-in-Load-clause-turned g c =
     let found = c.in_ok-order-in-Load.ensures.found in
-    order-turns _ _ _ c.args.event (model_of c.args.self.now) found.0 _ c.in_ok-order-in-Load.order c.obey.result (model_of c.obey.new.self) found.1
-    (load-is found.0 (model_of c.args.self.now) c.args.event c.in-Load.name c.in-Load.is) found.2 c.obey.ensures.given c.obey.ensures.moments
+    order-turns _ _ _ c.args.event (model_of c.args.self.now)
+    (within (model_of c.args.self.now).state (model_of c.obey.new.self).state c.args.steps.now c.obey.new.steps) found.0 _ c.in_ok-order-in-Load.order c.obey.result (model_of c.obey.new.self) found.1
+    (load-is found.0 (model_of c.args.self.now) c.args.event c.in-Load.name c.in-Load.is) found.2 c.obey.ensures.steps c.obey.ensures.given c.obey.ensures.moments
 
 pub returns-in-Rollback-clause-turned : goal.returns-in-Rollback-clause-turned
 returns-in-Rollback-clause-turned g c =
-    order-turns _ _ _ c.args.event (model_of c.args.self.now) (fetches_of (g.L.Shelf.files c.args.shelf.now) false) _ c.rollback_order.result c.obey-in-Rollback.result (model_of c.obey-in-Rollback.new.self) (are-served g.L.Shelf.tells (g.L.Shelf.files c.args.shelf.now) _ _)
+    order-turns _ _ _ c.args.event (model_of c.args.self.now)
+    (within (model_of c.args.self.now).state (model_of c.obey-in-Rollback.new.self).state c.args.steps.now c.obey-in-Rollback.new.steps) (fetches_of (g.L.Shelf.files c.args.shelf.now) false) _ c.rollback_order.result c.obey-in-Rollback.result (model_of c.obey-in-Rollback.new.self) (are-served g.L.Shelf.tells (g.L.Shelf.files c.args.shelf.now) _ _)
     (rollback-is (fetches_of (g.L.Shelf.files c.args.shelf.now) false) (model_of c.args.self.now) c.args.event c.in-Rollback.key c.in-Rollback.update c.in-Rollback.is) (ap Ok (sym c.rollback_order.ensures))
-    c.obey-in-Rollback.ensures.given c.obey-in-Rollback.ensures.moments
+    c.obey-in-Rollback.ensures.steps c.obey-in-Rollback.ensures.given c.obey-in-Rollback.ensures.moments
 
 pub returns-in-Drop-clause-turned : goal.returns-in-Drop-clause-turned
 returns-in-Drop-clause-turned g c =
-    order-turns _ _ _ c.args.event (model_of c.args.self.now) (fetches_of (g.L.Shelf.files c.args.shelf.now) false) _ c.drop_order.result c.obey-in-Drop.result (model_of c.obey-in-Drop.new.self) (are-served g.L.Shelf.tells (g.L.Shelf.files c.args.shelf.now) _ _)
+    order-turns _ _ _ c.args.event (model_of c.args.self.now)
+    (within (model_of c.args.self.now).state (model_of c.obey-in-Drop.new.self).state c.args.steps.now c.obey-in-Drop.new.steps) (fetches_of (g.L.Shelf.files c.args.shelf.now) false) _ c.drop_order.result c.obey-in-Drop.result (model_of c.obey-in-Drop.new.self) (are-served g.L.Shelf.tells (g.L.Shelf.files c.args.shelf.now) _ _)
     (drop-is (fetches_of (g.L.Shelf.files c.args.shelf.now) false) (model_of c.args.self.now) c.args.event c.in-Drop.key c.in-Drop.is) (ap Ok (sym c.drop_order.ensures))
-    c.obey-in-Drop.ensures.given c.obey-in-Drop.ensures.moments
+    c.obey-in-Drop.ensures.steps c.obey-in-Drop.ensures.given c.obey-in-Drop.ensures.moments
 
 -- the numbers of the line are in their ranges
 in-range : (event : Event) (areas update : ℕ) → event ≡ Make areas update → AreInRange event → CanBeMade areas update
@@ -108,8 +121,9 @@ make_order-requires-clause-update g c = (in-range c.args.event c.in-Make.areas c
 
 pub returns-in_err-order-in-Make-clause-turned : goal.returns-in_err-order-in-Make-clause-turned
 returns-in_err-order-in-Make-clause-turned g c =
-    order-fails _ _ _ c.args.event (model_of c.args.self.now) (fetches_of (g.L.Shelf.files c.args.shelf.now) false) _ c.from_residual-in_err-order-in-Make.result c.in_err-order-in-Make.field-0.0 (are-served g.L.Shelf.tells (g.L.Shelf.files c.args.shelf.now) _ _)
-    (make-is (fetches_of (g.L.Shelf.files c.args.shelf.now) false) (model_of c.args.self.now) c.args.event c.in-Make.areas c.in-Make.update c.in-Make.is) c.from_residual-in_err-order-in-Make.ensures.1
+    order-fails _ _ _ c.args.event (model_of c.args.self.now)
+    (within (model_of c.args.self.now).state (model_of c.args.self.now).state c.args.steps.now c.args.steps.now) (fetches_of (g.L.Shelf.files c.args.shelf.now) false) _ c.from_residual-in_err-order-in-Make.result c.in_err-order-in-Make.field-0.0 (are-served g.L.Shelf.tells (g.L.Shelf.files c.args.shelf.now) _ _)
+    (make-is (fetches_of (g.L.Shelf.files c.args.shelf.now) false) (model_of c.args.self.now) c.args.event c.in-Make.areas c.in-Make.update c.in-Make.is) (none-taken _ (model_of c.args.self.now).state c.args.steps.now) c.from_residual-in_err-order-in-Make.ensures.1
     c.in_err-order-in-Make.ensures.given (λ after tells.
     no-call g.D.Desk.clock g.D.Desk.might c.args.desk.now (g.D.Desk.may_leave c.args.desk.now) (g.D.Desk.said c.args.desk.now)
     (model_of c.args.self.now).state after
@@ -118,15 +132,17 @@ returns-in_err-order-in-Make-clause-turned g c =
 
 pub returns-in_ok-order-in-Make-clause-turned : goal.returns-in_ok-order-in-Make-clause-turned
 returns-in_ok-order-in-Make-clause-turned g c =
-    order-turns _ _ _ c.args.event (model_of c.args.self.now) (fetches_of (g.L.Shelf.files c.args.shelf.now) false) _ c.in_ok-order-in-Make.order c.obey-in-Make.result (model_of c.obey-in-Make.new.self) (are-served g.L.Shelf.tells (g.L.Shelf.files c.args.shelf.now) _ _)
+    order-turns _ _ _ c.args.event (model_of c.args.self.now)
+    (within (model_of c.args.self.now).state (model_of c.obey-in-Make.new.self).state c.args.steps.now c.obey-in-Make.new.steps) (fetches_of (g.L.Shelf.files c.args.shelf.now) false) _ c.in_ok-order-in-Make.order c.obey-in-Make.result (model_of c.obey-in-Make.new.self) (are-served g.L.Shelf.tells (g.L.Shelf.files c.args.shelf.now) _ _)
     (make-is (fetches_of (g.L.Shelf.files c.args.shelf.now) false) (model_of c.args.self.now) c.args.event c.in-Make.areas c.in-Make.update c.in-Make.is) c.in_ok-order-in-Make.ensures.given
-    c.obey-in-Make.ensures.given c.obey-in-Make.ensures.moments
+    c.obey-in-Make.ensures.steps c.obey-in-Make.ensures.given c.obey-in-Make.ensures.moments
 
 pub returns-in_err-order-in-Reissue-clause-turned : goal.returns-in_err-order-in-Reissue-clause-turned
 returns-in_err-order-in-Reissue-clause-turned g c =
-    let same : c.behind-self-in-Reissue.inside.cells ≡ (model_of c.args.self.now).state.cells = ap (λ (s : StateValue). s.cells) (c.behind-self-in-Reissue.view_is ∙ c.state-in-Reissue.ensures.state) in
-    order-fails _ _ _ c.args.event (model_of c.args.self.now) (fetches_of (g.L.Shelf.files c.args.shelf.now) false) _ c.from_residual-in_err-order-in-Reissue.result c.in_err-order-in-Reissue.field-0.0 (are-served g.L.Shelf.tells (g.L.Shelf.files c.args.shelf.now) _ _)
-    (reissue-is (fetches_of (g.L.Shelf.files c.args.shelf.now) false) (model_of c.args.self.now) c.args.event c.in-Reissue.key c.in-Reissue.is) c.from_residual-in_err-order-in-Reissue.ensures.1
+    let same = c.cells_of-in-Reissue.ensures.cells in
+    order-fails _ _ _ c.args.event (model_of c.args.self.now)
+    (within (model_of c.args.self.now).state (model_of c.args.self.now).state c.args.steps.now c.args.steps.now) (fetches_of (g.L.Shelf.files c.args.shelf.now) false) _ c.from_residual-in_err-order-in-Reissue.result c.in_err-order-in-Reissue.field-0.0 (are-served g.L.Shelf.tells (g.L.Shelf.files c.args.shelf.now) _ _)
+    (reissue-is (fetches_of (g.L.Shelf.files c.args.shelf.now) false) (model_of c.args.self.now) c.args.event c.in-Reissue.key c.in-Reissue.is) (none-taken _ (model_of c.args.self.now).state c.args.steps.now) c.from_residual-in_err-order-in-Reissue.ensures.1
     (subst (λ (held : HoldingsByKey). Gives {A = Order} (Err c.in_err-order-in-Reissue.field-0.0) (reissue_order held c.in-Reissue.key)) same c.in_err-order-in-Reissue.ensures.given) (λ after tells.
     no-call g.D.Desk.clock g.D.Desk.might c.args.desk.now (g.D.Desk.may_leave c.args.desk.now) (g.D.Desk.said c.args.desk.now)
     (model_of c.args.self.now).state after
@@ -135,31 +151,38 @@ returns-in_err-order-in-Reissue-clause-turned g c =
 
 pub returns-in_ok-order-in-Reissue-clause-turned : goal.returns-in_ok-order-in-Reissue-clause-turned
 returns-in_ok-order-in-Reissue-clause-turned g c =
-    let same : c.behind-self-in-Reissue.inside.cells ≡ (model_of c.args.self.now).state.cells = ap (λ (s : StateValue). s.cells) (c.behind-self-in-Reissue.view_is ∙ c.state-in-Reissue.ensures.state) in
-    order-turns _ _ _ c.args.event (model_of c.args.self.now) (fetches_of (g.L.Shelf.files c.args.shelf.now) false) _ c.in_ok-order-in-Reissue.order c.obey-in-Reissue.result (model_of c.obey-in-Reissue.new.self) (are-served g.L.Shelf.tells (g.L.Shelf.files c.args.shelf.now) _ _)
+    let same = c.cells_of-in-Reissue.ensures.cells in
+    order-turns _ _ _ c.args.event (model_of c.args.self.now)
+    (within (model_of c.args.self.now).state (model_of c.obey-in-Reissue.new.self).state c.args.steps.now c.obey-in-Reissue.new.steps) (fetches_of (g.L.Shelf.files c.args.shelf.now) false) _ c.in_ok-order-in-Reissue.order c.obey-in-Reissue.result (model_of c.obey-in-Reissue.new.self) (are-served g.L.Shelf.tells (g.L.Shelf.files c.args.shelf.now) _ _)
     (reissue-is (fetches_of (g.L.Shelf.files c.args.shelf.now) false) (model_of c.args.self.now) c.args.event c.in-Reissue.key c.in-Reissue.is)
     (ap (λ (held : HoldingsByKey). reissue_order held c.in-Reissue.key) (sym same) ∙ c.in_ok-order-in-Reissue.ensures.given)
-    c.obey-in-Reissue.ensures.given c.obey-in-Reissue.ensures.moments
+    c.obey-in-Reissue.ensures.steps c.obey-in-Reissue.ensures.given c.obey-in-Reissue.ensures.moments
+
+-- ---- what is kept
+
+pub draw_chart-requires : goal.draw_chart-requires
+draw_chart-requires g c = record {
+  kept =
+      subst (λ (cells : HoldingsByKey). IsKeptOfEach AreUsersOf cells (users_in c.args.self.now)) (sym c.cells_of-cells.ensures.cells) c.requires.ready.charts.users;
+}
+
+pub check_route-requires : goal.check_route-requires
+check_route-requires g c = record {
+  grids =
+      subst (λ (state : StateValue). HasGrids state (grids_in c.args.self.now)) (sym c.state-state.ensures.state)
+      (has-grids (model_of c.args.self.now).state (grids_in c.args.self.now) c.requires.ready.charts.grids);
+}
 
 -- ---- a re-issue
 
-pub reissue_order-requires-clause-live : goal.reissue_order-requires-clause-live
-reissue_order-requires-clause-live g c =
-    subst (λ (state : StateValue). AreLive state.cells) (sym c.behind-self-in-Reissue.view_is) c.state-in-Reissue.ensures.live
-
-pub reissue_order-requires-clause-closed : goal.reissue_order-requires-clause-closed
-reissue_order-requires-clause-closed g c =
-    subst (λ (state : StateValue). IfSome (chart_of state.cells c.in-Reissue.key) IsClosed) (sym c.behind-self-in-Reissue.view_is)
-    (c.state-in-Reissue.ensures.closed c.in-Reissue.key)
-
 pub returns-in_err-order-in-Reissue-clause-reissue : goal.returns-in_err-order-in-Reissue-clause-reissue
 returns-in_err-order-in-Reissue-clause-reissue g c = λ other key is.
-    let same : c.behind-self-in-Reissue.inside.cells ≡ (model_of c.args.self.now).state.cells = ap (λ (s : StateValue). s.cells) (c.behind-self-in-Reissue.view_is ∙ c.state-in-Reissue.ensures.state) in
+    let same = c.cells_of-in-Reissue.ensures.cells in
     event-keeps (model_of c.args.self.now) _ c.in-Reissue.key key c.args.event
     (c.in_err-order-in-Reissue.ensures.keeps (not-passed c.from_residual-in_err-order-in-Reissue.result c.in_err-order-in-Reissue.field-0.0 NoMemory
     c.from_residual-in_err-order-in-Reissue.ensures.1 other)) (sym same) c.in-Reissue.is is
 
 pub returns-in_ok-order-in-Reissue-clause-reissue : goal.returns-in_ok-order-in-Reissue-clause-reissue
 returns-in_ok-order-in-Reissue-clause-reissue g c = λ other key is.
-    let same : c.behind-self-in-Reissue.inside.cells ≡ (model_of c.args.self.now).state.cells = ap (λ (s : StateValue). s.cells) (c.behind-self-in-Reissue.view_is ∙ c.state-in-Reissue.ensures.state) in
+    let same = c.cells_of-in-Reissue.ensures.cells in
     event-keeps (model_of c.args.self.now) _ c.in-Reissue.key key c.args.event (c.in_ok-order-in-Reissue.ensures.keeps (λ e. cc)) (sym same) c.in-Reissue.is is

@@ -1,0 +1,89 @@
+-- What an accepted command leaves of a session.
+use Rattle.std.proofs.Common.{◌≡◌, ◌≢◌, Bool, true, false, ℕ, ◌+◌, ◌≤◌, List, Option, Some, None, Result, Ok, Err, refl, sym, ◌∙◌, ap, subst}
+use Rattle.std.specs.Prelude.{◌↔◌, IsErrAnd, IsTrue, option_and_then}
+use Rattle.std.specs.FinMap as map
+use Rattle.chart_model.specs.Answers.{◌>>=◌}
+use Rattle.chart_model.specs.Cell.{CellValue}
+use Rattle.chart_model.specs.Keys.{key_cmp}
+use Rattle.chart_model.specs.Names.{name_cmp}
+use Rattle.chart_model.specs.State.{StateValue}
+use Rattle.chart_model.specs.declared.command.Command.{Command}
+use Rattle.chart_model.specs.declared.state.Holding.{Holding}
+use Rattle.chart_store.specs.Loaded.{Outcome}
+use Rattle.chart_store.specs.Outcome.{Room, accepted, outcome, record_size, room_within}
+use Rattle.chart_store.specs.Submitted.{accepted_with}
+use Rattle.chart_store.specs.declared.accepted.Accepted.{Accepted}
+use Rattle.chart_store.specs.declared.refusal.Refusal as of_store
+use Rattle.chart_store.specs.declared.submit_fault.SubmitFault.{SubmitFault}
+use Rattle.chart_store.specs.declared.submit_fault.SubmitFault.TheVariants as of_submit
+use Rattle.script_reader.specs.declared.reply.Reply.{Reply}
+use Rattle.session_core.specs.declared.fault.EventFault.{EventFault}
+use Rattle.session_core.specs.declared.fault.EventFault.TheVariants.{DeskFault}
+use Rattle.session_core.specs.Answers.{fault_of_submit}
+use Rattle.plane_bounds.specs.declared.bounds.Bounds.{Bounds}
+use Rattle.route_check.specs.Grids.{HasGridOf, HasGrids}
+use Rattle.spatial_grid.specs.Box.{IsGridOf}
+use Rattle.session_core.specs.Kept.{IsKeptOf, IsKeptOfEach}
+use Rattle.session_core.specs.Steps.{TakesAtMost}
+use Rattle.session_core.proofs.Fetching.{passed-is}
+use Rattle.session_core.proofs.Stepping.{within-none}
+
+-- ---- the cells
+
+-- what the law of the store says of each command
+abbrev pub ChangesAlone : Type 0
+ChangesAlone = (state : StateValue) (command : Command) (done : Outcome) (key : List ℕ)
+    → outcome state command ≡ Ok done → key ≢ done.key → map.get done.state.cells key ≡ map.get state.cells key
+
+by-outcome : (found : Result Outcome of_store.Refusal) (room : Result (Unit {0}) of_store.Refusal) (done : Outcome)
+    → (found >>= λ left. room >>= λ none. Ok left) ≡ Ok done → found ≡ Ok done
+by-outcome (Err refusal) room done e = absurd cc
+by-outcome (Ok left) (Err refusal) done e = absurd cc
+by-outcome (Ok left) (Ok none) done e = e
+
+accepted-outcome : (state : StateValue) (room : Room) (command : Command) (done : Outcome) → accepted state room command ≡ Ok done
+    → outcome state command ≡ Ok done
+unfolding accepted
+accepted-outcome state room command done e = by-outcome (outcome state command) (room_within room (record_size command)) done e
+
+-- each other cell is as it was
+pub others-stay : ChangesAlone → (state now : StateValue) (room : Room) (command : Command) (done : Accepted)
+    → accepted state room command ≡ Ok (accepted_with now done) → (key : List ℕ) → key ≢ done.key
+    → map.get now.cells key ≡ map.get state.cells key
+others-stay alone state now room command done e key apart =
+    alone state command (accepted_with now done) key (accepted-outcome state room command (accepted_with now done) e) apart
+
+-- ---- the store
+
+-- a fault that isn't the desk's isn't the desk's below
+pub other-fault : (r : Result Reply EventFault) (fault : SubmitFault) → IsErrAnd r (λ passed. passed ≡ fault_of_submit fault) → r ≢ Err DeskFault
+    → ◌≢◌ {A = Result Accepted SubmitFault} (Err fault) (Err of_submit.DeskFault)
+other-fault r of_submit.DeskFault passed other same = other (passed-is r DeskFault passed)
+other-fault r (of_submit.Refused refusal) passed other same = cc
+other-fault r of_submit.NoMemory passed other same = cc
+
+pub stays-sound : (sound : Bool) (failed : Type 0) → (sound ≡ false) ↔ failed → (failed → ⊥) → IsTrue sound
+stays-sound true failed h none = refl
+stays-sound false failed h none = absurd (none (h.0 refl))
+
+-- ---- the steps
+
+-- a command that is refused, or for which there is no memory
+pub refused-steps : (most : ℕ) (before now : StateValue) (steps taken : ℕ) → now ≡ before → taken ≤ steps + most
+    → TakesAtMost most before now steps taken
+refused-steps most before now steps taken same h =
+    subst (λ (state : StateValue). TakesAtMost most before state steps taken) (sym same) (within-none most before steps taken h)
+
+-- ---- the grids
+
+-- each chart has its grid
+pub has-grids : (state : StateValue) (grids : map.FinMap key_cmp (map.FinMap name_cmp Bounds)) → IsKeptOfEach IsGridOf state.cells grids
+    → HasGrids state grids
+has-grids state grids kept key holding chart found is =
+    grid-of (map.get grids key) refl
+    (subst (λ (o : Option CellValue). IsKeptOf IsGridOf o (map.get grids key))
+    (ap (λ (o : Option Holding). option_and_then (λ (here : Holding). here.chart) o) found ∙ is) (kept key))
+  where
+    grid-of : (o : Option (map.FinMap name_cmp Bounds)) → map.get grids key ≡ o → IsKeptOf IsGridOf (Some chart) o → HasGridOf grids key chart
+    grid-of (Some grid) there boxed = record { grid = grid; there = there; is_grid = boxed }
+    grid-of None there none = absurd none
