@@ -8,6 +8,7 @@
 mod changes;
 mod fault;
 mod fetch;
+mod grids;
 mod held;
 mod laws;
 mod questions;

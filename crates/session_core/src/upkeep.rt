@@ -1,20 +1,17 @@
-//! What is kept of each chart that is held, so that no line has to find it anew: the users of its edges, and its grid.
+//! What is kept of each chart that is held, so that no line has to find it anew: the users of its edges.
 //!
-//! A command changes the chart of one cell. Its users are brought up to date by the records that differ; its grid is
-//! made anew, since a node that moves moves the boxes of features whose own records stay.
+//! A command changes the chart of one cell, and its users are brought up to date by the records that differ.
 
 ghost use Rattle.std.specs.Prelude.{◌+◌, ◌≤◌, length, IfOk, OnOk};
 ghost use Rattle.std.specs.FinMap as finite;
 ghost use Rattle.std.specs.Option.{option_copied};
 ghost use Rattle.chart_difference.specs.Difference.{AreChanged};
 ghost use Rattle.session_core.specs.Kept.{IsKeptOf, IsKeptOfEach, IsRenewed, feature_count, features_in};
-ghost use Rattle.spatial_grid.specs.Box.{IsGridOf};
 ghost use Rattle.topology_cache.specs.Users.{AreUsersOf};
 
 use chart_model::{Cell, HoldingMap, Key};
 use chart_ports::Steps;
 use chart_store::Accepted;
-use spatial_grid::{GridMap, grid_of};
 use std::alloc::{AllocError, Global};
 use std::sync::ledger::Ledger;
 use topology_cache::{UsersMap, users_of};
@@ -38,22 +35,6 @@ fn make_users<C: Ledger>(
     users.insert(key, users_of(alloc, chart, steps)?)
 }
 
-/// Makes the grid of a cell's chart anew, where there is a chart, and else takes out what is there.
-pub fn make_grid(
-    alloc: Global,
-    grids: &mut GridMap,
-    key: Key,
-    chart: Option<&Cell>,
-) -> Result<(), AllocError>
-    ensures { OnOk result (IsRenewed IsGridOf key (option_copied chart.entry) grids.old grids.new) }
-{
-    let _ = grids.remove(key);
-    let Some(chart) = chart else {
-        return Ok(());
-    };
-    grids.insert(key, grid_of(alloc, chart)?)
-}
-
 /// The users of all charts. Each feature is a step.
 pub fn all_users<C: Ledger>(
     alloc: Global,
@@ -68,17 +49,6 @@ pub fn all_users<C: Ledger>(
         make_users(alloc, &mut users, *key, holding.chart.as_ref(), steps)?;
     }
     Ok(users)
-}
-
-/// The grids of all charts.
-pub fn all_grids(alloc: Global, cells: &HoldingMap) -> Result<GridMap, AllocError>
-    ensures { IfOk result (IsKeptOfEach IsGridOf cells.now) }
-{
-    let mut grids = GridMap::new(alloc);
-    for (key, holding) in cells.iter() {
-        make_grid(alloc, &mut grids, *key, holding.chart.as_ref())?;
-    }
-    Ok(grids)
 }
 
 /// Brings the users of a cell's chart up to date after a command, by the chart before and the names whose records
