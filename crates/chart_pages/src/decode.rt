@@ -1,0 +1,40 @@
+//! States of bytes.
+
+ghost use Rattle.std.specs.Prelude.{◌≡◌, IfOk, IfSome, IfNone};
+ghost use Rattle.chart_model.specs.State.{StateValue};
+ghost use Rattle.page_parts.specs.Reader.{Finds};
+ghost use Rattle.chart_pages.specs.Grammar.{Spells};
+ghost use Rattle.chart_pages.specs.Reading.{state_in};
+
+use crate::cells::read_cells;
+use chart_model::{State, keys_are_tested};
+use page_parts::PageFault;
+use std::alloc::{AllocError, Global};
+
+/// Reads cells up to the end of the bytes.
+fn read_state(alloc: Global, bytes: &[u8]) -> Result<State, PageFault>
+    ensures { Finds (λ state. state) result (state_in bytes.now) }
+{
+    keys_are_tested();
+    let (cells, rest) = read_cells(alloc, bytes)?;
+    if !rest.is_empty() {
+        return Err(PageFault::Unspelled);
+    }
+    Ok(State { cells })
+}
+
+/// The state that the bytes spell, all of them, or none where they spell no state. The bytes are read where they stand,
+/// and a text is copied once.
+pub fn decode_store(alloc: Global, bytes: &[u8]) -> Result<Option<State>, AllocError>
+    ensures found { IfOk result (λ found. IfSome found (Spells bytes.now)) }
+    // No bytes that spell a state are refused.
+    ensures none { IfOk result (λ found. IfNone found ((state : StateValue) → ¬ Spells bytes.now state)) }
+    ensures function { IfOk result (λ found. found ≡ state_in bytes.now) }
+{
+    keys_are_tested();
+    match read_state(alloc, bytes) {
+        Ok(state) => Ok(Some(state)),
+        Err(PageFault::Unspelled) => Ok(None),
+        Err(PageFault::NoMemory) => Err(AllocError),
+    }
+}

@@ -1,0 +1,84 @@
+//! Keys, and the numbers that are held of a cell.
+
+ghost use Rattle.std.specs.Prelude.{◌≡◌, ◌++◌, OnOk, IfOk};
+ghost use Rattle.chart_model.specs.State.{IsHeld};
+ghost use Rattle.page_parts.specs.Reader.{Finds};
+ghost use Rattle.chart_pages.specs.Held.{flag, flag_at, held_at, held_numbers, is_held, key_at};
+
+use chart_model::{Held, Key, Octets, keys_are_tested};
+use page_parts::{PageFault, put_byte, put_four_bytes, read_four_bytes, read_span};
+use std::alloc::AllocError;
+
+/// Reads a key, which is a text.
+#[tactic(auto, unfolding(crate::specs::Held::key_at))]
+pub(crate) fn read_key(bytes: &[u8]) -> Result<(Key, &[u8]), PageFault>
+    ensures { Finds (λ read. (read.0, read.1.now)) result (key_at bytes.now) }
+{
+    keys_are_tested();
+    let (text, rest) = read_span(bytes)?;
+    match Key::from_bytes(text) {
+        Some(key) => Ok((key, rest)),
+        None => Err(PageFault::Unspelled),
+    }
+}
+
+/// Adds a flag.
+#[tactic(auto, unfolding(crate::specs::Held::flag))]
+fn put_flag(out: &mut Octets, value: bool) -> Result<(), AllocError>
+    ensures { OnOk result (out.new ≡ out.old ++ flag value) }
+{
+    if value {
+        put_byte(out, 1)
+    } else {
+        put_byte(out, 0)
+    }
+}
+
+/// Reads a flag.
+#[tactic(auto, unfolding(crate::specs::Held::flag_at))]
+fn read_flag(bytes: &[u8]) -> Result<(bool, &[u8]), PageFault>
+    ensures { Finds (λ read. (read.0, read.1.now)) result (flag_at bytes.now) }
+{
+    match bytes {
+        [0, rest @ ..] => Ok((false, rest)),
+        [1, rest @ ..] => Ok((true, rest)),
+        _ => Err(PageFault::Unspelled),
+    }
+}
+
+/// Adds the numbers that are held of a cell.
+#[tactic(auto, unfolding(crate::specs::Held::held_numbers))]
+pub(crate) fn put_held(out: &mut Octets, held: Held) -> Result<(), AllocError>
+    ensures { OnOk result (out.new ≡ out.old ++ held_numbers held) }
+{
+    put_four_bytes(out, held.edition)?;
+    put_four_bytes(out, held.update)?;
+    put_flag(out, held.cancelled)
+}
+
+/// Whether numbers can be held of a cell.
+fn is_held(held: Held) -> bool
+    ensures { result ≡ is_held held }
+{
+    held.edition >= 1 && held.edition <= 999_999_999 && held.update <= 999_999_999
+}
+
+/// Reads the numbers that are held of a cell.
+#[tactic(auto, unfolding(crate::specs::Held::held_at))]
+pub(crate) fn read_held(bytes: &[u8]) -> Result<(Held, &[u8]), PageFault>
+    ensures found { Finds (λ read. (read.0, read.1.now)) result (held_at bytes.now) }
+    ensures held { IfOk result (λ read. IsHeld read.0) }
+{
+    let (edition, rest) = read_four_bytes(bytes)?;
+    let (update, rest) = read_four_bytes(rest)?;
+    let (cancelled, rest) = read_flag(rest)?;
+    let held = Held {
+        edition,
+        update,
+        cancelled,
+    };
+    if !is_held(held) {
+        return Err(PageFault::Unspelled);
+    }
+    Ok((held, rest))
+}

@@ -1,0 +1,68 @@
+//! Vector records.
+
+ghost use Rattle.std.specs.Prelude.{◌≡◌};
+ghost use Rattle.page_parts.specs.Reader.{Finds};
+ghost use Rattle.chart_pages.specs.Vectors.{is_vector_name, vector_name_at};
+
+use crate::records::Record;
+use chart_model::codes::{CONNECTED_NODE, EDGE, ISOLATED_NODE};
+use chart_model::{Name, Octets, Vector};
+use page_parts::{
+    PageFault, put_attributes, put_coords, put_list, put_name, put_two_bytes, read_attributes,
+    read_coords, read_list, read_name, read_two_bytes,
+};
+use std::alloc::{AllocError, Global};
+
+/// Whether a name is that of a vector record.
+fn is_vector_name(name: Name) -> bool
+    ensures { result ≡ is_vector_name name }
+{
+    matches!(name.rcnm, ISOLATED_NODE | CONNECTED_NODE | EDGE)
+}
+
+/// Reads the name of a vector record.
+#[tactic(auto, unfolding(crate::specs::Vectors::vector_name_at))]
+fn read_vector_name(bytes: &[u8]) -> Result<(Name, &[u8]), PageFault>
+    ensures { Finds (λ read. (read.0, read.1.now)) result (vector_name_at bytes.now) }
+{
+    let (name, rest) = read_name(bytes)?;
+    if !is_vector_name(name) {
+        return Err(PageFault::Unspelled);
+    }
+    Ok((name, rest))
+}
+
+impl Record for Vector {
+    ghost use Rattle.chart_pages.specs.Vectors.{IsVectorInRange, vector_at, vector_record};
+
+    ghost record_at = { vector_at };
+
+    ghost spelling = { vector_record };
+
+    ghost is_in_range = { IsVectorInRange };
+
+    #[tactic(auto, unfolding(crate::specs::Vectors::vector_at))]
+    fn read(alloc: Global, bytes: &[u8]) -> Result<((Name, Vector), &[u8]), PageFault> {
+        let (name, rest) = read_vector_name(bytes)?;
+        let (version, rest) = read_two_bytes(rest)?;
+        let (attrs, rest) = read_attributes(alloc, rest)?;
+        let (pointers, rest) = read_list(alloc, rest)?;
+        let (coords, rest) = read_coords(alloc, rest)?;
+        let vector = Vector {
+            version,
+            attrs,
+            pointers,
+            coords,
+        };
+        Ok(((name, vector), rest))
+    }
+
+    #[tactic(auto, unfolding(crate::specs::Vectors::vector_record))]
+    fn put(&self, out: &mut Octets, name: Name) -> Result<(), AllocError> {
+        put_name(out, name)?;
+        put_two_bytes(out, self.version)?;
+        put_attributes(out, &self.attrs)?;
+        put_list(out, self.pointers.as_slice())?;
+        put_coords(out, self.coords.as_slice())
+    }
+}

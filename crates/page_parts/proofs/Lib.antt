@@ -1,0 +1,9 @@
+pub mod Bytes
+pub mod ReadBehind
+pub mod NumbersRead
+pub mod ListsRead
+pub mod RisingRead
+pub mod PointersRead
+pub mod CoordinatesRead
+pub mod AttributesRead
+pub mod FilesRead

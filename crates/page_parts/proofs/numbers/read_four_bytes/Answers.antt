@@ -1,0 +1,10 @@
+use Rattle.std.proofs.Common.{◌≡◌, take, drop, rules, arith}
+use Rattle.std.specs.Int.{w32, byte_len, from_be_bytes}
+use Rattle.page_parts.proofs.Bytes.{number_found}
+use Rattle.page_parts.proofs.numbers.read_four_bytes.Goals as goal
+
+pub returns : goal.returns
+returns c =
+    let is : c.from_be_bytes-value.result ≡ from_be_bytes w32 (take (byte_len w32) c.args.bytes.now) = search rules in
+    let behind : c.split_at.result.1.now ≡ drop (byte_len w32) c.args.bytes.now = search rules in
+    number_found w32 c.args.bytes.now c.split_at.result.1.now c.from_be_bytes-value.result (λ i. omega (arith, c.type_inv.bytes i)) (omega arith) is behind

@@ -1,0 +1,67 @@
+//! Names of records, and pointers to them.
+
+ghost use Rattle.std.specs.Prelude.{◌≡◌, ◌++◌, OnOk};
+ghost use Rattle.page_parts.specs.Reader.{Finds};
+ghost use Rattle.page_parts.specs.Pointers.{IsNameInRange, IsPointerInRange, name, name_at, pointer, pointer_at};
+
+use crate::fault::PageFault;
+use crate::lists::Part;
+use crate::numbers::{put_byte, put_four_bytes, read_byte, read_four_bytes};
+use chart_model::{Name, Octets, Pointer};
+use std::alloc::{AllocError, Global};
+
+/// Adds the name of a record.
+#[tactic(auto, unfolding(crate::specs::Pointers::name))]
+pub fn put_name(out: &mut Octets, value: Name) -> Result<(), AllocError>
+    ensures bytes { OnOk result (out.new ≡ out.old ++ name value) }
+    ensures in_range { OnOk result (IsNameInRange value) }
+{
+    put_byte(out, value.rcnm)?;
+    put_four_bytes(out, value.rcid)
+}
+
+/// Reads the name of a record.
+#[tactic(auto, unfolding(crate::specs::Pointers::name_at))]
+pub fn read_name(bytes: &[u8]) -> Result<(Name, &[u8]), PageFault>
+    ensures { Finds (λ read. (read.0, read.1.now)) result (name_at bytes.now) }
+{
+    let (rcnm, rest) = read_byte(bytes)?;
+    let (rcid, rest) = read_four_bytes(rest)?;
+    Ok((Name { rcnm, rcid }, rest))
+}
+
+impl Part for Pointer {
+    ghost use Rattle.page_parts.specs.Pointers.{IsPointerInRange, pointer, pointer_at};
+
+    ghost part_at = { pointer_at };
+
+    ghost spelling = { pointer };
+
+    ghost is_in_range = { IsPointerInRange };
+
+    #[tactic(auto, unfolding(crate::specs::Pointers::pointer_at))]
+    fn read(_alloc: Global, bytes: &[u8]) -> Result<(Pointer, &[u8]), PageFault> {
+        let (target, rest) = read_name(bytes)?;
+        let (ornt, rest) = read_byte(rest)?;
+        let (usag, rest) = read_byte(rest)?;
+        let (topi, rest) = read_byte(rest)?;
+        let (mask, rest) = read_byte(rest)?;
+        let pointer = Pointer {
+            target,
+            ornt,
+            usag,
+            topi,
+            mask,
+        };
+        Ok((pointer, rest))
+    }
+
+    #[tactic(auto, unfolding(crate::specs::Pointers::pointer))]
+    fn put(&self, out: &mut Octets) -> Result<(), AllocError> {
+        put_name(out, self.target)?;
+        put_byte(out, self.ornt)?;
+        put_byte(out, self.usag)?;
+        put_byte(out, self.topi)?;
+        put_byte(out, self.mask)
+    }
+}

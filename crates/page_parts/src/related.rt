@@ -1,0 +1,58 @@
+//! Identifiers of feature objects, and related objects.
+
+ghost use Rattle.std.specs.Prelude.{◌≡◌, ◌++◌, OnOk};
+ghost use Rattle.page_parts.specs.Reader.{Finds};
+ghost use Rattle.page_parts.specs.RelatedObjects.{IsFoidInRange, foid, foid_at};
+
+use crate::fault::PageFault;
+use crate::lists::Part;
+use crate::numbers::{
+    put_byte, put_four_bytes, put_two_bytes, read_byte, read_four_bytes, read_two_bytes,
+};
+use chart_model::{Foid, Octets, Related};
+use std::alloc::{AllocError, Global};
+
+/// Adds the identifier of a feature object.
+#[tactic(auto, unfolding(crate::specs::RelatedObjects::foid))]
+pub fn put_foid(out: &mut Octets, value: Foid) -> Result<(), AllocError>
+    ensures bytes { OnOk result (out.new ≡ out.old ++ foid value) }
+    ensures in_range { OnOk result (IsFoidInRange value) }
+{
+    put_two_bytes(out, value.agen)?;
+    put_four_bytes(out, value.fidn)?;
+    put_two_bytes(out, value.fids)
+}
+
+/// Reads the identifier of a feature object.
+#[tactic(auto, unfolding(crate::specs::RelatedObjects::foid_at))]
+pub fn read_foid(bytes: &[u8]) -> Result<(Foid, &[u8]), PageFault>
+    ensures { Finds (λ read. (read.0, read.1.now)) result (foid_at bytes.now) }
+{
+    let (agen, rest) = read_two_bytes(bytes)?;
+    let (fidn, rest) = read_four_bytes(rest)?;
+    let (fids, rest) = read_two_bytes(rest)?;
+    Ok((Foid { agen, fidn, fids }, rest))
+}
+
+impl Part for Related {
+    ghost use Rattle.page_parts.specs.RelatedObjects.{IsRelatedInRange, related, related_at};
+
+    ghost part_at = { related_at };
+
+    ghost spelling = { related };
+
+    ghost is_in_range = { IsRelatedInRange };
+
+    #[tactic(auto, unfolding(crate::specs::RelatedObjects::related_at))]
+    fn read(_alloc: Global, bytes: &[u8]) -> Result<(Related, &[u8]), PageFault> {
+        let (foid, rest) = read_foid(bytes)?;
+        let (rind, rest) = read_byte(rest)?;
+        Ok((Related { foid, rind }, rest))
+    }
+
+    #[tactic(auto, unfolding(crate::specs::RelatedObjects::related))]
+    fn put(&self, out: &mut Octets) -> Result<(), AllocError> {
+        put_foid(out, self.foid)?;
+        put_byte(out, self.rind)
+    }
+}
