@@ -8,9 +8,9 @@
 //!   significant first, and the body;
 //! - a closed gate, which is a byte whose lowest bit is 0. What stands behind it doesn't count.
 //!
-//! A file of at most nine bytes is the empty bank, whatever they are. A record is written behind the closed gate, with a
-//! closed gate behind it, and synced; only then is the gate before it opened, and synced. So no crash leaves a part of a
-//! record that counts.
+//! A file of at most nine bytes is the empty bank, whatever they are. A record is written behind the closed gate, with
+//! a closed gate behind it, and synced; only then is the gate before it opened, and synced. So no crash leaves a part
+//! of a record that counts.
 #![tactic(auto)]
 
 mod bank;

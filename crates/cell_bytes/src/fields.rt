@@ -4,7 +4,8 @@
 //! side by side, and are put behind each other when its last field is there.
 
 ghost use Rattle.std.specs.Prelude.{◌≡◌, ◌++◌, ◌+◌, ◌<◌, [], length, codes, IfOk, OnOk};
-ghost use Rattle.cell_bytes.specs.Record.{only_fields, base_of, digits, field, record_bytes, leader_of, no_fields, with_fields};
+ghost use Rattle.cell_bytes.specs.Record.{only_fields, base_of, digits, field, record_bytes, leader_of, no_fields};
+ghost use Rattle.cell_bytes.specs.Record.{with_fields};
 ghost use Rattle.cell_bytes.specs.Vector.{identified};
 
 use chart_model::Octets;

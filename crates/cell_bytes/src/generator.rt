@@ -242,7 +242,8 @@ fn made_areas(alloc: Global, count: u32) -> Result<FeatureMap, AllocError>
 }
 
 /// Makes a cell for trials with `n` depth areas, side by side, each with an edge and a connected node of its own: area
-/// `i` is a square of 900 units (10⁻⁷ degrees) from the point `(1000 i, 0)` on, between `i` modulo 50 and 10 metres more.
+/// `i` is a square of 900 units (10⁻⁷ degrees) from the point `(1000 i, 0)` on, between `i` modulo 50 and 10 metres
+/// more.
 ///
 /// # Errors
 ///

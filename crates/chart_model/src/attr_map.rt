@@ -26,8 +26,8 @@ use std::mem;
 /// The text that removes an attribute: the delete character alone (S-57 Part 3).
 const DELETED: [u8; 1] = [0x7F];
 
-/// The most settings that are made in their places, where each may move all attributes behind its own: so many cost less
-/// than a pass over all attributes.
+/// The most settings that are made in their places, where each may move all attributes behind its own: so many cost
+/// less than a pass over all attributes.
 pub const MOST_SET_IN_PLACE: usize = 32;
 
 /// Attributes by code. Contracts see a finite map from codes to texts.
@@ -325,8 +325,8 @@ impl AttrMap {
     /// Sets attributes one after the other, where the single byte 0x7F removes one. Where there is no
     /// memory nothing changes.
     ///
-    /// Up to [`MOST_SET_IN_PLACE`] settings are made in their places, where each may move all attributes behind its own.
-    /// More are sorted by their codes, and merged with the attributes in one pass.
+    /// Up to [`MOST_SET_IN_PLACE`] settings are made in their places, where each may move all attributes behind its
+    /// own. More are sorted by their codes, and merged with the attributes in one pass.
     pub fn set_all(&mut self, alloc: Global, settings: &[Attr]) -> Result<(), AllocError>
         ensures ok { OnOk result (self.new ≡ set_attrs self.old settings.now) }
         ensures err { OnErr result (self.new ≡ self.old) }

@@ -34,8 +34,8 @@ impl<V> Model for Page<V> {
     ghost invariant = { λ page. T (map.is_sorted name_cmp page.entries.items) };
 }
 
-/// Where the record with a name stands on a page that has one for each number before it, if it does stand there. Numbers
-/// mostly have no gaps, so this mostly spares the search.
+/// Where the record with a name stands on a page that has one for each number before it, if it does stand there.
+/// Numbers mostly have no gaps, so this mostly spares the search.
 fn guess<V>(entries: &[(Name, V)], name: Name) -> Option<usize>
     ensures bound { IfSome result (λ place. place < length entries.now) }
     ensures found { IfSome result (HoldsAt (λ entry. name_cmp entry.0 name ≡ Equal) entries.now) }

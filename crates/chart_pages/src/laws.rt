@@ -1,7 +1,7 @@
 //! What holds of states and their bytes.
 //!
-//! What was written must be read back as the same state, and no other bytes as that one: a store that is saved stands on
-//! this.
+//! What was written must be read back as the same state, and no other bytes as that one: a store that is saved stands
+//! on this.
 
 ghost use Rattle.std.specs.Prelude.{◌≡◌, ◌↔◌, List, ℕ, Some};
 ghost use Rattle.chart_model.specs.State.{StateValue};

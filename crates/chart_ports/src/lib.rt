@@ -1,5 +1,5 @@
-//! What the chart kernel asks of its surroundings: a script to read (`Source`), files to fetch (`Shelf`), a disk to write
-//! and a place to say replies (`Desk`), and a counter of steps (`Steps`).
+//! What the chart kernel asks of its surroundings: a script to read (`Source`), files to fetch (`Shelf`), a disk to
+//! write and a place to say replies (`Desk`), and a counter of steps (`Steps`).
 //!
 //! Each is a trait with a written meaning. Whether an implementation tells contracts its content is
 //! part of its type; each counts its own failures, and code that is generic over the trait can't

@@ -119,7 +119,8 @@ impl Source for MemorySource {
         ensures cause { HasCause (calls_of self.old).faults (calls_of self.new).faults result }
 
         // As many bytes as fit, up to the pace, and none of the buffer behind them changes.
-        ensures count { IfOk result (λ n. n ≡ min (length buf.old) (min (pace_of self.old) (length (left_of self.old)))) }
+        ensures count { IfOk result (λ n.
+            n ≡ min (length buf.old) (min (pace_of self.old) (length (left_of self.old)))) }
         ensures behind { IfOk result (λ n. drop n buf.new ≡ drop n buf.old) }
         ensures buf_err { OnErr result (buf.new ≡ buf.old) }
         ensures pace { pace_of self.new ≡ pace_of self.old }

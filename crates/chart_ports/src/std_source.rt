@@ -91,7 +91,8 @@ impl<R: Read> Source for StdSource<R> {
         ensures no_room { length buf.old ≡ 0 → is_at_end self.new ≡ is_at_end self.old }
 
         // Where the reader's bytes are known, a pull gives the next of them, and 0 at their end.
-        ensures read { ReadConsumes (R.remaining (reader_of self.old)) (R.remaining (reader_of self.new)) result buf.new }
+        ensures read { ReadConsumes
+            (R.remaining (reader_of self.old)) (R.remaining (reader_of self.new)) result buf.new }
 
         ensures cause { HasCause (faults_of self.old) (faults_of self.new) result }
         ensures counted { OnErr result (faults_of self.new ≡ one_more (faults_of self.old)) }

@@ -1,8 +1,7 @@
 -- What an effect says of the data set and of what is held.
-use Rattle.std.proofs.Common.{◌≡◌, ◌+◌, Bool, true, false, not, cond, eqb, Option, Some, None, Result, Ok, Err, refl}
+use Rattle.std.proofs.Common.{◌≡◌, ◌+◌, Bool, true, false, not, eqb, Option, Some, None, Result, Ok, Err, refl}
 use Rattle.std.proofs.Common.{sym, ◌∙◌, subst, inl, inr}
 use Rattle.std.proofs.lemmas.Bool.{true≢false, cases_Bool}
-use Rattle.std.specs.Prelude.{◌⊎◌}
 use Rattle.common_lemmas.proofs.Choices.{chosen}
 use Rattle.chart_model.specs.Dataset.{DatasetValue, IsDataset}
 use Rattle.chart_model.specs.declared.state.Held.{Held}

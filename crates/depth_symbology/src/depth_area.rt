@@ -21,7 +21,7 @@ use std::alloc::{AllocError, Global};
 use topology_cache::Users;
 
 /// What it costs to look at a user of an edge, in tests of a point against a segment.
-const COST_OF_USER: usize = 15;
+const COST_OF_USER: usize = 20;
 
 /// Whether the feature with a name is an unsafe area.
 fn is_unsafe_at(cell: &Cell, contour: i32, name: Name) -> bool

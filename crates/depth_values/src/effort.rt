@@ -1,8 +1,8 @@
 //! How much work a drawing or a report may ask for.
 //!
 //! A cell that is taken may have thousands of hazards in thousands of areas that all lie on each other, and each hazard
-//! asks each area. So a drawing, and a report, tests points against so many segments and no more. No chart comes near
-//! that.
+//! asks each area. So a drawing, and a report, tests points against so many segments and no more: over a hundred times
+//! as many as 2,000 hazards need over 13,000 areas that lie side by side.
 
 use std::alloc::AllocError;
 use std::marker::Model;

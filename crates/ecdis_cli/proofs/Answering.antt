@@ -1,6 +1,6 @@
 -- A line's reply, and how it is said.
-use Rattle.std.proofs.Common.{◌≡◌, ℕ, ◌+◌, ◌<◌, ◌≤◌, ◌⊎◌, Bool, true, false, List, [], ◌∷◌, ◌++◌, length, refl, sym, ◌∙◌, ap, subst, arith, inl, inr}
-use Rattle.std.specs.Prelude.{Option, Some, None, Result, Ok, Err, IsErr, IsTrue}
+use Rattle.std.proofs.Common.{◌≡◌, ℕ, ◌+◌, ◌<◌, ◌≤◌, Bool, true, false, List, [], ◌∷◌, ◌++◌, length, refl, sym, ◌∙◌, ap, subst, inl, inr}
+use Rattle.std.specs.Prelude.{Option, Some, None, Result, Ok, Err, IsErr}
 use Rattle.std.proofs.lemmas.List.{append-nil}
 use Rattle.std.proofs.lemmas.List.Elements.{All-nil, All-cons}
 use Rattle.chart_model.specs.State.{StateValue}
@@ -22,7 +22,7 @@ use Rattle.session_core.specs.Session.{GivesTurn, TakesTurn}
 use Rattle.session_core.specs.Model.{Model, model_with}
 use Rattle.session_core.specs.Turn.{Turn, turn_of}
 use Rattle.ecdis_cli.specs.Crash.{LeavesPrefix}
-use Rattle.ecdis_cli.specs.Progress.{LineIsAnswered, ReplyIsInterrupted, IsAfter, IsSpoken, StepsAreTaken, step_at}
+use Rattle.ecdis_cli.specs.Progress.{LineIsAnswered, ReplyIsInterrupted, IsSpoken, StepsAreTaken, step_at}
 use Rattle.ecdis_cli.specs.declared.run.stop.Stop.{Stop}
 use Rattle.ecdis_cli.specs.Replied.{GivesStep, LeavesSaying, ReplyIsFound}
 use Rattle.ecdis_cli.specs.Script.{IsAnswer, commands_in, commands_of, output_of}

@@ -1,13 +1,12 @@
 -- What a crash leaves of some steps, and of more.
 use Rattle.std.proofs.Common.{◌≡◌, ℕ, ◌+◌, ◌<◌, ◌≤◌, ◌⊎◌, ⊎_elim, Bool, true, false, cond, List, [], ◌∷◌, ◌++◌, length, take, eqb, leb, refl, sym, ◌∙◌, ap, subst, arith, inl, inr, append_assoc, length-append}
-use Rattle.std.specs.Prelude.{Option, Some, None, min}
+use Rattle.std.specs.Prelude.{Option, Some, None}
 use Rattle.std.specs.List.{All}
 use Rattle.std.proofs.lemmas.Bool.Decides.{nat_tests}
 use Rattle.std.proofs.lemmas.List.{append-nil, take-append-le, take_all}
-use Rattle.std.proofs.Math.Seq.{take-append-add, take-append_seam}
+use Rattle.std.proofs.Math.Seq.{take-append-add}
 use Rattle.chart_model.specs.State.{StateValue}
 use Rattle.chart_model.specs.declared.command.Command.{Command}
-use Rattle.chart_ports.specs.Moments.{MayBeLeft}
 use Rattle.chart_ports.specs.Said.{SaysFront}
 use Rattle.chart_ports.specs.declared.images.Images.{Images}
 use Rattle.chart_store.specs.Images.{StandFor}
@@ -15,9 +14,9 @@ use Rattle.chart_store.specs.Outcome.{after}
 use Rattle.chart_store.specs.Store.{StandsForEither}
 use Rattle.ecdis_cli.specs.Crash.{LeavesPrefix}
 use Rattle.ecdis_cli.specs.Progress.{IsSpoken}
-use Rattle.ecdis_cli.specs.Script.{begun_steps, commands_in, commands_of, output_of}
+use Rattle.ecdis_cli.specs.Script.{commands_in, commands_of, output_of}
 use Rattle.ecdis_cli.specs.Step.{Step, said_in}
-use Rattle.ecdis_cli.proofs.Lists.{acknowledged, acknowledged-behind, after-append, after-none, begun-front, begun-none, commands-append, output-append}
+use Rattle.ecdis_cli.proofs.Lists.{acknowledged, acknowledged-behind, after-append, after-none, begun-front, commands-append, output-append}
 
 -- nothing was said, and no step taken
 pub prefix-none : (state : StateValue) (said so_far : List ℕ) (images : Images) → so_far ≡ said → StandFor images state

@@ -1,6 +1,5 @@
 -- The shelf and the devices are kept by calls that follow one another.
-use Rattle.std.proofs.Common.{◌≡◌, ℕ, ◌≤◌, Bool, refl, ◌∙◌, arith}
-use Rattle.std.specs.Prelude.{IsTrue}
+use Rattle.std.proofs.Common.{ℕ, Bool, refl, ◌∙◌, arith}
 use Rattle.session_core.specs.Fetch.{Files, KeepsShelf}
 use Rattle.ecdis_cli.specs.Devices.{KeepsDevices}
 use Rattle.ecdis_cli.specs.declared.run.devices.Devices.{Devices}

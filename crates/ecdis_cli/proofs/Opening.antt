@@ -1,9 +1,8 @@
 -- The run over a store that was opened, or that wasn't.
-use Rattle.std.proofs.Common.{◌≡◌, ◌≢◌, ℕ, ◌<◌, ◌≤◌, ◌⊎◌, Bool, true, false, List, [], ◌∷◌, ◌++◌, length, refl, sym, ◌∙◌, ap, subst, arith, inl, inr, ⊎_elim}
+use Rattle.std.proofs.Common.{◌≡◌, ℕ, ◌<◌, ◌≤◌, ◌⊎◌, Bool, true, false, List, [], length, refl, sym, ◌∙◌, ap, subst, arith, inl, inr, ⊎_elim}
 use Rattle.std.specs.Prelude.{IsTrue, Option, Some, None, Result, Ok, Err}
 use Rattle.std.specs.Str.Lines.{lines}
 use Rattle.std.proofs.lemmas.List.{length-replicate}
-use Rattle.std.proofs.lemmas.List.Elements.{All-nil}
 use Rattle.chart_model.specs.State.{StateValue}
 use Rattle.chart_ports.specs.Count.{IsSteady, Rose, RoseBy}
 use Rattle.chart_ports.specs.Moments.{LeavesOnly, MayBeLeft, images_of}
@@ -13,7 +12,7 @@ use Rattle.chart_store.specs.Images.{Place, Reading, StandFor, read_of}
 use Rattle.chart_store.specs.Opened.{ForeignHas}
 use Rattle.chart_store.specs.Store.{LeavesBefore, LeavesReading, room_of, state_of}
 use Rattle.chart_store.specs.declared.store.Store.{Store}
-use Rattle.session_core.specs.Fetch.{Files, Fetches, fetches_of}
+use Rattle.session_core.specs.Fetch.{Files, fetches_of}
 use Rattle.session_core.specs.Model.{Model, Portrayal}
 use Rattle.session_core.specs.Session.{model_of, portrayal_of, store_of}
 use Rattle.session_core.specs.declared.session.Session.{Session}

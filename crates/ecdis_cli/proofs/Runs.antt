@@ -1,5 +1,5 @@
 -- The run of a whole script.
-use Rattle.std.proofs.Common.{◌≡◌, ◌≢◌, ℕ, ◌+◌, ◌<◌, ◌≤◌, ◌⊎◌, Bool, true, false, List, [], ◌∷◌, ◌++◌, length, take, drop, eqb, leb, refl, sym, ◌∙◌, ap, subst, arith, inl, inr, append_assoc, length-append, length-take-le}
+use Rattle.std.proofs.Common.{◌≡◌, ◌≢◌, ℕ, ◌+◌, ◌≤◌, ◌⊎◌, Bool, true, false, List, [], ◌++◌, length, take, drop, eqb, leb, refl, sym, ◌∙◌, ap, subst, arith, inl, inr, append_assoc, length-append, length-take-le}
 use Rattle.std.proofs.Math.ListN.{replicate}
 use Rattle.std.specs.Prelude.{Ok, min, IsTrue}
 use Rattle.std.specs.List.{All}
@@ -8,7 +8,7 @@ use Rattle.std.proofs.lemmas.Bool.Decides.{nat_tests}
 use Rattle.std.proofs.lemmas.List.{append-nil, length-replicate, take-append-drop, take-take}
 use Rattle.std.proofs.lemmas.List.Elements.{All-append, All-nil, All-replicate}
 use Rattle.std.proofs.Math.Seq.{take-append_seam}
-use Rattle.chart_ports.specs.Count.{LAST, IsSteady, Rose, RoseBy}
+use Rattle.chart_ports.specs.Count.{LAST, Rose, RoseBy}
 use Rattle.chart_ports.specs.Moments.{LeavesOnly}
 use Rattle.chart_ports.specs.Said.{SaysFront}
 use Rattle.chart_ports.specs.declared.images.Images.{Images}
@@ -25,7 +25,7 @@ use Rattle.ecdis_cli.specs.Crash.{LeavesPrefix}
 use Rattle.ecdis_cli.specs.WholeLines.{whole_lines}
 use Rattle.ecdis_cli.specs.Limits.{SCRIPT_LIMIT}
 use Rattle.ecdis_cli.specs.Progress.{BytesAreTaken, ComeFirst, ScriptIsFinished, IsAfter, RunIsStopped, StepsAreTaken, HasNoLineFeed, ScriptIsUnfinished}
-use Rattle.ecdis_cli.specs.Run.{TakenLinesAreAnswered, Outside, Ran, Says, outside_of, reading_of}
+use Rattle.ecdis_cli.specs.Run.{Outside, Ran, Says, outside_of, reading_of}
 use Rattle.ecdis_cli.specs.Script.{IsAnswer, failures_in, model_after, output_of, steps_from, steps_of}
 use Rattle.ecdis_cli.specs.Step.{Step}
 use Rattle.ecdis_cli.specs.Stop.{status_of}
@@ -34,7 +34,7 @@ use Rattle.ecdis_cli.proofs.Crashes.{prefix-extended}
 use Rattle.ecdis_cli.proofs.Failures.{Serves, TellsFailure, served-none}
 use Rattle.ecdis_cli.proofs.Lists.{failures-append, output-append}
 use Rattle.ecdis_cli.proofs.ScriptSteps.{Advanced-then, Stopped-then}
-use Rattle.ecdis_cli.proofs.Taking.{IsAfter-then, Taken-then, answers-same, front-after, front-append, front-none, front-same, front-whole}
+use Rattle.ecdis_cli.proofs.Taking.{IsAfter-then, Taken-then, front-after, front-append, front-same, front-whole}
 
 -- ---- statuses
 

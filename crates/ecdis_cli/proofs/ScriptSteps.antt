@@ -1,12 +1,11 @@
 -- The answering of a script, from one standing to the next.
-use Rattle.std.proofs.Common.{◌≡◌, ℕ, ◌+◌, ◌<◌, ◌≤◌, ◌⊎◌, Bool, true, false, cond, List, [], ◌∷◌, ◌++◌, length, take, drop, get_or, eqb, ltb, refl, sym, ◌∙◌, ap, subst, arith, inl, inr, append_assoc}
+use Rattle.std.proofs.Common.{◌≡◌, ℕ, ◌+◌, ◌<◌, ◌≤◌, Bool, true, false, cond, List, [], ◌∷◌, ◌++◌, length, take, drop, get_or, eqb, ltb, refl, sym, ◌∙◌, ap, subst, arith, inl, inr, append_assoc}
 use Rattle.std.specs.Prelude.{Result, Ok, Err, OnOk, OnErr, IsTrue}
 use Rattle.std.specs.Str.Lines.{lines, strip_carriage_return}
 use Rattle.std.proofs.lemmas.Bool.Decides.{nat_tests}
 use Rattle.std.proofs.lemmas.List.{append-nil, take-append-drop, take_more}
 use Rattle.std.proofs.lemmas.List.Elements.{All-nil, All-head, All-append}
 use Rattle.chart_ports.specs.Moments.{LeavesOnly}
-use Rattle.chart_ports.specs.Said.{SaysFront}
 use Rattle.chart_ports.specs.declared.images.Images.{Images}
 use Rattle.session_core.specs.Fetch.{Files, Fetches}
 use Rattle.session_core.specs.Model.{Model}
@@ -14,7 +13,7 @@ use Rattle.ecdis_cli.specs.Crash.{LeavesPrefix}
 use Rattle.ecdis_cli.specs.WholeLines.{whole_lines}
 use Rattle.ecdis_cli.specs.Limits.{KEPT_LIMIT}
 use Rattle.ecdis_cli.specs.Progress.{BytesAreTaken, LineIsAnswered, ComeFirst, ScriptIsFinished, ReplyIsInterrupted, IsAfter, RunIsStopped, StepsAreTaken, HasNoLineFeed, ScriptIsUnfinished, Moments, steps_at}
-use Rattle.ecdis_cli.specs.Script.{model_after, output_of, steps_from}
+use Rattle.ecdis_cli.specs.Script.{output_of, steps_from}
 use Rattle.ecdis_cli.specs.Step.{Step, step_to}
 use Rattle.ecdis_cli.specs.Standing.{Standing}
 use Rattle.ecdis_cli.proofs.Lines.{All-behind, All-front, Fed, IsCons, ReadByFront, cut_at_feed, ended-append, ended-append_unbroken, ended-fed, ended-line, one_more, steps-ended_none, steps-feed, steps-last, steps-long}

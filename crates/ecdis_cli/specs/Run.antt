@@ -5,7 +5,6 @@ use Rattle.chart_ports.specs.Count.{RoseBy}
 use Rattle.chart_ports.specs.Said.{SaysFront}
 use Rattle.chart_ports.specs.declared.images.Images.{Images}
 use Rattle.chart_store.specs.Images.{Reading, read_of}
-use Rattle.chart_store.specs.Store.{LeavesBefore}
 use Rattle.session_core.specs.Fetch.{Files, Fetches}
 use Rattle.session_core.specs.Model.{Model, Portrayal}
 use Rattle.ecdis_cli.specs.declared.run.status.Status.{Status}

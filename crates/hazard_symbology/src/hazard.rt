@@ -30,8 +30,8 @@ fn is_danger(
 }
 
 /// Adds what is drawn of a hazard, by its geometry and its depth: a hazard no deeper than the safety contour is a
-/// danger. Nothing is drawn of what has no geometry. It needs the depth areas of the cell, and takes of the effort what it
-/// asks of them.
+/// danger. Nothing is drawn of what has no geometry. It needs the depth areas of the cell, and takes of the effort what
+/// it asks of them.
 pub fn push_hazard(
     alloc: Global,
     effort: &mut Effort,

@@ -34,7 +34,8 @@ unfoldable pub rising : {K X : Type 0} {R : K → K → Ordering} → (K × X �
 rising spelling entries = counted spelling (map.entries entries)
 
 -- entries in the order of their keys, as a map
-abbrev pub in_order : {K X : Type 0} (R : K → K → Ordering) → Option (List (K × X) × List ℕ) → Option (map.FinMap R X × List ℕ)
+abbrev pub in_order : {K X : Type 0} (R : K → K → Ordering)
+    → Option (List (K × X) × List ℕ) → Option (map.FinMap R X × List ℕ)
 in_order R found =
     (found >>= λ read. if map.is_sorted R read.0 then Some read else None)
     >>= λ read. Some (map.from_sorted read.0, read.1)

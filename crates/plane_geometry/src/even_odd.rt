@@ -33,8 +33,8 @@ fn crosses_odd(p: Pt, ring: &[Pt]) -> Option<bool>
     Some(odd)
 }
 
-/// Whether `p` is inside rings: on a segment of one of them, or where an odd number of their segments cross the ray from
-/// `p` to greater x (the even-odd rule). It takes no memory.
+/// Whether `p` is inside rings: on a segment of one of them, or where an odd number of their segments cross the ray
+/// from `p` to greater x (the even-odd rule). It takes no memory.
 pub fn inside_even_odd(p: Pt, rings: &[Ring]) -> bool
     ensures { IsTrue result ↔ IsInside p rings.now }
 {

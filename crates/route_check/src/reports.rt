@@ -22,6 +22,9 @@ use route_geometry::Leg;
 use spatial_grid::{Grid, GridMap};
 use std::alloc::{AllocError, Global};
 
+/// What a danger counts as that is told, so that no report is longer than memory bears.
+const COST_OF_ROW: usize = 150;
+
 /// Adds the rows of a leg of a number: of all objects that it meets.
 fn push_met(
     effort: &mut Effort,
@@ -36,6 +39,7 @@ fn push_met(
     for object in objects {
         effort.spend(object.cost(reach))?;
         if object.is_met(leg, reach) {
+            effort.spend(COST_OF_ROW)?;
             rows.push(object.row(number))?;
         }
     }

@@ -7,7 +7,6 @@ use Rattle.std.specs.Str.Parse.{digits_value}
 use Rattle.std.proofs.lemmas.List.Elements.{All-from_recursion}
 use Rattle.std.proofs.lemmas.Bool.{and_parts, eq-eqb, leb-true, true≢false, or_parts}
 use Rattle.common_lemmas.proofs.Choices.{chosen}
-use Rattle.chart_model.specs.declared.name.Name.{Name}
 use Rattle.chart_model.specs.declared.record.Attr.{Attr}
 use Rattle.chart_model.specs.declared.record.Pointer.{Pointer}
 use Rattle.chart_model.specs.declared.record.Coord.{Coord}
@@ -21,7 +20,7 @@ use Rattle.s57_subfields.specs.declared.fault.FieldFault.{FieldFault}
 use Rattle.s57_subfields.specs.declared.group.Groups.{Groups}
 use Rattle.s57_subfields.specs.declared.subfield.Subfield.{Subfield}
 use Rattle.chart_model.specs.Answers.{◌>>=◌, or_fault, unless}
-use Rattle.s57_subfields.specs.Answers.{missing_field, bad_value}
+use Rattle.s57_subfields.specs.Answers.{missing_field}
 use Rattle.s57_subfields.specs.RowValues.{RowValues, fields_in, first_of}
 use Rattle.s57_subfields.specs.Places.{subfield_of}
 use Rattle.s57_subfields.specs.Columns.{once_in, once_at}
@@ -36,7 +35,7 @@ use Rattle.s57_fields.specs.Attributes.{attribute_row, attribute_in, attribute_c
 use Rattle.s57_fields.specs.Coordinates.{coordinate_in, coordinate_columns, coordinates_in, sg2d_row, sg3d_row}
 use Rattle.s57_fields.specs.Pointers.{fspt_row, pointer_in, pointer_columns, pointers_in}
 use Rattle.s57_records.specs.LayoutReadings.{or_dataset_fault, under, Layouts, has_field, coords_in, subfields_of, all_subfields}
-use Rattle.s57_records.proofs.Changes.{AreWithinLimits, HasKeys, All-nil}
+use Rattle.s57_records.proofs.Changes.{AreWithinLimits, HasKeys}
 
 -- ---- steps
 

@@ -22,7 +22,8 @@ words_if (first ∷ rest) = (first ∷ rest) ∷ []
 unfoldable pub bytes_of_reply : Reply → List ℕ
 bytes_of_reply (Info key edition update records) =
     line_of (codes "ok" ∷ codes "info" ∷ key ∷ number edition ∷ number update ∷ number records ∷ [])
-bytes_of_reply (Load key edition update) = line_of (codes "ok" ∷ codes "load" ∷ key ∷ number edition ∷ number update ∷ [])
+bytes_of_reply (Load key edition update) =
+    line_of (codes "ok" ∷ codes "load" ∷ key ∷ number edition ∷ number update ∷ [])
 bytes_of_reply (Cancel key) = line_of (codes "ok" ∷ codes "cancel" ∷ key ∷ [])
 bytes_of_reply (Rollback key edition update) =
     line_of (codes "ok" ∷ codes "rollback" ∷ key ∷ number edition ∷ number update ∷ [])

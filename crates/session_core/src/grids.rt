@@ -1,7 +1,7 @@
 //! The grids of the charts that are held.
 //!
-//! They are made for a route, and let go behind it: a grid takes the shape of each feature, and a file may say shapes that
-//! take long.
+//! They are made for a route, and let go behind it: a grid takes the shape of each feature, and a file may say shapes
+//! that take long.
 
 ghost use Rattle.std.specs.Prelude.{IfOk, OnOk};
 ghost use Rattle.std.specs.Option.{option_copied};

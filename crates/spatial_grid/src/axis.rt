@@ -6,8 +6,8 @@ ghost use Rattle.std.specs.Int.{int_min, int_max};
 /// How many parts an axis has at most.
 const PARTS: u64 = 64;
 
-/// From where to where the boxes of a chart reach on an axis, in degrees times 10,000,000, and how wide one of its parts
-/// is.
+/// From where to where the boxes of a chart reach on an axis, in degrees times 10,000,000, and how wide one of its
+/// parts is.
 #[derive(Clone, Copy, Debug)]
 pub struct Axis {
     pub(crate) low: i64,

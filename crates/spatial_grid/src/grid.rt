@@ -13,8 +13,8 @@ use plane_bounds::Bounds;
 use std::alloc::{AllocError, Global};
 use std::marker::Model;
 
-/// The boxes of the features of a chart, in up to 64 by 64 buckets over all of them. Contracts see the map from the name of a
-/// feature to its box.
+/// The boxes of the features of a chart, in up to 64 by 64 buckets over all of them. Contracts see the map from the
+/// name of a feature to its box.
 ///
 /// A box stands in each bucket that it covers, up to 64; what covers more stands beside the buckets.
 #[derive(Debug, Drop)]

@@ -4,8 +4,8 @@
 //! removed, and only one. Lines are counted from 1. An empty line and one that begins with `#` count and say nothing.
 //!
 //! The files of catalogues, tables and routes are read line by line by these rules, and their lines and those of a
-//! script word by word; what a line may say is for each reader to state. The definitions have what they share: the first
-//! fault among lines (`Reading`).
+//! script word by word; what a line may say is for each reader to state. The definitions have what they share: the
+//! first fault among lines (`Reading`).
 #![tactic(auto)]
 
 mod fault;

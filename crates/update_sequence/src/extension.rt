@@ -63,7 +63,8 @@ fn have_no_closure_fault(
 /// fault: the least has to be told.
 fn check_changed(alloc: Global, chart: &Cell, changes: &[UpdateRecord]) -> Result<(), BuildFault>
     requires { are_local changes.now ≡ true → have_no_closure_fault chart.now changes.now ≡ true → IsClosed chart.now }
-    ensures { GivesExtended result chart.now (unless (option_map of_build.Closure (closure_fault chart.now)) chart.now) }
+    ensures { GivesExtended result chart.now
+        (unless (option_map of_build.Closure (closure_fault chart.now)) chart.now) }
 {
     // The law is one of cells, and a chart is known to be one where a field of it is read.
     let _ = &chart.header;
@@ -88,7 +89,8 @@ pub fn extend(alloc: Global, chart: &Cell, dataset: &Dataset) -> Result<Cell, Bu
     requires stands { dataset.now.cancels ≡ false }
     requires closed { IsClosed chart.now }
     ensures built { GivesBuilt result (built (Some chart.now) dataset.now) }
-    ensures within { OnOk result (moves_of (begun (Some chart.now) dataset.now.header) dataset.now.changes ≤ MOST_MOVES) }
+    ensures within { OnOk result
+        (moves_of (begun (Some chart.now) dataset.now.header) dataset.now.changes ≤ MOST_MOVES) }
 {
     closed_charts_stay_closed();
     let copy = chart.copy(alloc)?;

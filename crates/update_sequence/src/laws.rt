@@ -90,7 +90,8 @@ pub fn sequences_grow()
 
 /// What the test of lists says is whether they are update sequences.
 pub fn sequences_are_tested()
-    ensures { (key : List ℕ) (files : List (List ℕ)) → (is_update_sequence key files ≡ true) ↔ IsUpdateSequence key files }
+    ensures { (key : List ℕ) (files : List (List ℕ))
+        → (is_update_sequence key files ≡ true) ↔ IsUpdateSequence key files }
 {}
 
 /// What is live once a file is taken over: a base file stands alone, any other follows those before it.
@@ -117,8 +118,10 @@ pub fn accepted_files_follow()
 /// key, and the chart is closed.
 pub fn sequences_are_held()
     ensures held { (key : List ℕ) (files : List (List ℕ)) → IsUpdateSequence key files →
-        (held : Held) × (held_by files ≡ Some held) × IsHolding key (record { held = held; files = files; chart = rebuilt files }) }
-    ensures closed { (key : List ℕ) (files : List (List ℕ)) → IsUpdateSequence key files → IfSome (rebuilt files) IsClosed }
+        (held : Held) × (held_by files ≡ Some held)
+        × IsHolding key (record { held = held; files = files; chart = rebuilt files }) }
+    ensures closed { (key : List ℕ) (files : List (List ℕ))
+        → IsUpdateSequence key files → IfSome (rebuilt files) IsClosed }
 {
     files_are_data_sets();
     charts_are_closed();

@@ -22,8 +22,8 @@ const FIRST: u32 = 1_001;
 /// The number of the last.
 const LAST: u32 = 2_000;
 
-/// The squares, and 1,000 areas in the place of the first: of 20 metres all but one, which is of 1.5; and an obstruction
-/// at their bottom.
+/// The squares, and 1,000 areas in the place of the first: of 20 metres all but one, which is of 1.5; and an
+/// obstruction at their bottom.
 fn many_areas(alloc: Global, shoal: u32) -> Result<Cell, Fail> {
     let mut cell = chart(alloc, &SQUARES)?;
     for number in FIRST..=LAST {

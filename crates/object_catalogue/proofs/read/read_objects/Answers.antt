@@ -1,4 +1,4 @@
-use Rattle.std.proofs.Common.{◌≡◌, ℕ, List, ◌∷◌, rules}
+use Rattle.std.proofs.Common.{◌≡◌, ◌∷◌, rules}
 use Rattle.std.proofs.lemmas.Result.{err_from_is_err_and}
 use Rattle.object_catalogue.specs.Reading.{catalogue_in}
 use Rattle.object_catalogue.proofs.Progress.{read_none, read_more, read_fault, read_all, failed}

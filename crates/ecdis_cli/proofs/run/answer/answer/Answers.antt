@@ -1,8 +1,7 @@
 -- The line was answered, or a front of its reply was said.
-use Rattle.std.proofs.Common.{◌≡◌, ◌∙◌, refl}
+use Rattle.std.proofs.Common.{◌∙◌, refl}
 use Rattle.std.specs.Prelude.{IsTrue, Ok}
-use Rattle.session_core.specs.Session.{model_of, store_of}
-use Rattle.ecdis_cli.specs.Replied.{GivesStep}
+use Rattle.session_core.specs.Session.{store_of}
 use Rattle.ecdis_cli.proofs.Answering.{Replied-told, answered-said, answered-silent, interrupted-before, interrupted-said}
 use Rattle.ecdis_cli.proofs.ScriptSteps.{OnErr-from, OnErr-map, OnOk-from, OnOk-map}
 use Rattle.ecdis_cli.proofs.run.answer.answer.Goals as goal

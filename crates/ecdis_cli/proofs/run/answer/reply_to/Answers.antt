@@ -1,5 +1,5 @@
 -- The line is silent, takes its turn, or is refused.
-use Rattle.std.proofs.Common.{◌≡◌, ◌∙◌, Some, None, ap, sym, refl}
+use Rattle.std.proofs.Common.{◌∙◌, Some, None, ap, sym}
 use Rattle.std.specs.Prelude.{IsTrue, Ok, Err}
 use Rattle.session_core.specs.Session.{GivesTurn, model_of}
 use Rattle.ecdis_cli.specs.Replied.{GivesStep}

@@ -1,12 +1,10 @@
 -- The store was opened, or the run ends there.
-use Rattle.std.proofs.Common.{◌≡◌, ◌∙◌, ℕ, arith, ap, refl, sym, subst}
+use Rattle.std.proofs.Common.{◌≡◌, ◌∙◌, arith, ap, sym, subst}
 use Rattle.std.specs.Prelude.{IsTrue}
-use Rattle.chart_ports.specs.Count.{Rose}
 use Rattle.chart_ports.specs.Moments.{MayBeLeft}
 use Rattle.chart_store.specs.Store.{IsKept, count_of, is_sound}
 use Rattle.chart_store.specs.declared.store.Store.{Store}
 use Rattle.session_core.specs.Session.{model_of, store_of}
-use Rattle.ecdis_cli.specs.Run.{outside_of}
 use Rattle.ecdis_cli.proofs.Opening.{foreign-left, not-refused, opened-model, opening-status, other-status, ran-opened, ran-unopened, refused-opening, rose-later, session-model}
 use Rattle.ecdis_cli.proofs.run.opened.run_opened.Goals as goal
 

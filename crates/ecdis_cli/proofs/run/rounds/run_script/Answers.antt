@@ -1,10 +1,9 @@
 -- The run goes on by the bytes that were pulled.
-use Rattle.std.proofs.Common.{◌≡◌, ◌≤◌, ℕ, [], length-take-le, arith, refl, sym, ap, subst, ◌∙◌, inl}
+use Rattle.std.proofs.Common.{◌≡◌, ◌≤◌, ℕ, [], length-take-le, arith, sym, ap, subst, ◌∙◌, inl}
 use Rattle.std.specs.Prelude.{Ok}
 use Rattle.chart_ports.specs.Moments.{LeavesOnly, MayBeLeft}
 use Rattle.session_core.specs.Session.{model_of}
 use Rattle.session_core.specs.declared.session.Session.{Session}
-use Rattle.ecdis_cli.specs.Run.{outside_of}
 use Rattle.ecdis_cli.specs.ReaderStanding.{reader_at}
 use Rattle.ecdis_cli.specs.Standing.{IsReadyFor, Standing, at_start}
 use Rattle.ecdis_cli.proofs.Devices.{keeps-none, keeps-then}

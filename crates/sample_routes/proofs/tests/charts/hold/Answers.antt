@@ -1,4 +1,4 @@
-use Rattle.std.proofs.Common.{List, ℕ, sym, subst}
+use Rattle.std.proofs.Common.{sym, subst}
 use Rattle.std.specs.FinMap.{FinMap}
 use Rattle.chart_model.specs.declared.state.Holding.{Holding}
 use Rattle.chart_model.specs.Key.{IsKey}

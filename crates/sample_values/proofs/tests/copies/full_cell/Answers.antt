@@ -1,9 +1,9 @@
-use Rattle.std.proofs.Common.{◌≡◌, ◌⊎◌, All, IfSome, inl, refl, sym, subst, rules}
+use Rattle.std.proofs.Common.{◌≡◌, All, IfSome, inl, refl, sym, subst, rules}
 use Rattle.std.specs.FinMap as map
 use Rattle.std.specs.Ordering.{nat_cmp}
 use Rattle.std.proofs.lemmas.List.Elements.{All-nil}
 use Rattle.chart_model.specs.Attrs.{Attrs}
-use Rattle.chart_model.specs.Cell.{IsCell, IsVector, IsFeature, IsKeptText, AreKeptTexts}
+use Rattle.chart_model.specs.Cell.{IsVector, IsFeature, IsKeptText, AreKeptTexts}
 use Rattle.chart_model.specs.Names.{name_cmp}
 use Rattle.chart_model.specs.Record.{AreCoords}
 use Rattle.chart_model.proofs.Maps.{Each, each-insert, each-empty}
