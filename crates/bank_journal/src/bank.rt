@@ -38,8 +38,9 @@ impl Bank {
     ghost use Rattle.bank_journal.specs.Handle.{file_of, place_of};
     ghost use Rattle.bank_journal.specs.Moments.{IsBeforeOrAfter, IsInStep, LeavesFile};
 
-    /// The bank of a file whose closed gate stands at this place.
-    pub(crate) fn at(file: u8, gate: u64) -> Bank
+    /// The bank of a file, 1 or 2, whose closed gate stands at this place. Nothing is read: whether the file has such a
+    /// bank is for the caller to know.
+    pub fn at(file: u8, gate: u64) -> Bank
         requires bank { IsInRange 1 2 file }
         requires gate { gate < 9223372036854775808 }
         ensures file { file_of result ≡ file }

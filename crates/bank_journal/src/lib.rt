@@ -28,3 +28,4 @@ pub use fault::{AppendFault, BankFault};
 pub use framing::{Framed, frame};
 pub use laws::banks_are_read;
 pub use opening::open_bank;
+pub use whole::write_through;

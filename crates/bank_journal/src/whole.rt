@@ -46,13 +46,12 @@ pub(crate) fn read_whole<D: Desk>(
     Ok(bytes)
 }
 
-/// Writes bytes at a place of a file, and brings them to the disk.
-pub(crate) fn write_through<D: Desk>(
-    desk: &mut D,
-    file: u8,
-    at: u64,
-    bytes: &[u8],
-) -> Result<(), Failed>
+/// Writes bytes at a place of a file, 0 to 2, and brings them to the disk.
+///
+/// # Errors
+///
+/// `Failed` only where the desk's count rose. The file is used no more then.
+pub fn write_through<D: Desk>(desk: &mut D, file: u8, at: u64, bytes: &[u8]) -> Result<(), Failed>
     requires is_file { file ≤ 2 }
     requires within { IsTrue D.tells → at ≤ length (D.contents desk.old file) }
     requires settled { IsTrue D.tells → Only (D.contents desk.old file) (D.may_leave desk.old file) }
