@@ -1,2 +1,5 @@
+mod absorb;
+mod answers;
 mod extremes;
+mod shared_edges;
 mod walk;

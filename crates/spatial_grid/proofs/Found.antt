@@ -4,7 +4,7 @@ use Rattle.std.specs.declared.cmp.Ordering.{Ordering}
 use Rattle.std.specs.declared.cmp.Ordering.TheVariants.{Less, Greater}
 use Rattle.std.specs.Ordering.{is_eq, eq_by_cmp, ordering_reverse}
 use Rattle.std.specs.Cmp.{IsTotalOrder, tied_itself}
-use Rattle.std.specs.List.{Contains, cons_option, filter_map}
+use Rattle.std.specs.List.{Contains}
 use Rattle.std.specs.FinMap.{IsAntisymmetric, find, is_sorted}
 use Rattle.std.specs.FinMap.Entries.{below_all}
 use Rattle.common_lemmas.proofs.Choices.{some_is}
@@ -27,35 +27,6 @@ has_in (y ∷ ys) x (inl e) = (0, omega arith, e)
 has_in (y ∷ ys) x (inr h) =
     let w = has_in ys x h in
     (suc w.0, omega (arith, w.1), w.2)
-
--- a value that is there comes from one of those that were asked
-pub record Picked {X Y : Type 0} (f : X → Option Y) (xs : List X) (y : Y) : Type 0 where
-  pub from : X
-  pub among : Has from xs
-  pub gives : f from ≡ Some y
-
-pub picked : {X Y : Type 0} (f : X → Option Y) (xs : List X) (y : Y) → Has y (filter_map f xs) → Picked f xs y
-picked f [] y h = absurd h
-picked {X} {Y} f (x ∷ xs) y h = by (λ g. picked f xs y g) (f x) refl h
-  where
-    later : Picked f xs y → Picked f (x ∷ xs) y
-    later p = record { from = p.from; among = inr p.among; gives = p.gives }
-
-    by : (Has y (filter_map f xs) → Picked f xs y) → (o : Option Y) → f x ≡ o → Has y (cons_option o (filter_map f xs)) → Picked f (x ∷ xs) y
-    by others None is g = later (others g)
-    by others (Some z) is (inl e) = record { from = x; among = inl refl; gives = is ∙ ap Some e }
-    by others (Some z) is (inr g) = later (others g)
-
-pub picks : {X Y : Type 0} (f : X → Option Y) (xs : List X) (x : X) (y : Y) → Has x xs → f x ≡ Some y → Has y (filter_map f xs)
-picks f [] x y h e = absurd h
-picks {X} {Y} f (z ∷ zs) x y (inl same) e =
-    let is : f z ≡ Some y = ap f same ∙ e in
-    subst (λ (o : Option Y). Has y (cons_option o (filter_map f zs))) (sym is) (inl refl)
-picks {X} {Y} f (z ∷ zs) x y (inr h) e = later (f z) (picks f zs x y h e)
-  where
-    later : (o : Option Y) → Has y (filter_map f zs) → Has y (cons_option o (filter_map f zs))
-    later None g = g
-    later (Some w) g = inr g
 
 module _ {K X : Type 0} {R : K → K → Ordering} (total : IsTotalOrder R) (exact : IsAntisymmetric R) where
   pub found_there : (k : K) (v : X) (es : List (K × X)) → find R k es ≡ Some v → Has (k, v) es

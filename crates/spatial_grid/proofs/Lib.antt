@@ -1,7 +1,13 @@
-pub mod Folds
-pub mod Leasts
 pub mod Found
+pub mod Members
+pub mod Leasts
+pub mod Named
 pub mod Grids
+pub mod RecordBoxes
+pub mod ShapePoints
+pub mod FeatureBoxes
+pub mod Pointers
+pub mod KeptGrids
 pub mod Axes
 pub mod Standing
 pub mod Telling

@@ -2,4 +2,5 @@ pub mod Box
 pub mod Candidates
 pub mod Boxes
 pub mod Buckets
+pub mod Kept
 pub mod Met

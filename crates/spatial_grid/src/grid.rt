@@ -8,6 +8,8 @@ use crate::boxes::boxes_of;
 use crate::candidates::{each_once, names_met};
 use crate::entries::entries_of;
 use crate::entry::Entry;
+use crate::kept::keeps_boxes;
+use crate::point_box::around;
 use chart_model::{Cell, KeyMap, Name, NameList};
 use plane_bounds::Bounds;
 use std::alloc::{AllocError, Global};
@@ -51,12 +53,7 @@ pub type GridMap = KeyMap<Grid>;
 fn reach(boxes: &[(Name, Bounds)]) -> Bounds {
     let mut all = Bounds::NOTHING;
     for (_, bounds) in boxes {
-        all = Bounds {
-            x0: all.x0.min(bounds.x0),
-            y0: all.y0.min(bounds.y0),
-            x1: all.x1.max(bounds.x1),
-            y1: all.y1.max(bounds.y1),
-        };
+        all = around(all, *bounds);
     }
     all
 }
@@ -73,7 +70,8 @@ fn average_size(boxes: &[(Name, Bounds)]) -> (u64, u64) {
     (width / count, height / count)
 }
 
-/// The grid of a chart: exactly the features whose shape has a point, each with the least box that holds its shape.
+/// The grid of a chart: exactly the features whose shape has a point, each with the least box that holds its shape. It
+/// costs the points of the chart's vector records and the pointers of its features, however large the shapes are.
 pub fn grid_of(alloc: Global, cell: &Cell) -> Result<Grid, AllocError>
     ensures { IfOk result (λ grid. IsGridOf cell.now grid) }
 {
@@ -92,7 +90,9 @@ pub fn grid_of(alloc: Global, cell: &Cell) -> Result<Grid, AllocError>
 }
 
 impl Grid {
-    ghost use Rattle.std.specs.Prelude.{IfOk};
+    ghost use Rattle.std.specs.Prelude.{◌≡◌, Some, IfOk, OnOk, OnErr};
+    ghost use Rattle.chart_difference.specs.Difference.{HasAll};
+    ghost use Rattle.spatial_grid.specs.Box.{IsGridOf};
     ghost use Rattle.spatial_grid.specs.Candidates.{AreCandidates};
 
     /// The names of the features whose box meets an area, in degrees times 10,000,000, in order, each once: boxes that
@@ -104,5 +104,29 @@ impl Grid {
         let entries = self.entries.as_slice();
         let names = names_met(alloc, boxes, *area, entries, self.rows, self.columns)?;
         Ok(NameList::from_vec(each_once(names)?))
+    }
+
+    /// Brings the grid of a chart up to date: it was the grid of the old chart and becomes that of the new one, where
+    /// all names whose records differ are among those that changed. Where there is no memory it stays as it was.
+    ///
+    /// An update mostly changes a chart in the attributes of features. So where each of the names is that of a feature
+    /// which both charts have, with the same primitive and the same pointers, the boxes stay, and it costs the look-up
+    /// of these features alone. Else the grid is made anew.
+    pub fn absorb(
+        &mut self,
+        alloc: Global,
+        old: &Cell,
+        new: &Cell,
+        changed: &NameList,
+    ) -> Result<(), AllocError>
+        requires grid { IsGridOf old.now self.old }
+        requires changed { HasAll (Some old.now) (Some new.now) changed.now }
+        ensures grid { OnOk result (IsGridOf new.now self.new) }
+        ensures err { OnErr result (self.new ≡ self.old) }
+    {
+        if !keeps_boxes(old, new, changed.as_slice()) {
+            *self = grid_of(alloc, new)?;
+        }
+        Ok(())
     }
 }

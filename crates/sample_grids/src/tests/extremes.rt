@@ -1,8 +1,7 @@
 //! Grids at their ends: of one place, of nothing, and with a box over all.
 
-use chart_model::Name;
-use plane_bounds::Bounds;
-use sample_rows::{Row, chart, feature, name, vector};
+use super::answers::{Area, is_answer};
+use sample_rows::{Row, chart, feature, vector};
 use spatial_grid::grid_of;
 use std::alloc::Global;
 use std::test::Fail;
@@ -45,11 +44,11 @@ static SQUARE: [Row; 6] = [
     feature!(2, 2, [(130, 1, 1)]),
 ];
 
-/// An area, by its west, south, east and north, and the numbers of the features whose boxes meet it.
-type Case = ((i64, i64, i64, i64), &'static [u32]);
+/// An area, and the numbers of the features whose boxes meet it.
+type Case = (Area, &'static [u32]);
 
 /// All that there is.
-const ALL: (i64, i64, i64, i64) = (i64::MIN, i64::MIN, i64::MAX, i64::MAX);
+const ALL: Area = (i64::MIN, i64::MIN, i64::MAX, i64::MAX);
 
 static OF_PLACE: [Case; 6] = [
     ((5, 50, 5, 50), &[1]),
@@ -81,27 +80,12 @@ static OF_SQUARE: [Case; 5] = [
     ((100, 90, 100, 90), &[1, 2]),
 ];
 
-fn are_names(names: &[Name], numbers: &[u32]) -> bool {
-    names.len() == numbers.len()
-        && names
-            .iter()
-            .zip(numbers)
-            .all(|(name, number)| *name == name!(100, *number))
-}
-
 /// Whether the grid of a chart answers each case.
 fn are_answered(alloc: Global, rows: &[Row], cases: &[Case]) -> Result<bool, Fail> {
     let cell = chart(alloc, rows)?;
     let grid = grid_of(alloc, &cell)?;
-    for ((x0, y0, x1, y1), numbers) in cases {
-        let area = Bounds {
-            x0: *x0,
-            y0: *y0,
-            x1: *x1,
-            y1: *y1,
-        };
-        let names = grid.candidates(alloc, &area)?;
-        if !are_names(names.as_slice(), numbers) {
+    for (area, numbers) in cases {
+        if !is_answer(alloc, &grid, *area, numbers)? {
             return Ok(false);
         }
     }

@@ -1,0 +1,35 @@
+//! What a grid answers of an area.
+
+use chart_model::Name;
+use plane_bounds::Bounds;
+use sample_rows::name;
+use spatial_grid::Grid;
+use std::alloc::{AllocError, Global};
+
+/// An area, by its west, south, east and north.
+pub type Area = (i64, i64, i64, i64);
+
+fn are_names(names: &[Name], numbers: &[u32]) -> bool {
+    names.len() == numbers.len()
+        && names
+            .iter()
+            .zip(numbers)
+            .all(|(name, number)| *name == name!(100, *number))
+}
+
+/// Whether the candidates for an area are the features of these numbers, in this order.
+pub fn is_answer(
+    alloc: Global,
+    grid: &Grid,
+    area: Area,
+    numbers: &[u32],
+) -> Result<bool, AllocError> {
+    let area = Bounds {
+        x0: area.0,
+        y0: area.1,
+        x1: area.2,
+        y1: area.3,
+    };
+    let names = grid.candidates(alloc, &area)?;
+    Ok(are_names(names.as_slice(), numbers))
+}
