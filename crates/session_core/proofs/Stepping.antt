@@ -7,7 +7,7 @@ use Rattle.std.specs.Ordering.{eq_by_cmp, is_eq}
 use Rattle.std.specs.List.{Contains}
 use Rattle.std.specs.List.Sorted.{IsStrictlySortedBy}
 use Rattle.std.proofs.lemmas.List.Elements.{Contains-append_cases}
-use Rattle.chart_difference.specs.Difference.{AreChanged}
+use Rattle.chart_difference.specs.Difference.{AreChanged, HasAll}
 use Rattle.chart_model.specs.Cell.{CellValue}
 use Rattle.chart_model.specs.Names.{name_cmp}
 use Rattle.chart_model.specs.State.{StateValue}
@@ -40,6 +40,13 @@ has-changed old now before after names was is h name apart =
     let both : AreChanged (Some before) (Some after) names =
     subst (λ (o : Option CellValue). AreChanged (Some before) o names) is (subst (λ (o : Option CellValue). AreChanged o now names) was h) in
     (both.exact name).1 (inr apart)
+
+pub all-changed : (old now : Option CellValue) (before after : CellValue) (names : List Name) → old ≡ Some before → now ≡ Some after
+    → AreChanged old now names → HasAll (Some before) (Some after) names
+all-changed old now before after names was is h name apart =
+    let both : AreChanged (Some before) (Some after) names =
+    subst (λ (o : Option CellValue). AreChanged (Some before) o names) is (subst (λ (o : Option CellValue). AreChanged o now names) was h) in
+    (both.exact name).1 apart
 
 fewer : (b : Bool) (name : Name) (rest : List Name) (n : ℕ) → length rest ≤ n → length (cond b (name ∷ rest) rest) ≤ n + 1
 fewer true name rest n h = omega (arith, h)

@@ -3,10 +3,12 @@ use Rattle.std.specs.Prelude.{◌≡◌, ◌≢◌, ◌⊎◌, ℕ, ◌+◌, ◌
 use Rattle.std.specs.FinMap as finite
 use Rattle.bank_journal.specs.Fault.{HasDeskCause}
 use Rattle.chart_model.specs.Keys.{key_cmp}
+use Rattle.chart_model.specs.Names.{name_cmp}
 use Rattle.chart_ports.specs.Disk.{LeavesNoMoreOfOthers, SameOthers}
 use Rattle.chart_ports.specs.declared.images.Images.{Images}
 use Rattle.chart_store.specs.declared.store.Store.{Store}
 use Rattle.chart_store.specs.Store.{IsKept, StandsForEither, count_of, is_sound, room_of, state_of}
+use Rattle.plane_bounds.specs.declared.bounds.Bounds.{Bounds}
 use Rattle.script_reader.specs.declared.event.Event.{Event}
 use Rattle.script_reader.specs.declared.reply.Reply.{Reply}
 use Rattle.session_core.specs.declared.fault.EventFault.{EventFault}
@@ -19,6 +21,7 @@ use Rattle.session_core.specs.Kept.{IsKeptOfEach}
 use Rattle.session_core.specs.Model.{Model, Portrayal, portrayal_with}
 use Rattle.session_core.specs.Steps.{most_steps_at}
 use Rattle.session_core.specs.Turn.{Turn, refusal_turn, turn_of}
+use Rattle.spatial_grid.specs.Box.{IsGridOf}
 use Rattle.topology_cache.specs.Users.{AreUsersOf, UsersValue}
 
 -- its store
@@ -41,11 +44,16 @@ model_of session = record {
 abbrev pub users_in : Session → finite.FinMap key_cmp UsersValue
 users_in session = session.users
 
+-- the grids that it keeps, by the keys of the charts
+abbrev pub grids_in : Session → finite.FinMap key_cmp (finite.FinMap name_cmp Bounds)
+grids_in session = session.grids
+
 -- ---- between turns
 
--- It keeps the users of each chart that is held, and of nothing else.
+-- It keeps the users and the grid of each chart that is held, and of nothing else.
 pub record KeepsCharts (session : Session) : Type 0 where
   pub users : IsKeptOfEach AreUsersOf (state_of (store_of session)).cells (users_in session)
+  pub grids : IsKeptOfEach IsGridOf (state_of (store_of session)).cells (grids_in session)
 
 -- The desk keeps the session's store, and no call of it has failed; and the session keeps what is drawn by.
 pub record IsReady (tells : Bool) (contents : ℕ → List ℕ) (may_leave : ℕ → List ℕ → Type 0) (session : Session)

@@ -8,15 +8,8 @@ ghost use Rattle.chart_store.specs.Live.{AreLive};
 ghost use Rattle.chart_store.specs.Store.{state_of};
 ghost use Rattle.session_core.specs.Held.{chart_of};
 
-use chart_model::{Cell, HoldingMap, Key, State};
+use chart_model::{Cell, HoldingMap, Key};
 use chart_store::Store;
-
-/// The cells of a state.
-pub fn cells_in(state: &State) -> &HoldingMap
-    ensures { result.now ≡ state.now.cells }
-{
-    &state.cells
-}
 
 /// The cells that a store holds.
 pub fn cells_of(store: &Store) -> &HoldingMap

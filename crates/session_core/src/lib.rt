@@ -8,7 +8,6 @@
 mod changes;
 mod fault;
 mod fetch;
-mod grids;
 mod held;
 mod laws;
 mod questions;

@@ -4,12 +4,13 @@ use crate::changes::{Order, drop_order, load_order, make_order, reissue_order, r
 use crate::fault::{EventFault, TurnFault};
 use crate::held::{cells_of, chart_of};
 use crate::questions::{check_route, draw_chart, inform, list_cells};
-use crate::upkeep::{all_users, renew_users};
+use crate::upkeep::{all_grids, all_users, renew_grids, renew_users};
 use chart_model::Settings;
 use chart_ports::{Desk, Shelf, Steps};
 use chart_store::{Accepted, Store, commands_change_their_cell_alone, kept_stores_are_read};
 use lookup_table::Table;
 use script_reader::{Event, Reply};
+use spatial_grid::GridMap;
 use std::alloc::{AllocError, Global};
 use std::sync::ledger::Ledger;
 use topology_cache::UsersMap;
@@ -17,13 +18,14 @@ use topology_cache::UsersMap;
 /// What a run of events goes on with: the store, and the table and the settings by which cells are drawn. The shelf and
 /// the desk are handed in at each turn.
 ///
-/// Beside each chart that is held it keeps the users of its edges.
+/// Beside each chart that is held it keeps the users of its edges and its grid.
 #[derive(Drop)]
 pub struct Session {
     store: Store,
     table: Table,
     settings: Settings,
     users: UsersMap,
+    grids: GridMap,
 }
 
 impl Session {
@@ -44,9 +46,10 @@ impl Session {
     ghost use Rattle.session_core.specs.Model.{portrayal_with};
     ghost use Rattle.session_core.specs.Reissue.{ReissueKeepsChart};
     ghost use Rattle.session_core.specs.Session.{GivesEvent, GivesTurn, IsReady, KeepsCharts, KeepsDesk, TakesTurn};
-    ghost use Rattle.session_core.specs.Session.{model_of, portrayal_of, store_of, users_in};
+    ghost use Rattle.session_core.specs.Session.{grids_in, model_of, portrayal_of, store_of, users_in};
     ghost use Rattle.session_core.specs.Steps.{TakesAtMost};
     ghost use Rattle.session_core.specs.Turn.{order_turn};
+    ghost use Rattle.spatial_grid.specs.Box.{IsGridOf};
     ghost use Rattle.topology_cache.specs.Users.{AreUsersOf};
 
     /// A session over a store that was just opened, which draws cells by a table and by what the mariner set. Each
@@ -67,11 +70,13 @@ impl Session {
     {
         let cells = cells_of(&store);
         let users = all_users(alloc, cells, steps)?;
+        let grids = all_grids(alloc, cells)?;
         Ok(Session {
             store,
             table,
             settings,
             users,
+            grids,
         })
     }
 
@@ -82,6 +87,13 @@ impl Session {
         &self.users
     }
 
+    /// The grid of each chart that is held, by the charts' keys.
+    pub fn grids(&self) -> &GridMap
+        ensures { result.now ≡ grids_in self.now }
+    {
+        &self.grids
+    }
+
     /// Brings what is kept of a cell's chart up to date after a command. Each name whose records differ is a step at
     /// most.
     fn keep_up<C: Ledger>(
@@ -90,17 +102,21 @@ impl Session {
         done: &Accepted,
         steps: &mut Steps<C>,
     ) -> Result<(), AllocError>
-        requires kept { IsKeptOf AreUsersOf done.now.old (finite.get (users_in self.old) done.now.key) }
+        requires users { IsKeptOf AreUsersOf done.now.old (finite.get (users_in self.old) done.now.key) }
+        requires grids { IsKeptOf IsGridOf done.now.old (finite.get (grids_in self.old) done.now.key) }
         requires changed { AreChanged done.now.old
             (chart_of (state_of (store_of self.old)).cells done.now.key) done.now.changed }
         ensures store { store_of self.new ≡ store_of self.old }
         ensures portrayal { portrayal_of self.new ≡ portrayal_of self.old }
         ensures users { OnOk result (IsRenewed AreUsersOf done.now.key
             (chart_of (state_of (store_of self.old)).cells done.now.key) (users_in self.old) (users_in self.new)) }
+        ensures grids { OnOk result (IsRenewed IsGridOf done.now.key
+            (chart_of (state_of (store_of self.old)).cells done.now.key) (grids_in self.old) (grids_in self.new)) }
         ensures at_most { steps.new ≤ steps.old + length done.now.changed }
     {
         let now = chart_of(cells_of(&self.store), done.key);
-        renew_users(alloc, &mut self.users, done, now, steps)
+        renew_users(alloc, &mut self.users, done, now, steps)?;
+        renew_grids(alloc, &mut self.grids, done, now)
     }
 
     /// Carries out what a line orders, and tells its reply where it isn't refused.
@@ -168,7 +184,7 @@ impl Session {
             }
             Event::Route(name) => {
                 let state = self.store.state();
-                check_route(alloc, name, state, &self.settings, shelf)
+                check_route(alloc, name, state, &self.grids, &self.settings, shelf)
             }
             Event::Load(name) => {
                 let order = load_order(alloc, name, shelf)?;
@@ -228,7 +244,7 @@ impl Session {
         ensures keeps { KeepsDesk D.tells D.said D.contents D.may_leave D.faults DeskFault result self.old self.new
             desk.old desk.new }
 
-        // The next turn may follow: the session keeps the users of each chart that is held now.
+        // The next turn may follow: the session keeps the users and the grid of each chart that is held now.
         ensures ready { OnOk result (IsReady D.tells (D.contents desk.new) (D.may_leave desk.new) self.new) }
         ensures shelf { KeepsShelf L.tells L.files L.faults shelf.old shelf.new }
     {

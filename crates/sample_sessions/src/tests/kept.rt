@@ -6,12 +6,22 @@ use super::turns::{SETTINGS, failing, replies, shelf, table};
 use chart_model::{Cell, Key, State};
 use chart_ports::{MemoryDesk, Steps};
 use chart_store::open_store;
+use plane_bounds::Bounds;
 use session_core::Session;
+use spatial_grid::grid_of;
 use std::alloc::{AllocError, Global};
 use std::marker::Brand;
 use std::sync::ledger::{Blank, Ledger};
 use std::test::Fail;
 use topology_cache::users_of;
+
+/// An area in which the node of the first update lies, and the first square of the cell for trials.
+const AREA: Bounds = Bounds {
+    x0: 8,
+    y0: 7,
+    x1: 1_500,
+    y1: 50,
+};
 
 /// Lines that change charts: a cell is made, updated, rolled back, taken away and made again, and another is loaded,
 /// updated, rolled back and cancelled.
@@ -44,13 +54,17 @@ fn is_kept<C: Ledger>(
     let Some(users) = session.users().get(key) else {
         return Ok(false);
     };
+    let Some(grid) = session.grids().get(key) else {
+        return Ok(false);
+    };
     let anew = users_of(alloc, chart, steps)?;
     for (name, _) in chart.vectors.iter() {
         if users.edge_users(*name) != anew.edge_users(*name) {
             return Ok(false);
         }
     }
-    Ok(true)
+    let names = grid_of(alloc, chart)?.candidates(alloc, &AREA)?;
+    Ok(grid.candidates(alloc, &AREA)?.as_slice() == names.as_slice())
 }
 
 /// Whether it does so of each chart, and of no other key.
@@ -68,7 +82,7 @@ fn keeps<C: Ledger>(
             }
         }
     }
-    Ok(session.users().len() == charts)
+    Ok(session.users().len() == charts && session.grids().len() == charts)
 }
 
 /// Whether it does so after lines over a new store.

@@ -2,6 +2,7 @@
 use Rattle.std.proofs.Common.{◌≡◌, ◌+◌, ◌≤◌, ℕ, false, Ok, Err, sym, ◌∙◌, ap, subst}
 use Rattle.chart_model.specs.State.{StateValue}
 use Rattle.chart_store.specs.Loaded.{HoldingsByKey}
+use Rattle.route_check.specs.Grids.{HasGrids}
 use Rattle.script_reader.specs.Line.{AreInRange, CanBeMade}
 use Rattle.script_reader.specs.declared.event.Event.{Event}
 use Rattle.script_reader.specs.declared.event.Event.TheVariants.{Make}
@@ -15,9 +16,10 @@ use Rattle.session_core.specs.Kept.{IsKeptOfEach}
 use Rattle.session_core.specs.Listing.{cells_reply}
 use Rattle.session_core.specs.Order.{reissue_order}
 use Rattle.session_core.specs.Route.{ROUTE_LIMIT, route_of}
-use Rattle.session_core.specs.Session.{model_of, store_of, users_in}
+use Rattle.session_core.specs.Session.{grids_in, model_of, store_of, users_in}
 use Rattle.session_core.proofs.Fetching.{are-served}
 use Rattle.session_core.proofs.Reissuing.{event-keeps, not-passed}
+use Rattle.session_core.proofs.Renewing.{has-grids}
 use Rattle.session_core.proofs.Stepping.{none-taken, within, within-none}
 use Rattle.session_core.proofs.Turning.{no-call, question-turns, order-fails, order-turns, info-is, info-steps, cells-is, draw-is, route-is, load-is, rollback-is, drop-is, make-is, reissue-is}
 use Rattle.topology_cache.specs.Users.{AreUsersOf}
@@ -162,6 +164,13 @@ pub draw_chart-requires : goal.draw_chart-requires
 draw_chart-requires g c = record {
   kept =
       subst (λ (cells : HoldingsByKey). IsKeptOfEach AreUsersOf cells (users_in c.args.self.now)) (sym c.cells_of-cells.ensures.cells) c.requires.ready.charts.users;
+}
+
+pub check_route-requires : goal.check_route-requires
+check_route-requires g c = record {
+  grids =
+      subst (λ (state : StateValue). HasGrids state (grids_in c.args.self.now)) (sym c.state-state.ensures.state)
+      (has-grids (model_of c.args.self.now).state (grids_in c.args.self.now) c.requires.ready.charts.grids);
 }
 
 -- ---- a re-issue

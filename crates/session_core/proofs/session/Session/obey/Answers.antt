@@ -4,7 +4,8 @@ use Rattle.std.specs.Prelude.{IsTrue}
 use Rattle.chart_store.specs.Store.{IsKept, is_sound, room_of, state_of}
 use Rattle.chart_store.specs.declared.store.Store.{Store}
 use Rattle.session_core.specs.Kept.{IsKeptOfEach}
-use Rattle.session_core.specs.Session.{store_of, users_in}
+use Rattle.session_core.specs.Session.{grids_in, store_of, users_in}
+use Rattle.spatial_grid.specs.Box.{IsGridOf}
 use Rattle.topology_cache.specs.Users.{AreUsersOf}
 use Rattle.session_core.proofs.Keeping.{kept-renewed}
 use Rattle.session_core.proofs.Renewing.{other-fault, others-stay, refused-steps, stays-sound}
@@ -19,6 +20,7 @@ returns-in_err-done-clause-ready g c = λ no_fault no_want.
       kept = λ tells. c.in_err-done.ensures.kept tells apart;
       charts = record {
         users = subst (λ (store : Store). IsKeptOfEach AreUsersOf (state_of store).cells (users_in c.args.self.now)) (sym same) c.requires.ready.charts.users;
+        grids = subst (λ (store : Store). IsKeptOfEach IsGridOf (state_of store).cells (grids_in c.args.self.now)) (sym same) c.requires.ready.charts.grids;
       };
     }
 
@@ -39,5 +41,8 @@ returns-clause-ready g c = λ no_fault no_want.
         users = subst (λ (store : Store). IsKeptOfEach AreUsersOf (state_of store).cells (users_in c.keep_up.new.self)) (sym same)
             (kept-renewed AreUsersOf (state_of old).cells (state_of c.submit.new.self).cells c.in_ok-done.done.key (users_in c.args.self.now) (users_in c.keep_up.new.self)
             c.requires.ready.charts.users stay c.in_ok-keep_up.ensures.users);
+        grids = subst (λ (store : Store). IsKeptOfEach IsGridOf (state_of store).cells (grids_in c.keep_up.new.self)) (sym same)
+            (kept-renewed IsGridOf (state_of old).cells (state_of c.submit.new.self).cells c.in_ok-done.done.key (grids_in c.args.self.now) (grids_in c.keep_up.new.self)
+            c.requires.ready.charts.grids stay c.in_ok-keep_up.ensures.grids);
       };
     }

@@ -5,7 +5,7 @@ use Rattle.chart_model.specs.Cell.{CellValue}
 use Rattle.spatial_grid.specs.Box.{IsGridOf}
 use Rattle.session_core.specs.Kept.{IsRenewed}
 use Rattle.session_core.proofs.Keeping.{walk-begins, walk-ends, walk-goes}
-use Rattle.session_core.proofs.grids.all_grids.Goals as goal
+use Rattle.session_core.proofs.upkeep.all_grids.Goals as goal
 
 pub loop-key-init : goal.loop-key-init
 loop-key-init c =

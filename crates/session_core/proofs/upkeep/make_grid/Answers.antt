@@ -3,7 +3,7 @@ use Rattle.std.proofs.Common.{ap}
 use Rattle.std.specs.Option.{option_copied}
 use Rattle.spatial_grid.specs.Box.{IsGridOf}
 use Rattle.session_core.proofs.Keeping.{on-ok, renewed-none, renewed-some}
-use Rattle.session_core.proofs.grids.make_grid.Goals as goal
+use Rattle.session_core.proofs.upkeep.make_grid.Goals as goal
 
 pub returns-in_default : goal.returns-in_default
 returns-in_default c =
