@@ -1,6 +1,7 @@
 //! Reports over ten squares in a row, with their grid and without.
 
 use crate::tests::charts::{chart_under, grids_over, hold_chart, nothing_held, rows_along, whole};
+use cell_bytes::make_cell;
 use chart_model::{Key, State};
 use route_check::DangerList;
 use sample_rows::{Row, feature, vector};
@@ -113,5 +114,24 @@ fn squares_without_their_grid(rt: HostRuntime) -> Result<(), Fail> {
     assert_eq!(rt; count_rows(rt.alloc(), &state, &grids)?, 0);
     grids.insert(other, grid)?;
     assert_eq!(rt; count_rows(rt.alloc(), &state, &grids)?, 0);
+    Ok(())
+}
+
+/// The report along the first ten areas of the cell for trials, by some grids.
+fn trial_rows(alloc: Global, state: &State, grids: &GridMap) -> Result<DangerList, Fail> {
+    let points = [[1_000, 450], [10_900, 450]];
+    rows_along(alloc, state, grids, (3_000, 3_000), [0, 0], &points)
+}
+
+#[test]
+fn squares_of_the_cell_for_trials(rt: HostRuntime) -> Result<(), Fail> {
+    let key = Key::from_bytes(b"MK000100").ok_or("a key")?;
+    let mut state = nothing_held(rt.alloc());
+    hold_chart(rt.alloc(), &mut state, make_cell(rt.alloc(), 100)?)?;
+    let grids = grids_over(rt.alloc(), &state)?;
+    let found = trial_rows(rt.alloc(), &state, &grids)?;
+    assert!(rt; are_squares(&found, key, ALL), "with their grid");
+    let found = trial_rows(rt.alloc(), &state, &GridMap::new(rt.alloc()))?;
+    assert!(rt; found.as_slice().is_empty(), "without it");
     Ok(())
 }
