@@ -1,0 +1,38 @@
+//! Two banks, of which one is the current one, and a save into the other.
+
+ghost use Rattle.std.specs.Prelude.{◌≡◌, ◌+◌, ◌<◌, ◌≤◌, [], None, length};
+ghost use Rattle.std.specs.Option.{ForSome};
+ghost use Rattle.std.specs.List.{sum_by};
+ghost use Rattle.bank_pair.specs.Saving.{AreSlicesOf};
+
+use bank_journal::{Bank, Framed};
+use chart_model::Octets;
+
+/// A checkpoint that is written into the other bank.
+#[derive(Debug, Drop)]
+pub(crate) struct Save {
+    pub(crate) checkpoint: Octets,
+    /// In how many slices it is written.
+    pub(crate) slices: u32,
+    /// How many of them are written.
+    pub(crate) written: u32,
+    ghost sliced: { AreSlicesOf checkpoint slices },
+    ghost within: { written ≤ slices },
+}
+
+/// Two banks, and a save from the current one into the other. It keeps no records but those that the save has to copy;
+/// the desk is handed in at each call.
+#[derive(Debug, Drop)]
+pub struct Pair {
+    /// The current bank.
+    pub(crate) bank: Bank,
+    pub(crate) save: Option<Save>,
+    /// The records that were appended since the save began.
+    pub(crate) since: Vec<Framed>,
+    /// Where the closed gate of the other bank will stand, while a save is under way.
+    pub(crate) gate: u64,
+    ghost idle: { save ≡ None → since.items ≡ [] },
+    ghost gated: { ForSome save (λ save.
+        gate ≡ 8 + length save.checkpoint + sum_by (λ frame. length frame) since.items) },
+    ghost gate_in: { gate < 268435456 },
+}
