@@ -1,5 +1,5 @@
 -- What is said by words that are written out but for the names and values in them.
-use Rattle.std.proofs.Common.{◌≡◌, ℕ, List, [], ◌∷◌, true, Option, Some, None, refl}
+use Rattle.std.proofs.Common.{◌≡◌, ℕ, List, [], ◌∷◌, ◌++◌, true, Option, Some, None, refl}
 use Rattle.std.specs.Prelude.{codes, option_map}
 use Rattle.clap.proofs.OnLiterals.{clap_on_literals}
 use Rattle.chart_model.specs.declared.settings.Settings.{Settings}
