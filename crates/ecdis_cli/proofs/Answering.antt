@@ -1,5 +1,6 @@
 -- A line's reply, and how it is said.
-use Rattle.std.proofs.Common.{◌≡◌, ℕ, ◌+◌, ◌<◌, ◌≤◌, Bool, true, false, List, [], ◌∷◌, ◌++◌, length, refl, sym, ◌∙◌, ap, subst, inl, inr}
+use Rattle.std.proofs.Common.{◌≡◌, ℕ, ◌<◌, ◌≤◌, Bool, true, false, List, [], ◌∷◌, ◌++◌, length, refl, sym, ◌∙◌, ap}
+use Rattle.std.proofs.Common.{subst, arith, inl, inr}
 use Rattle.std.specs.Prelude.{Option, Some, None, Result, Ok, Err, IsErr}
 use Rattle.std.proofs.lemmas.List.{append-nil}
 use Rattle.std.proofs.lemmas.List.Elements.{All-nil, All-cons}
@@ -20,7 +21,9 @@ use Rattle.script_reader.specs.declared.reply.Reply.{Reply}
 use Rattle.session_core.specs.Fetch.{AreFetched, Files, Fetches, fetches_of}
 use Rattle.session_core.specs.Session.{GivesTurn, TakesTurn}
 use Rattle.session_core.specs.Model.{Model, model_with}
+use Rattle.session_core.specs.Steps.{TakesAtMost, most_steps_at}
 use Rattle.session_core.specs.Turn.{Turn, turn_of}
+use Rattle.session_core.specs.declared.fault.TurnFault.{TurnFault}
 use Rattle.ecdis_cli.specs.Crash.{LeavesPrefix}
 use Rattle.ecdis_cli.specs.Progress.{LineIsAnswered, ReplyIsInterrupted, IsSpoken, StepsAreTaken, step_at}
 use Rattle.ecdis_cli.specs.declared.run.stop.Stop.{Stop}
@@ -28,6 +31,7 @@ use Rattle.ecdis_cli.specs.Replied.{GivesStep, LeavesSaying, ReplyIsFound}
 use Rattle.ecdis_cli.specs.Script.{IsAnswer, commands_in, commands_of, output_of}
 use Rattle.ecdis_cli.specs.Step.{Step, said_in, said_of, step_by, step_of, step_to}
 use Rattle.ecdis_cli.specs.Standing.{Standing}
+use Rattle.ecdis_cli.proofs.Counting.{counted-one, counted-turn, counted-within}
 use Rattle.ecdis_cli.proofs.Crashes.{prefix-saying, prefix-turn}
 use Rattle.ecdis_cli.proofs.Failures.{TellsFailure, failed-one}
 use Rattle.ecdis_cli.proofs.Lists.{after-none, after-one}
@@ -77,11 +81,13 @@ step-spoken speaks fetches model number line = spoken-by speaks fetches model nu
 -- ---- the step is taken
 
 pub Taken-one : Rests → Follows → Speaks → TellsFailure → (tells : Bool) (files : Files) (Leaves : (Images → List ℕ → Type 0) → Type 0)
-    (before : Standing) (faults : ℕ) (fetches : Fetches) → before.faults ≤ faults
+    (before : Standing) (faults count : ℕ) (fetches : Fetches) → before.faults ≤ faults
     → AreFetched tells files before.faults faults fetches
+    → TakesAtMost (step_at fetches before).most before.model.state (step_at fetches before).model.state
+    before.count count
     → Leaves (LeavesPrefix before.model.state (step_at fetches before ∷ []) before.said)
-    → StepsAreTaken tells files Leaves before faults (fetches ∷ []) (step_at fetches before ∷ [])
-Taken-one rests follows speaks law tells files Leaves before faults fetches later answers crash =
+    → StepsAreTaken tells files Leaves before faults count (fetches ∷ []) (step_at fetches before ∷ [])
+Taken-one rests follows speaks law tells files Leaves before faults count fetches later answers counted crash =
     let step : Step = step_at fetches before in
     record {
       told = All-cons (IsAnswer tells files) fetches [] answers.told (All-nil (IsAnswer tells files));
@@ -90,6 +96,7 @@ Taken-one rests follows speaks law tells files Leaves before faults fetches late
       failed = failed-one law fetches before.model before.number before.line before.faults faults later answers.cause;
       later = later;
       crash = crash;
+      counted = counted-one before.model step before.count count counted;
     }
 
 -- the output of a step that has a reply
@@ -98,7 +105,7 @@ output-replied step reply is = append-nil (said_in step) ∙ ap said_of is
 
 module _ {D : Type 0} (clock : D → ℕ) (might : D → ℕ → Images → List ℕ → Type 0)
     (rests : Rests) (follows : Follows) (speaks : Speaks) (law : TellsFailure)
-    (tells : Bool) (files : Files) (before : Standing) (faults : ℕ) (later : before.faults ≤ faults) where
+    (tells : Bool) (files : Files) (before : Standing) (faults count : ℕ) (later : before.faults ≤ faults) where
   -- the moments of a turn
   turn-crash : (d0 d1 : D) (fetches : Fetches)
       → LeavesOnly clock might d0 d1 (StandsForEither before.said before.model.state (step_at fetches before).model.state)
@@ -109,18 +116,33 @@ module _ {D : Type 0} (clock : D → ℕ) (might : D → ℕ → Images → List
       (λ images so_far x. prefix-turn before.model.state step.model.state step before.said so_far images
       (step-held rests follows fetches before.model before.number before.line) x) moments
 
+  -- the step is taken, with what was counted then
+  taken-step : (d0 d1 : D) (now : Standing) (fetches : Fetches) → now.faults ≡ faults → now.count ≡ count
+      → AreFetched tells files before.faults faults fetches
+      → TakesAtMost (step_at fetches before).most before.model.state (step_at fetches before).model.state
+      before.count count
+      → LeavesOnly clock might d0 d1 (LeavesPrefix before.model.state (step_at fetches before ∷ []) before.said)
+      → StepsAreTaken tells files (LeavesOnly clock might d0 d1) before now.faults now.count (fetches ∷ [])
+      (step_at fetches before ∷ [])
+  taken-step d0 d1 now fetches failed stepped answers counted crash =
+      let Leaves = LeavesOnly clock might d0 d1 in
+      let steps : List Step = step_at fetches before ∷ [] in
+      subst (λ (n : ℕ). StepsAreTaken tells files Leaves before n now.count (fetches ∷ []) steps) (sym failed)
+      (subst (λ (n : ℕ). StepsAreTaken tells files Leaves before faults n (fetches ∷ []) steps) (sym stepped)
+      (Taken-one rests follows speaks law tells files Leaves before faults count fetches later answers counted crash))
+
   -- there is no reply
-  pub answered-silent : (IsGiven : Step → Type 0) (d0 d1 : D) (now : Standing) → now.faults ≡ faults → now.said ≡ before.said
+  pub answered-silent : (IsGiven : Step → Type 0) (d0 d1 : D) (now : Standing) → now.faults ≡ faults → now.count ≡ count
+      → now.said ≡ before.said
       → ((step : Step) → IsGiven step → (step.reply ≡ None) × (step.model ≡ now.model))
-      → ReplyIsFound tells files (LeavesOnly clock might d0 d1) before faults IsGiven
+      → ReplyIsFound tells files (LeavesOnly clock might d0 d1) before faults count IsGiven
       → LineIsAnswered tells files (LeavesOnly clock might d0 d1) before now
-  answered-silent IsGiven d0 d1 now counted silent gives x =
+  answered-silent IsGiven d0 d1 now failed stepped silent gives x =
       let step : Step = step_at x.fetches before in
       let given : (step.reply ≡ None) × (step.model ≡ now.model) = gives step x.gives in
       record {
         fetches = x.fetches;
-        taken = subst (λ (n : ℕ). StepsAreTaken tells files (LeavesOnly clock might d0 d1) before n (x.fetches ∷ []) (step ∷ [])) (sym counted)
-            (Taken-one rests follows speaks law tells files (LeavesOnly clock might d0 d1) before faults x.fetches later x.answers (turn-crash d0 d1 x.fetches x.leaves));
+        taken = taken-step d0 d1 now x.fetches failed stepped x.answers x.counted (turn-crash d0 d1 x.fetches x.leaves);
         after = record {
           said = silent ∙ sym (append-nil before.said) ∙ ap (λ (o : Option Reply). before.said ++ (said_of o ++ [])) (sym given.0);
           reached = sym given.1;
@@ -128,15 +150,16 @@ module _ {D : Type 0} (clock : D → ℕ) (might : D → ℕ → Images → List
       }
 
   -- it isn't come to
-  pub interrupted-before : (IsGiven : Step → Type 0) (d0 d1 : D) (now : Standing) → now.faults ≡ faults → now.said ≡ before.said
-      → ReplyIsFound tells files (LeavesOnly clock might d0 d1) before faults IsGiven
+  pub interrupted-before : (IsGiven : Step → Type 0) (d0 d1 : D) (now : Standing) → now.faults ≡ faults
+      → now.count ≡ count
+      → now.said ≡ before.said
+      → ReplyIsFound tells files (LeavesOnly clock might d0 d1) before faults count IsGiven
       → ReplyIsInterrupted tells files (LeavesOnly clock might d0 d1) before now
-  interrupted-before IsGiven d0 d1 now counted silent x =
+  interrupted-before IsGiven d0 d1 now failed stepped silent x =
       let step : Step = step_at x.fetches before in
       record {
         fetches = x.fetches;
-        taken = subst (λ (n : ℕ). StepsAreTaken tells files (LeavesOnly clock might d0 d1) before n (x.fetches ∷ []) (step ∷ [])) (sym counted)
-            (Taken-one rests follows speaks law tells files (LeavesOnly clock might d0 d1) before faults x.fetches later x.answers (turn-crash d0 d1 x.fetches x.leaves));
+        taken = taken-step d0 d1 now x.fetches failed stepped x.answers x.counted (turn-crash d0 d1 x.fetches x.leaves);
         front = front-none before.said (output_of (step ∷ [])) now.said silent;
       }
 
@@ -159,33 +182,33 @@ module _ {D : Type 0} (clock : D → ℕ) (might : D → ℕ → Images → List
 
   -- what is taken of the script where a reply is begun
   taken-said : (IsGiven : Step → Type 0) (d0 d1 d2 : D) (may_leave : ℕ → List ℕ → Type 0) (reply : Reply) (middle : List ℕ) (now : Standing)
-      → now.faults ≡ faults → middle ≡ before.said
+      → now.faults ≡ faults → now.count ≡ count → middle ≡ before.said
       → ((step : Step) → IsGiven step → (step.reply ≡ Some reply) × (step.model ≡ now.model))
       → ((images : Images) → MayBeLeft may_leave images → StandFor images now.model.state)
-      → (x : ReplyIsFound tells files (LeavesOnly clock might d0 d1) before faults IsGiven)
+      → (x : ReplyIsFound tells files (LeavesOnly clock might d0 d1) before faults count IsGiven)
       → LeavesOnly clock might d1 d2 (LeavesSaying may_leave middle (bytes_of_reply reply))
-      → StepsAreTaken tells files (LeavesOnly clock might d0 d2) before now.faults (x.fetches ∷ []) (step_at x.fetches before ∷ [])
-  taken-said IsGiven d0 d1 d2 may_leave reply middle now counted silent gives stands x then_said =
+      → StepsAreTaken tells files (LeavesOnly clock might d0 d2) before now.faults now.count (x.fetches ∷ [])
+      (step_at x.fetches before ∷ [])
+  taken-said IsGiven d0 d1 d2 may_leave reply middle now failed stepped silent gives stands x then_said =
       let step : Step = step_at x.fetches before in
       let given : (step.reply ≡ Some reply) × (step.model ≡ now.model) = gives step x.gives in
-      subst (λ (n : ℕ). StepsAreTaken tells files (LeavesOnly clock might d0 d2) before n (x.fetches ∷ []) (step ∷ [])) (sym counted)
-      (Taken-one rests follows speaks law tells files (LeavesOnly clock might d0 d2) before faults x.fetches later x.answers
-      (said-crash d0 d1 d2 may_leave x.fetches now.model reply middle silent given.0 given.1 stands x.leaves then_said))
+      taken-step d0 d2 now x.fetches failed stepped x.answers x.counted
+      (said-crash d0 d1 d2 may_leave x.fetches now.model reply middle silent given.0 given.1 stands x.leaves then_said)
 
   -- the reply was said
   pub answered-said : (IsGiven : Step → Type 0) (d0 d1 d2 : D) (may_leave : ℕ → List ℕ → Type 0) (reply : Reply) (middle : List ℕ) (now : Standing)
-      → now.faults ≡ faults → middle ≡ before.said → now.said ≡ middle ++ bytes_of_reply reply
+      → now.faults ≡ faults → now.count ≡ count → middle ≡ before.said → now.said ≡ middle ++ bytes_of_reply reply
       → ((step : Step) → IsGiven step → (step.reply ≡ Some reply) × (step.model ≡ now.model))
       → ((images : Images) → MayBeLeft may_leave images → StandFor images now.model.state)
-      → ReplyIsFound tells files (LeavesOnly clock might d0 d1) before faults IsGiven
+      → ReplyIsFound tells files (LeavesOnly clock might d0 d1) before faults count IsGiven
       → LeavesOnly clock might d1 d2 (LeavesSaying may_leave middle (bytes_of_reply reply))
       → LineIsAnswered tells files (LeavesOnly clock might d0 d2) before now
-  answered-said IsGiven d0 d1 d2 may_leave reply middle now counted silent said gives stands x then_said =
+  answered-said IsGiven d0 d1 d2 may_leave reply middle now failed stepped silent said gives stands x then_said =
       let step : Step = step_at x.fetches before in
       let given = gives step x.gives in
       record {
         fetches = x.fetches;
-        taken = taken-said IsGiven d0 d1 d2 may_leave reply middle now counted silent gives stands x then_said;
+        taken = taken-said IsGiven d0 d1 d2 may_leave reply middle now failed stepped silent gives stands x then_said;
         after = record {
           said = said ∙ ap (λ (l : List ℕ). l ++ bytes_of_reply reply) silent ∙ ap (λ (l : List ℕ). before.said ++ l) (sym (output-replied step reply given.0));
           reached = sym given.1;
@@ -194,16 +217,17 @@ module _ {D : Type 0} (clock : D → ℕ) (might : D → ℕ → Images → List
 
   -- a front of the reply was said
   pub interrupted-said : (IsGiven : Step → Type 0) (d0 d1 d2 : D) (may_leave : ℕ → List ℕ → Type 0) (reply : Reply) (middle : List ℕ) (now : Standing)
-      → now.faults ≡ faults → middle ≡ before.said → SaysFront middle (bytes_of_reply reply) now.said
+      → now.faults ≡ faults → now.count ≡ count → middle ≡ before.said
+      → SaysFront middle (bytes_of_reply reply) now.said
       → ((step : Step) → IsGiven step → (step.reply ≡ Some reply) × (step.model ≡ now.model))
       → ((images : Images) → MayBeLeft may_leave images → StandFor images now.model.state)
-      → ReplyIsFound tells files (LeavesOnly clock might d0 d1) before faults IsGiven
+      → ReplyIsFound tells files (LeavesOnly clock might d0 d1) before faults count IsGiven
       → LeavesOnly clock might d1 d2 (LeavesSaying may_leave middle (bytes_of_reply reply))
       → ReplyIsInterrupted tells files (LeavesOnly clock might d0 d2) before now
-  interrupted-said IsGiven d0 d1 d2 may_leave reply middle now counted silent front gives stands x then_said =
+  interrupted-said IsGiven d0 d1 d2 may_leave reply middle now failed stepped silent front gives stands x then_said =
       record {
         fetches = x.fetches;
-        taken = taken-said IsGiven d0 d1 d2 may_leave reply middle now counted silent gives stands x then_said;
+        taken = taken-said IsGiven d0 d1 d2 may_leave reply middle now failed stepped silent gives stands x then_said;
         front = subst (λ (l : List ℕ). SaysFront before.said l now.said)
             (sym (output-replied (step_at x.fetches before) reply (gives _ x.gives).0))
             (subst (λ (l : List ℕ). SaysFront l (bytes_of_reply reply) now.said) silent front);
@@ -231,12 +255,12 @@ module _ {D : Type 0} (clock : D → ℕ) (might : D → ℕ → Images → List
       (λ images so_far left front. record { left = left; front = front })
 
   -- the same moments under a premise that holds
-  pub Replied-told : (T : Type 0) → T → (tells : Bool) (files : Files) (before : Standing) (faults : ℕ)
+  pub Replied-told : (T : Type 0) → T → (tells : Bool) (files : Files) (before : Standing) (faults count : ℕ)
       (IsGiven : Step → Type 0) (d0 d1 : D)
-      → ReplyIsFound tells files (λ P. T → LeavesOnly clock might d0 d1 P) before faults IsGiven
-      → ReplyIsFound tells files (LeavesOnly clock might d0 d1) before faults IsGiven
-  Replied-told T t tells files before faults IsGiven d0 d1 x =
-      record { fetches = x.fetches; answers = x.answers; gives = x.gives; leaves = x.leaves t }
+      → ReplyIsFound tells files (λ P. T → LeavesOnly clock might d0 d1 P) before faults count IsGiven
+      → ReplyIsFound tells files (LeavesOnly clock might d0 d1) before faults count IsGiven
+  Replied-told T t tells files before faults count IsGiven d0 d1 x =
+      record { fetches = x.fetches; answers = x.answers; gives = x.gives; counted = x.counted; leaves = x.leaves t }
 
   -- the files stand for what is held before and after, and nothing is called
   pub leaves-none : (desk : D) (may_leave : ℕ → List ℕ → Type 0) (said : List ℕ) (state left : StateValue)
@@ -260,28 +284,40 @@ pub Replied-quiet : {D : Type 0} (clock : D → ℕ) (might : D → ℕ → Imag
     → (T → (images : Images) (so_far : List ℕ) → might desk (clock desk) images so_far → MayBeLeft may_leave images × (so_far ≡ before.said))
     → (T → (images : Images) → MayBeLeft may_leave images → StandFor images before.model.state)
     → IsGiven (step_at (fetches_of files false) before)
-    → ReplyIsFound tells files (λ P. T → LeavesOnly clock might desk desk P) before before.faults IsGiven
+    → ReplyIsFound tells files (λ P. T → LeavesOnly clock might desk desk P) before before.faults before.count IsGiven
 Replied-quiet clock might T tells files desk may_leave before IsGiven only_now stands gives = record {
   fetches = fetches_of files false;
   answers = record { told = λ t. (false, refl); cause = λ limit name e. cc };
   gives = gives;
+  counted = counted-within (step_at (fetches_of files false) before).most before.model.state
+      (step_at (fetches_of files false) before).model.state before.count before.count (omega arith);
   leaves = λ t. leaves-none clock might desk may_leave before.said before.model.state
       (step_at (fetches_of files false) before).model.state (only_now t) (stands t);
 }
 
 -- a turn is taken
 pub Replied-turn : (tells : Bool) (files : Files) (Leaves : (Images → List ℕ → Type 0) → Type 0) (before : Standing)
-    (faults : ℕ) (event : Event) (IsWithin : ℕ → Type 0) (IsTurn : Turn → Type 0) (IsGiven : Step → Type 0)
-    → ((fetches : Fetches) → step_at fetches before ≡ step_of (turn_of fetches before.model event))
-    → ((turn : Turn) → IsTurn turn → IsGiven (step_of turn))
-    → TakesTurn (AreFetched tells files before.faults faults) Leaves before.said event before.model IsWithin IsTurn
-    → ReplyIsFound tells files Leaves before faults IsGiven
-Replied-turn tells files Leaves before faults event IsWithin IsTurn IsGiven is gives x = record {
-  fetches = x.fetches;
-  answers = x.answers;
-  gives = subst IsGiven (sym (is x.fetches)) (gives (turn_of x.fetches before.model event) x.gives);
-  leaves = subst (λ (s : Step). Leaves (StandsForEither before.said before.model.state s.model.state)) (sym (is x.fetches)) x.leaves;
-}
+    (faults count : ℕ) (event : Event) (result : Result Reply TurnFault) (now : Model) (IsGiven : Step → Type 0)
+    → ((fetches : Fetches) → step_at fetches before
+    ≡ step_of (most_steps_at fetches before.model event) (turn_of fetches before.model event))
+    → ((most : ℕ) (turn : Turn) → GivesTurn result before.model now turn → IsGiven (step_of most turn))
+    → TakesTurn (AreFetched tells files before.faults faults) Leaves before.said event before.model
+    (λ most. TakesAtMost most before.model.state now.state before.count count) (GivesTurn result before.model now)
+    → ReplyIsFound tells files Leaves before faults count IsGiven
+Replied-turn tells files Leaves before faults count event result now IsGiven is gives x =
+    let turn : Turn = turn_of x.fetches before.model event in
+    let most : ℕ = most_steps_at x.fetches before.model event in
+    record {
+      fetches = x.fetches;
+      answers = x.answers;
+      gives = subst IsGiven (sym (is x.fetches)) (gives most turn x.gives);
+      counted = subst (λ (s : Step). TakesAtMost s.most before.model.state s.model.state before.count count)
+          (sym (is x.fetches))
+          (counted-turn result before.model now turn most before.count count x.gives x.steps);
+      leaves = subst (λ (s : Step). Leaves (StandsForEither before.said before.model.state s.model.state))
+          (sym (is x.fetches)) x.leaves;
+    }
 
-pub gives-spoken : (reply : Reply) (before now : Model) (turn : Turn) → GivesTurn (Ok reply) before now turn → GivesStep (Ok (Some reply)) now (step_of turn)
-gives-spoken reply before now turn h = (ap Some h.0, h.1)
+pub gives-spoken : (reply : Reply) (before now : Model) (most : ℕ) (turn : Turn) → GivesTurn (Ok reply) before now turn
+    → GivesStep (Ok (Some reply)) now (step_of most turn)
+gives-spoken reply before now most turn h = (ap Some h.0, h.1)

@@ -1,5 +1,6 @@
 mod Lists
 mod Devices
+mod Counting
 mod Crashes
 mod Taking
 mod Failures

@@ -1,18 +1,21 @@
 -- The run over a store that was opened, or that wasn't.
-use Rattle.std.proofs.Common.{◌≡◌, ℕ, ◌<◌, ◌≤◌, ◌⊎◌, Bool, true, false, List, [], length, refl, sym, ◌∙◌, ap, subst, arith, inl, inr, ⊎_elim}
+use Rattle.std.proofs.Common.{◌≡◌, ℕ, ◌+◌, ◌<◌, ◌≤◌, ◌⊎◌, Bool, true, false, List, [], length, refl, sym, ◌∙◌, ap}
+use Rattle.std.proofs.Common.{subst, arith, inl, inr, ⊎_elim}
 use Rattle.std.specs.Prelude.{IsTrue, Option, Some, None, Result, Ok, Err}
 use Rattle.std.specs.Str.Lines.{lines}
-use Rattle.std.proofs.lemmas.List.{length-replicate}
+use Rattle.std.proofs.lemmas.List.{append-nil, length-replicate}
+use Rattle.chart_model.specs.Answers.{or_fault_as}
 use Rattle.chart_model.specs.State.{StateValue}
 use Rattle.chart_ports.specs.Count.{IsSteady, Rose, RoseBy}
 use Rattle.chart_ports.specs.Moments.{LeavesOnly, MayBeLeft, images_of}
 use Rattle.chart_ports.specs.declared.images.Images.{Images}
 use Rattle.chart_ports.proofs.Moments.{and_then, started, weaker}
-use Rattle.chart_store.specs.Images.{Place, Reading, StandFor, read_of}
+use Rattle.chart_store.specs.Images.{Place, Reading, StandFor, in_bank, read_of}
 use Rattle.chart_store.specs.Opened.{ForeignHas}
 use Rattle.chart_store.specs.Store.{LeavesBefore, LeavesReading, room_of, state_of}
 use Rattle.chart_store.specs.declared.store.Store.{Store}
 use Rattle.session_core.specs.Fetch.{Files, fetches_of}
+use Rattle.session_core.specs.Kept.{feature_count}
 use Rattle.session_core.specs.Model.{Model, Portrayal}
 use Rattle.session_core.specs.Session.{model_of, portrayal_of, store_of}
 use Rattle.session_core.specs.declared.session.Session.{Session}
@@ -26,14 +29,15 @@ use Rattle.ecdis_cli.specs.Progress.{Moments}
 use Rattle.ecdis_cli.specs.Status.{is_early}
 use Rattle.ecdis_cli.specs.Stop.{status_of_opening}
 use Rattle.ecdis_cli.specs.Crash.{LeavesPrefix}
-use Rattle.ecdis_cli.specs.Run.{Outside, Ran, model_at, outside_of}
+use Rattle.ecdis_cli.specs.Run.{Outside, Ran, Says, TakenAreCounted, model_at, outside_of}
 use Rattle.ecdis_cli.specs.Script.{failures_in, steps_of}
 use Rattle.ecdis_cli.specs.Step.{Step}
+use Rattle.ecdis_cli.proofs.Counting.{counted-from}
 use Rattle.ecdis_cli.proofs.Crashes.{prefix-extended, prefix-none}
 use Rattle.ecdis_cli.proofs.Early.{any-is, any_portrayal}
 use Rattle.ecdis_cli.proofs.Failures.{TellsFailure}
 use Rattle.ecdis_cli.proofs.Runs.{Covers, IsOther, covers-none, other-says, padding, padding-told}
-use Rattle.ecdis_cli.proofs.Taking.{answers-same, front-none, rose-none}
+use Rattle.ecdis_cli.proofs.Taking.{answers-same, front-none, rose-none, upto-whole}
 
 -- files that read stand for what they read as
 abbrev pub ReadStands : Type 0
@@ -80,6 +84,27 @@ pub opened-model : (portrayal : Portrayal) (found : Result Reading Place) (openi
     → record { state = state; room = record { used = used; other = None }; portrayal = portrayal } ≡ model_at portrayal opening
 opened-model portrayal found opening state used e f = ap (model_at portrayal) (ok-same (record { state = state; used = used }) opening (sym f ∙ e))
 
+-- where the head is empty the bank tells its fault as its own place
+pub bank-within : {A : Type 0} (most : Result A ℕ → ℕ) (bank : Result A ℕ) (a b : ℕ) → b ≤ a + most bank
+    → b ≤ a + most (or_fault_as (λ (place : Place). place.at) (or_fault_as in_bank bank))
+bank-within most (Ok content) a b h = h
+bank-within most (Err at) a b h = h
+
+-- an opening that fails counts no more than its bank has
+pub unopened-within : (bank features a b : ℕ) → b ≤ a + bank → b ≤ a + (bank + features)
+unopened-within bank features a b h = omega (arith, h)
+
+-- nor does one behind which the features are counted of what was read
+pub opened-within : (found : Result Reading Place) (opening : Reading) (state : StateValue) (used bank a b c : ℕ)
+    → found ≡ Ok opening
+    → found ≡ Ok (record { state = state; used = used }) → b ≤ a + bank → c ≤ b + feature_count state.cells
+    → c ≤ a + (bank + feature_count opening.state.cells)
+opened-within found opening state used bank a b c e f h k =
+    let same : feature_count state.cells ≡ feature_count opening.state.cells
+    = ap (λ (r : Reading). feature_count r.state.cells)
+    (ok-same (record { state = state; used = used }) opening (sym f ∙ e)) in
+    subst (λ (n : ℕ). c ≤ a + (bank + n)) same (omega (arith, h, k))
+
 -- the model of a session over a store
 pub session-model : (session : Session) (store : Store) (portrayal : Portrayal) → store_of session ≡ store
     → portrayal_of session ≡ portrayal
@@ -87,6 +112,30 @@ pub session-model : (session : Session) (store : Store) (portrayal : Portrayal) 
 session-model session store portrayal same drawn =
     ap (λ (s : Store). record { state = state_of s; room = room_of s; portrayal = portrayal_of session }) same
     ∙ ap (λ (p : Portrayal). record { state = state_of store; room = room_of store; portrayal = p }) drawn
+
+-- what a run says is the same, however often the shelf had failed before it, and whatever the count was
+says-later : (status : Status) (steps : List ℕ → List Step) (left said : List ℕ) (faults faults' count count' : ℕ)
+    (now : Outside) → Says status steps (outside_of left said faults' count') now
+    → Says status steps (outside_of left said faults count) now
+says-later status steps left said faults faults' count count' now x = record {
+  all = x.all;
+  front = x.front;
+  at_fault = λ e. let y = x.at_fault e in record { taken = y.taken; split = y.split; said = y.said };
+  at_limit = x.at_limit;
+}
+
+-- the same steps are counted from a count that is no less
+counted-later : (model : Model) (steps : List Step) (left said : List ℕ) (faults faults' count count' : ℕ)
+    (now : Outside) → count' ≤ count
+    → TakenAreCounted model steps (outside_of left said faults' count') now
+    → TakenAreCounted model steps (outside_of left said faults count) now
+counted-later model steps left said faults faults' count count' now within x = record {
+  taken = x.taken;
+  rest = x.rest;
+  split = x.split;
+  said = x.said;
+  counted = counted-from model x.taken count count' now.count within x.counted;
+}
 
 module _ {D : Type 0} (clock : D → ℕ) (might : D → ℕ → Images → List ℕ → Type 0) (reads : ReadStands)
     (contents : ℕ → List ℕ) (may_leave : ℕ → List ℕ → Type 0) (said : List ℕ) (portrayal : Portrayal) (opening : Reading)
@@ -103,40 +152,60 @@ module _ {D : Type 0} (clock : D → ℕ) (might : D → ℕ → Images → List
       (prefix-none opening.state said so_far images x.silent (reads images opening.state opening.used (same ∙ read))))) x.either) run
 
   -- a run that ends there
-  pub ran-unopened : TellsFailure → (tells : Bool) (files : Files) (d0 d1 : D) (status : Status) (Left : Images → Type 0) (left said' : List ℕ) (faults faults' : ℕ)
-      → IsOther status → said' ≡ said → faults ≤ faults' → LeavesOnly clock might d0 d1 (LeavesReading contents may_leave said)
+  pub ran-unopened : TellsFailure → (tells : Bool) (files : Files) (d0 d1 : D) (status : Status)
+      (Left : Images → Type 0) (left said' : List ℕ) (faults faults' count count' : ℕ)
+      → IsOther status → said' ≡ said → faults ≤ faults' → count' ≤ count
+      → LeavesOnly clock might d0 d1 (LeavesReading contents may_leave said)
       → Ran tells files (model_at portrayal opening) status (LeavesOnly clock might d0 d1) (LeavesBefore may_leave said) Left
-      (outside_of left said faults) (outside_of left said' faults')
-  ran-unopened law tells files d0 d1 status Left left said' faults faults' other silent later run =
-      let before : Outside = outside_of left said faults in
+      (outside_of left said faults count) (outside_of left said' faults' count')
+  ran-unopened law tells files d0 d1 status Left left said' faults faults' count count' other silent later within run =
+      let before : Outside = outside_of left said faults count in
       let covers : Covers files (model_at portrayal opening) left [] [] = covers-none law files (model_at portrayal opening) left in
       record {
         answers = padding files left;
         told = padding-told tells files left;
         enough = omega (arith, length-replicate (length (lines left)) (fetches_of files false));
-        says = other-says files (model_at portrayal opening) status before left said' faults' [] [] other covers (front-none said [] said' silent);
+        says = other-says files (model_at portrayal opening) status before left said' faults' count' [] [] other covers
+            (front-none said [] said' silent);
         failed = subst (λ (k : ℕ). RoseBy k faults faults') (sym (ap failures_in covers.whole ∙ covers.mild)) (rose-none faults faults' later);
+        counted = record {
+          taken = [];
+          rest = steps_of (model_at portrayal opening) left (padding files left);
+          split = refl;
+          said = upto-whole said [] said' (silent ∙ sym (append-nil said));
+          counted = within;
+        };
         crash = opening-crash d0 d1 (steps_of (model_at portrayal opening) left (padding files left)) run;
         end = λ e. absurd (other.not_done e);
       }
 
   -- a run of the script behind it
-  pub ran-opened : (tells : Bool) (files : Files) (d0 d1 d2 : D) (status : Status) (Left : Images → Type 0) (left said' : List ℕ) (faults : ℕ) (now : Outside) (model : Model)
-      → said' ≡ said → model ≡ model_at portrayal opening → LeavesOnly clock might d0 d1 (LeavesReading contents may_leave said)
-      → Ran tells files model status (LeavesOnly clock might d1 d2) (λ images so_far. ⊥) Left (outside_of left said' faults) now
-      → Ran tells files (model_at portrayal opening) status (LeavesOnly clock might d0 d2) (LeavesBefore may_leave said) Left (outside_of left said faults) now
-  ran-opened tells files d0 d1 d2 status Left left said' faults now model silent is run ran =
-      let x : Ran tells files (model_at portrayal opening) status (LeavesOnly clock might d1 d2) (λ images so_far. ⊥) Left (outside_of left said faults) now
-      = subst (λ (m : Model). Ran tells files m status (LeavesOnly clock might d1 d2) (λ images so_far. ⊥) Left (outside_of left said faults) now) is
-      (subst (λ (l : List ℕ). Ran tells files model status (LeavesOnly clock might d1 d2) (λ images so_far. ⊥) Left (outside_of left l faults) now) silent ran) in
+  pub ran-opened : (tells : Bool) (files : Files) (d0 d1 d2 : D) (status : Status) (Left : Images → Type 0)
+      (left said' : List ℕ) (faults count count' : ℕ) (now : Outside) (model : Model)
+      → said' ≡ said → model ≡ model_at portrayal opening → count' ≤ count
+      → LeavesOnly clock might d0 d1 (LeavesReading contents may_leave said)
+      → Ran tells files model status (LeavesOnly clock might d1 d2) (λ images so_far. ⊥) Left
+      (outside_of left said' faults count') now
+      → Ran tells files (model_at portrayal opening) status (LeavesOnly clock might d0 d2)
+      (LeavesBefore may_leave said) Left (outside_of left said faults count) now
+  ran-opened tells files d0 d1 d2 status Left left said' faults count count' now model silent is within run ran =
+      let x : Ran tells files (model_at portrayal opening) status (LeavesOnly clock might d1 d2)
+      (λ images so_far. ⊥) Left (outside_of left said faults count') now
+      = subst (λ (m : Model). Ran tells files m status (LeavesOnly clock might d1 d2) (λ images so_far. ⊥) Left
+      (outside_of left said faults count') now) is
+      (subst (λ (l : List ℕ). Ran tells files model status (LeavesOnly clock might d1 d2) (λ images so_far. ⊥) Left
+      (outside_of left l faults count') now) silent ran) in
       let steps : List Step = steps_of (model_at portrayal opening) left x.answers in
       let P : Images → List ℕ → Type 0 = λ images so_far. LeavesBefore may_leave said images so_far ⊎ LeavesPrefix opening.state steps said images so_far in
       record {
         answers = x.answers;
         told = x.told;
         enough = x.enough;
-        says = x.says;
+        says = says-later status (λ script. steps_of (model_at portrayal opening) script x.answers) left said faults
+            faults count count' now x.says;
         failed = x.failed;
+        counted = counted-later (model_at portrayal opening) steps left said faults faults count count' now within
+            x.counted;
         crash = and_then clock might d0 d1 d2 P (opening-crash d0 d1 steps run)
             (weaker clock might d1 d2 (λ images so_far. ⊥ ⊎ LeavesPrefix opening.state steps said images so_far) P
             (λ images so_far y. ⊎_elim (λ none. absurd none) (λ left. inr left) y) x.crash);
@@ -158,38 +227,41 @@ rose-later much a b c h (inr x) = inr x
 
 -- a run behind fetches that were made before
 pub ran-later : (tells : Bool) (files files' : Files) (model : Model) (status : Status) (Leaves : Moments) (LeavesElse : Images → List ℕ → Type 0)
-    (Left : Images → Type 0) (left said : List ℕ) (faults faults' : ℕ) (now : Outside) → (IsTrue tells → files' ≡ files) → faults ≤ faults'
-    → Ran tells files' model status Leaves LeavesElse Left (outside_of left said faults') now
-    → Ran tells files model status Leaves LeavesElse Left (outside_of left said faults) now
-ran-later tells files files' model status Leaves LeavesElse Left left said faults faults' now same later x = record {
-  answers = x.answers;
-  told = answers-same tells files files' x.answers same x.told;
-  enough = x.enough;
-  says = record {
-    all = x.says.all;
-    front = x.says.front;
-    at_fault = λ e. let y = x.says.at_fault e in record { taken = y.taken; split = y.split; said = y.said };
-    at_limit = x.says.at_limit;
-  };
-  failed = rose-later (failures_in (steps_of model left x.answers)) faults faults' now.faults later x.failed;
-  crash = x.crash;
-  end = x.end;
-}
+    (Left : Images → Type 0) (left said : List ℕ) (faults faults' count : ℕ) (now : Outside)
+    → (IsTrue tells → files' ≡ files) → faults ≤ faults'
+    → Ran tells files' model status Leaves LeavesElse Left (outside_of left said faults' count) now
+    → Ran tells files model status Leaves LeavesElse Left (outside_of left said faults count) now
+ran-later tells files files' model status Leaves LeavesElse Left left said faults faults' count now same later
+    x = record {
+      answers = x.answers;
+      told = answers-same tells files files' x.answers same x.told;
+      enough = x.enough;
+      says = says-later status (λ script. steps_of model script x.answers) left said faults faults' count count now x.says;
+      failed = rose-later (failures_in (steps_of model left x.answers)) faults faults' now.faults later x.failed;
+      counted = counted-later model (steps_of model left x.answers) left said faults faults' count count now
+          (omega arith) x.counted;
+      crash = x.crash;
+      end = x.end;
+    }
 
 -- a run on devices that were lent to it: its owner has them as it left them
 pub ran-lent : {L D : Type 0} (shelf_faults : L → ℕ) (said : D → List ℕ) (may_leave : D → ℕ → List ℕ → Type 0) (clock : D → ℕ)
     (might : D → ℕ → Images → List ℕ → Type 0) (tells : Bool) (files : Files) (model : Model) (status : Status)
     (LeavesElse : Images → List ℕ → Type 0) (before : Outside) (left : List ℕ) (desk lent now : D) (lent' now' : L)
-    → lent ≡ now → lent' ≡ now'
+    (count count' : ℕ) → lent ≡ now → lent' ≡ now' → count ≡ count'
     → Ran tells files model status (LeavesOnly clock might desk lent) LeavesElse (MayBeLeft (may_leave lent)) before
-    (outside_of left (said lent) (shelf_faults lent'))
+    (outside_of left (said lent) (shelf_faults lent') count)
     → Ran tells files model status (LeavesOnly clock might desk now) LeavesElse (MayBeLeft (may_leave now)) before
-    (outside_of left (said now) (shelf_faults now'))
-ran-lent {L = L} {D = D} shelf_faults said may_leave clock might tells files model status LeavesElse before left desk lent now lent' now' same same' x =
+    (outside_of left (said now) (shelf_faults now') count')
+ran-lent {L = L} {D = D} shelf_faults said may_leave clock might tells files model status LeavesElse before left desk
+    lent now lent' now' count count' same same' counted x =
     subst (λ (d : D). Ran tells files model status (LeavesOnly clock might desk d) LeavesElse (MayBeLeft (may_leave d)) before
-    (outside_of left (said d) (shelf_faults now'))) same
+    (outside_of left (said d) (shelf_faults now') count')) same
     (subst (λ (l : L). Ran tells files model status (LeavesOnly clock might desk lent) LeavesElse (MayBeLeft (may_leave lent)) before
-    (outside_of left (said lent) (shelf_faults l))) same' x)
+    (outside_of left (said lent) (shelf_faults l) count')) same'
+    (subst (λ (n : ℕ). Ran tells files model status (LeavesOnly clock might desk lent) LeavesElse
+    (MayBeLeft (may_leave lent)) before
+    (outside_of left (said lent) (shelf_faults lent') n)) counted x))
 
 -- the same of a count that is steady
 pub steady-lent : {D : Type 0} (faults : D → ℕ) (before : ℕ) (now lent : D) → lent ≡ now → IsSteady before (faults now) → IsSteady before (faults lent)
@@ -256,14 +328,17 @@ refused-words {A = A} found x e n = absurd (let f : ◌≡◌ {A = Option A} (So
 pub ran-untouched : {D : Type 0} (clock : D → ℕ) (might : D → ℕ → Images → List ℕ → Type 0) (reads : ReadStands) (desk : D)
     (contents : ℕ → List ℕ) (may_leave : ℕ → List ℕ → Type 0) (said : List ℕ) (opening : Reading) → read_of (images_of contents) ≡ Ok opening
     → TellsFailure → ((images : Images) (so_far : List ℕ) → might desk (clock desk) images so_far → MayBeLeft may_leave images × (so_far ≡ said))
-    → (tells : Bool) (files : Files) (words : Option WordsValue) (status : Status) (left : List ℕ) (faults faults' : ℕ)
-    → IsOther status → faults ≤ faults'
+    → (tells : Bool) (files : Files) (words : Option WordsValue) (status : Status) (left : List ℕ)
+    (faults faults' count count' : ℕ)
+    → IsOther status → faults ≤ faults' → count' ≤ count
     → (portrayal : Portrayal) × IsPortrayal tells files words portrayal
     × Ran tells files (model_at portrayal opening) status (LeavesOnly clock might desk desk) (LeavesBefore may_leave said) (MayBeLeft may_leave)
-    (outside_of left said faults) (outside_of left said faults')
-ran-untouched clock might reads desk contents may_leave said opening read law only_now tells files words status left faults faults' other later = (
-  any_portrayal files words,
-  any-is tells files words,
-  ran-unopened clock might reads contents may_leave said (any_portrayal files words) opening read law tells files desk desk status
-      (MayBeLeft may_leave) left said faults faults' other refl later (reading-none clock might desk contents may_leave said only_now),
-)
+    (outside_of left said faults count) (outside_of left said faults' count')
+ran-untouched clock might reads desk contents may_leave said opening read law only_now tells files words status left
+    faults faults' count count' other later within = (
+      any_portrayal files words,
+      any-is tells files words,
+      ran-unopened clock might reads contents may_leave said (any_portrayal files words) opening read law tells files desk desk status
+          (MayBeLeft may_leave) left said faults faults' count count' other refl later within
+          (reading-none clock might desk contents may_leave said only_now),
+    )

@@ -8,7 +8,7 @@ use Rattle.std.proofs.lemmas.Bool.Decides.{nat_tests}
 use Rattle.std.proofs.lemmas.List.{append-nil, length-replicate, take-append-drop, take-take}
 use Rattle.std.proofs.lemmas.List.Elements.{All-append, All-nil, All-replicate}
 use Rattle.std.proofs.Math.Seq.{take-append_seam}
-use Rattle.chart_ports.specs.Count.{LAST, Rose, RoseBy}
+use Rattle.chart_ports.specs.Count.{LAST, RoseBy}
 use Rattle.chart_ports.specs.Moments.{LeavesOnly}
 use Rattle.chart_ports.specs.Said.{SaysFront}
 use Rattle.chart_ports.specs.declared.images.Images.{Images}
@@ -24,7 +24,8 @@ use Rattle.ecdis_cli.specs.declared.run.status.Status.TheVariants.{Done}
 use Rattle.ecdis_cli.specs.Crash.{LeavesPrefix}
 use Rattle.ecdis_cli.specs.WholeLines.{whole_lines}
 use Rattle.ecdis_cli.specs.Limits.{SCRIPT_LIMIT}
-use Rattle.ecdis_cli.specs.Progress.{BytesAreTaken, ComeFirst, ScriptIsFinished, IsAfter, RunIsStopped, StepsAreTaken, HasNoLineFeed, ScriptIsUnfinished}
+use Rattle.ecdis_cli.specs.Progress.{BytesAreTaken, ComeFirst, HasNoLineFeed, IsAfter, RunIsStopped, SaysUpToLast}
+use Rattle.ecdis_cli.specs.Progress.{ScriptIsFinished, ScriptIsUnfinished, StepsAreTaken}
 use Rattle.ecdis_cli.specs.Run.{Outside, Ran, Says, outside_of, reading_of}
 use Rattle.ecdis_cli.specs.Script.{IsAnswer, failures_in, model_after, output_of, steps_from, steps_of}
 use Rattle.ecdis_cli.specs.Step.{Step}
@@ -34,7 +35,8 @@ use Rattle.ecdis_cli.proofs.Crashes.{prefix-extended}
 use Rattle.ecdis_cli.proofs.Failures.{Serves, TellsFailure, served-none}
 use Rattle.ecdis_cli.proofs.Lists.{failures-append, output-append}
 use Rattle.ecdis_cli.proofs.ScriptSteps.{Advanced-then, Stopped-then}
-use Rattle.ecdis_cli.proofs.Taking.{IsAfter-then, Taken-then, front-after, front-append, front-same, front-whole}
+use Rattle.ecdis_cli.proofs.Taking.{IsAfter-then, Taken-then, front-append, front-same, front-whole}
+use Rattle.ecdis_cli.proofs.Taking.{upto-after, upto-front, upto-whole}
 
 -- ---- statuses
 
@@ -74,7 +76,7 @@ steps_of-start model script answers = refl
 
 -- where a run begins
 abbrev pub begun_at : Model → Outside → Standing
-begun_at model before = at_start model before.said before.faults
+begun_at model before = at_start model before.said before.faults before.count
 
 begun-unbroken : HasNoLineFeed []
 begun-unbroken = All-nil (λ byte. eqb byte 10 ≡ false)
@@ -116,10 +118,12 @@ covers-front files model script answers steps said now x front =
 -- ---- what a run says
 
 -- a run that neither was done nor ended with its script
-pub other-says : (files : Files) (model : Model) (status : Status) (before : Outside) (left said : List ℕ) (faults : ℕ) (answers : List Fetches) (steps : List Step)
+pub other-says : (files : Files) (model : Model) (status : Status) (before : Outside) (left said : List ℕ)
+    (faults count : ℕ) (answers : List Fetches) (steps : List Step)
     → IsOther status → Covers files model before.left answers steps → SaysFront before.said (output_of steps) said
-    → Says status (λ script. steps_of model script (answers ++ padding files before.left)) before (outside_of left said faults)
-other-says files model status before left said faults answers steps other x front = record {
+    → Says status (λ script. steps_of model script (answers ++ padding files before.left)) before
+    (outside_of left said faults count)
+other-says files model status before left said faults count answers steps other x front = record {
   all = λ e. absurd (other.not_done e);
   front = covers-front files model before.left answers steps before.said said x front;
   at_fault = λ e. absurd (other.not_fault e);
@@ -155,13 +159,14 @@ module _ {D : Type 0} (clock : D → ℕ) (might : D → ℕ → Images → List
     (tells : Bool) (files : Files) (model : Model) (before : Outside) (MayBeLeft : Images → Type 0) where
   -- the run from its steps
   ran-by : (d0 d1 : D) (status : Status) (now : Outside) (answers : List Fetches) (steps : List Step)
-      → StepsAreTaken tells files (LeavesOnly clock might d0 d1) (begun_at model before) now.faults answers steps
-      → Covers files model before.left answers steps
+      → StepsAreTaken tells files (LeavesOnly clock might d0 d1)
+      (begun_at model before) now.faults now.count answers steps
+      → Covers files model before.left answers steps → SaysUpToLast before.said steps now.said
       → Says status (λ script. steps_of model script (answers ++ padding files before.left)) before now
       → (status ≡ Done → (images : Images) → MayBeLeft images
       → read_of images ≡ Ok (reading_of (model_after model (steps_of model before.left (answers ++ padding files before.left)))))
       → Ran tells files model status (LeavesOnly clock might d0 d1) (λ images so_far. ⊥) MayBeLeft before now
-  ran-by d0 d1 status now answers steps taken covers says end =
+  ran-by d0 d1 status now answers steps taken covers upto says end =
       let whole : List Step = steps_of model before.left (answers ++ padding files before.left) in
       record {
         answers = answers ++ padding files before.left;
@@ -171,6 +176,13 @@ module _ {D : Type 0} (clock : D → ℕ) (might : D → ℕ → Images → List
         failed = subst (λ (k : ℕ). RoseBy k before.faults now.faults)
             (let none : failures_in steps ≡ failures_in steps + failures_in covers.later = omega (arith, covers.mild) in
             none ∙ sym (failures-append steps covers.later) ∙ ap failures_in (sym covers.whole)) taken.failed;
+        counted = record {
+          taken = steps;
+          rest = covers.later;
+          split = covers.whole;
+          said = upto;
+          counted = taken.counted;
+        };
         crash = weaker clock might d0 d1 (LeavesPrefix model.state steps before.said)
             (λ images so_far. ⊥ ⊎ LeavesPrefix model.state whole before.said images so_far)
             (λ images so_far x. inr (subst (λ (l : List Step). LeavesPrefix model.state l before.said images so_far) (sym covers.whole)
@@ -207,10 +219,11 @@ module _ {D : Type 0} (clock : D → ℕ) (might : D → ℕ → Images → List
   -- the source fails at this place
   pub Underway-fault : (d0 d1 : D) (at : Standing) (left left' : List ℕ) → left' ≡ left → Underway clock might tells files model before d0 d1 left at
       → Ran tells files model stops.ScriptFault (LeavesOnly clock might d0 d1) (λ images so_far. ⊥) MayBeLeft before
-      (outside_of left' at.said at.faults)
+      (outside_of left' at.said at.faults at.count)
   Underway-fault d0 d1 at left left' e x =
-      ran-by d0 d1 stops.ScriptFault (outside_of left' at.said at.faults) x.advanced.answers x.advanced.steps x.advanced.taken
-      (underway-covers d0 d1 left at x)
+      ran-by d0 d1 stops.ScriptFault (outside_of left' at.said at.faults at.count) x.advanced.answers x.advanced.steps
+      x.advanced.taken
+      (underway-covers d0 d1 left at x) (upto-whole before.said x.advanced.steps at.said x.advanced.after.said)
       (record {
         all = λ d. absurd (let f : stops.ScriptFault ≡ Done = d in cc);
         front = underway-front d0 d1 left at x;
@@ -227,15 +240,16 @@ module _ {D : Type 0} (clock : D → ℕ) (might : D → ℕ → Images → List
       → (IsTrue tells → files' ≡ files) → left0 ≡ bytes ++ left1 → length bytes ≡ room → length before.left + room ≡ SCRIPT_LIMIT + length left0
       → Underway clock might tells files model before d0 d1 left0 p → BytesAreTaken tells files' (LeavesOnly clock might d1 d2) p bytes q
       → Ran tells files model stops.ScriptLong (LeavesOnly clock might d0 d2) (λ images so_far. ⊥) MayBeLeft before
-      (outside_of left q.said q.faults)
+      (outside_of left q.said q.faults q.count)
   Underway-long files' d0 d1 d2 p q left left0 left1 bytes room same e fits counted x y =
       let z : Underway clock might tells files model before d0 d2 left1 q = Underway-next clock might tells files model before files' d0 d1 d2 p q left0 left1 bytes same e x y in
       let spent : length z.taken ≡ SCRIPT_LIMIT
       = omega (arith, ap length z.split, length-append z.taken left1, ap length e, length-append bytes left1, counted, fits) in
       let within : take SCRIPT_LIMIT before.left ≡ z.taken
       = ap (λ (k : ℕ). take k before.left) (sym spent) ∙ ap (λ (l : List ℕ). take (length z.taken) l) z.split ∙ take-append_seam z.taken left1 in
-      ran-by d0 d2 stops.ScriptLong (outside_of left q.said q.faults) z.advanced.answers z.advanced.steps z.advanced.taken
-      (underway-covers d0 d2 left1 q z)
+      ran-by d0 d2 stops.ScriptLong (outside_of left q.said q.faults q.count) z.advanced.answers z.advanced.steps
+      z.advanced.taken
+      (underway-covers d0 d2 left1 q z) (upto-whole before.said z.advanced.steps q.said z.advanced.after.said)
       (record {
         all = λ d. absurd (let f : stops.ScriptLong ≡ Done = d in cc);
         front = underway-front d0 d2 left1 q z;
@@ -248,7 +262,8 @@ module _ {D : Type 0} (clock : D → ℕ) (might : D → ℕ → Images → List
   pub Underway-halted : (files' : Files) (d0 d1 d2 : D) (at : Standing) (left left0 left1 bytes : List ℕ) (now : Standing) (stop : Stop) (status : Status)
       → status ≡ status_of stop → (IsTrue tells → files' ≡ files) → left0 ≡ bytes ++ left1 → Underway clock might tells files model before d0 d1 left0 at
       → RunIsStopped tells files' (LeavesOnly clock might d1 d2) at bytes now
-      → Ran tells files model status (LeavesOnly clock might d0 d2) (λ images so_far. ⊥) MayBeLeft before (outside_of left now.said now.faults)
+      → Ran tells files model status (LeavesOnly clock might d0 d2) (λ images so_far. ⊥) MayBeLeft before
+      (outside_of left now.said now.faults now.count)
   Underway-halted files' d0 d1 d2 at left left0 left1 bytes now stop status is same e x y =
       let pad : List Fetches = padding files before.left in
       let z : RunIsStopped tells files (LeavesOnly clock might d0 d2) (begun_at model before) (x.taken ++ bytes) now
@@ -259,8 +274,9 @@ module _ {D : Type 0} (clock : D → ℕ) (might : D → ℕ → Images → List
       = covers-first law files model before.left z.answers z.steps
       (subst (λ (l : List ℕ). ComeFirst z.steps pad (steps_from model 1 (lines l) (z.answers ++ pad))) (sym split) (z.ahead left1 pad)) in
       let other : IsOther status = status_of-other stop status is in
-      ran-by d0 d2 status (outside_of left now.said now.faults) z.answers z.steps z.taken covers
-      (other-says files model status before left now.said now.faults z.answers z.steps other covers z.front)
+      ran-by d0 d2 status (outside_of left now.said now.faults now.count) z.answers z.steps z.taken covers z.said
+      (other-says files model status before left now.said now.faults now.count z.answers z.steps other covers
+      (upto-front before.said z.steps now.said z.said))
       (λ d. absurd (other.not_done d))
 
   -- ---- the script ends here
@@ -282,7 +298,8 @@ module _ {D : Type 0} (clock : D → ℕ) (might : D → ℕ → Images → List
       → (IsTrue tells → files' ≡ files) → left0 ≡ [] → Underway clock might tells files model before d0 d1 left0 at
       → ScriptIsFinished tells files' (LeavesOnly clock might d1 d2) at now
       → ((images : Images) → MayBeLeft images → read_of images ≡ Ok (reading_of now.model))
-      → Ran tells files model Done (LeavesOnly clock might d0 d2) (λ images so_far. ⊥) MayBeLeft before (outside_of left now.said now.faults)
+      → Ran tells files model Done (LeavesOnly clock might d0 d2) (λ images so_far. ⊥) MayBeLeft before
+      (outside_of left now.said now.faults now.count)
   Underway-done files' d0 d1 d2 at left left0 now same none x y reads =
       let pad : List Fetches = padding files before.left in
       let answers : List Fetches = x.advanced.answers ++ y.answers in
@@ -291,9 +308,10 @@ module _ {D : Type 0} (clock : D → ℕ) (might : D → ℕ → Images → List
       let is : steps_of model before.left (answers ++ pad) ≡ steps = steps_of-start model before.left (answers ++ pad) ∙ whole in
       let after : IsAfter (begun_at model before) steps now = IsAfter-then (begun_at model before) at now x.advanced.steps y.steps x.advanced.after y.after in
       let said : now.said ≡ before.said ++ output_of (steps_of model before.left (answers ++ pad)) = after.said ∙ ap (λ (l : List Step). before.said ++ output_of l) (sym is) in
-      ran-by d0 d2 Done (outside_of left now.said now.faults) answers steps
-      (Taken-then clock might tells files files' d0 d1 d2 (begun_at model before) at now.faults x.advanced.answers y.answers x.advanced.steps y.steps same x.advanced.after x.advanced.taken y.taken)
-      (covers-all files model before.left answers steps whole)
+      ran-by d0 d2 Done (outside_of left now.said now.faults now.count) answers steps
+      (Taken-then clock might tells files files' d0 d1 d2 (begun_at model before) at now.faults now.count
+      x.advanced.answers y.answers x.advanced.steps y.steps same x.advanced.after x.advanced.taken y.taken)
+      (covers-all files model before.left answers steps whole) (upto-whole before.said steps now.said after.said)
       (record {
         all = λ d. said;
         front = front-whole before.said (output_of (steps_of model before.left (answers ++ pad))) now.said said;
@@ -306,19 +324,22 @@ module _ {D : Type 0} (clock : D → ℕ) (might : D → ℕ → Images → List
   pub Underway-cut : (files' : Files) (d0 d1 d2 : D) (at : Standing) (left left0 : List ℕ) (now : Standing) (stop : Stop) (status : Status)
       → status ≡ status_of stop → (IsTrue tells → files' ≡ files) → left0 ≡ [] → Underway clock might tells files model before d0 d1 left0 at
       → ScriptIsUnfinished tells files' (LeavesOnly clock might d1 d2) at now
-      → Ran tells files model status (LeavesOnly clock might d0 d2) (λ images so_far. ⊥) MayBeLeft before (outside_of left now.said now.faults)
+      → Ran tells files model status (LeavesOnly clock might d0 d2) (λ images so_far. ⊥) MayBeLeft before
+      (outside_of left now.said now.faults now.count)
   Underway-cut files' d0 d1 d2 at left left0 now stop status is same none x y =
       let answers : List Fetches = x.advanced.answers ++ y.answers in
       let steps : List Step = x.advanced.steps ++ y.steps in
       let covers : Covers files model before.left answers steps
       = covers-all files model before.left answers steps (last-whole d0 d1 left0 at y.answers y.steps none y.ahead x) in
       let other : IsOther status = status_of-other stop status is in
-      ran-by d0 d2 status (outside_of left now.said now.faults) answers steps
-      (Taken-then clock might tells files files' d0 d1 d2 (begun_at model before) at now.faults x.advanced.answers y.answers x.advanced.steps y.steps same x.advanced.after x.advanced.taken y.taken)
-      covers
-      (other-says files model status before left now.said now.faults answers steps other covers
-      (front-same before.said (output_of x.advanced.steps ++ output_of y.steps) (output_of steps) now.said (sym (output-append x.advanced.steps y.steps))
-      (front-after before.said (output_of x.advanced.steps) (output_of y.steps) at.said now.said x.advanced.after.said y.front)))
+      let upto : SaysUpToLast before.said steps now.said
+      = upto-after before.said at.said now.said x.advanced.steps y.steps x.advanced.after.said y.said in
+      ran-by d0 d2 status (outside_of left now.said now.faults now.count) answers steps
+      (Taken-then clock might tells files files' d0 d1 d2 (begun_at model before) at now.faults now.count
+      x.advanced.answers y.answers x.advanced.steps y.steps same x.advanced.after x.advanced.taken y.taken)
+      covers upto
+      (other-says files model status before left now.said now.faults now.count answers steps other covers
+      (upto-front before.said steps now.said upto))
       (λ d. absurd (other.not_done d))
 
 -- a script that was read to its end has at most its limit

@@ -13,12 +13,11 @@ use Rattle.ecdis_cli.specs.Crash.{LeavesPrefix}
 use Rattle.ecdis_cli.specs.WholeLines.{whole_lines}
 use Rattle.ecdis_cli.specs.Limits.{KEPT_LIMIT}
 use Rattle.ecdis_cli.specs.Progress.{BytesAreTaken, LineIsAnswered, ComeFirst, ScriptIsFinished, ReplyIsInterrupted, IsAfter, RunIsStopped, StepsAreTaken, HasNoLineFeed, ScriptIsUnfinished, Moments, steps_at}
-use Rattle.ecdis_cli.specs.Script.{output_of, steps_from}
+use Rattle.ecdis_cli.specs.Script.{steps_from}
 use Rattle.ecdis_cli.specs.Step.{Step, step_to}
 use Rattle.ecdis_cli.specs.Standing.{Standing}
 use Rattle.ecdis_cli.proofs.Lines.{All-behind, All-front, Fed, IsCons, ReadByFront, cut_at_feed, ended-append, ended-append_unbroken, ended-fed, ended-line, one_more, steps-ended_none, steps-feed, steps-last, steps-long}
-use Rattle.ecdis_cli.proofs.Lists.{output-append}
-use Rattle.ecdis_cli.proofs.Taking.{IsAfter-then, Taken-none, Taken-then, front-after, front-none, front-same}
+use Rattle.ecdis_cli.proofs.Taking.{IsAfter-then, Taken-none, Taken-then, upto-after, upto-one, upto-whole}
 
 -- nothing happens at this moment
 abbrev pub Quiet : Moments → Standing → Type 0
@@ -26,7 +25,8 @@ Quiet Leaves at = Leaves (LeavesPrefix at.model.state [] at.said)
 
 -- where the line under way is another, or has other bytes
 abbrev pub at_line : Standing → ℕ → List ℕ → Standing
-at_line at number line = record { model = at.model; said = at.said; faults = at.faults; number = number; line = line }
+at_line at number line =
+    record { model = at.model; said = at.said; faults = at.faults; count = at.count; number = number; line = line }
 
 abbrev pub with_line : Standing → List ℕ → Standing
 with_line at line = at_line at at.number line
@@ -35,15 +35,18 @@ IsAfter-none : (at : Standing) (line : List ℕ) → IsAfter at [] (with_line at
 IsAfter-none at line = record { said = sym (append-nil at.said); reached = refl }
 
 -- steps that are taken at the line are taken where it has other bytes
-taken-at : (tells : Bool) (files : Files) (Leaves : Moments) (at : Standing) (line : List ℕ) (faults : ℕ) (answers : List Fetches) (steps : List Step)
-    → StepsAreTaken tells files Leaves (with_line at line) faults answers steps → StepsAreTaken tells files Leaves at faults answers steps
-taken-at tells files Leaves at line faults answers steps x = record {
+taken-at : (tells : Bool) (files : Files) (Leaves : Moments) (at : Standing) (line : List ℕ) (faults count : ℕ)
+    (answers : List Fetches)
+    (steps : List Step) → StepsAreTaken tells files Leaves (with_line at line) faults count answers steps
+    → StepsAreTaken tells files Leaves at faults count answers steps
+taken-at tells files Leaves at line faults count answers steps x = record {
   told = x.told;
   spoken = x.spoken;
   held = x.held;
   failed = x.failed;
   later = x.later;
   crash = x.crash;
+  counted = x.counted;
 }
 
 -- ---- bytes that end no line
@@ -110,7 +113,7 @@ Advanced-feed tells files Leaves at stripped now h e x =
     record {
       answers = x.fetches ∷ [];
       steps = step ∷ [];
-      taken = taken-at tells files Leaves at stripped now.faults (x.fetches ∷ []) (step ∷ []) x.taken;
+      taken = taken-at tells files Leaves at stripped now.faults now.count (x.fetches ∷ []) (step ∷ []) x.taken;
       after = record { said = x.after.said; reached = x.after.reached };
       ahead = λ rest more. here rest more
           ∙ ap (λ (m : Model). step ∷ steps_from m (at.number + 1) (lines rest) more) (sym x.after.reached);
@@ -128,8 +131,8 @@ Stopped-feed tells files Leaves at stripped now number line h e x =
     record {
       answers = x.fetches ∷ [];
       steps = step ∷ [];
-      taken = taken-at tells files Leaves at stripped now.faults (x.fetches ∷ []) (step ∷ []) x.taken;
-      front = x.front;
+      taken = taken-at tells files Leaves at stripped now.faults now.count (x.fetches ∷ []) (step ∷ []) x.taken;
+      said = upto-one at.said step now.said x.front;
       ahead = λ rest more. record {
         model = step.model;
         number = at.number + 1;
@@ -164,7 +167,8 @@ pub Finished-last : (tells : Bool) (files : Files) (Leaves : Moments) (at : Stan
 Finished-last tells files Leaves at shown now number line same h some x = record {
   answers = x.fetches ∷ [];
   steps = step_to x.fetches at.model at.number shown ∷ [];
-  taken = taken-at tells files Leaves at shown now.faults (x.fetches ∷ []) (step_to x.fetches at.model at.number shown ∷ []) x.taken;
+  taken = taken-at tells files Leaves at shown now.faults now.count (x.fetches ∷ [])
+      (step_to x.fetches at.model at.number shown ∷ []) x.taken;
   after = record { said = x.after.said; reached = x.after.reached };
   ahead = λ more. last-ahead at x.fetches more h some ∙ ap (λ (l : List ℕ). step_to x.fetches at.model at.number l ∷ []) (sym same);
 }
@@ -175,8 +179,9 @@ pub Unfinished-last : (tells : Bool) (files : Files) (Leaves : Moments) (at : St
 Unfinished-last tells files Leaves at shown now number line same h some x = record {
   answers = x.fetches ∷ [];
   steps = step_to x.fetches at.model at.number shown ∷ [];
-  taken = taken-at tells files Leaves at shown now.faults (x.fetches ∷ []) (step_to x.fetches at.model at.number shown ∷ []) x.taken;
-  front = x.front;
+  taken = taken-at tells files Leaves at shown now.faults now.count (x.fetches ∷ [])
+      (step_to x.fetches at.model at.number shown ∷ []) x.taken;
+  said = upto-one at.said (step_to x.fetches at.model at.number shown) now.said x.front;
   ahead = λ more. last-ahead at x.fetches more h some ∙ ap (λ (l : List ℕ). step_to x.fetches at.model at.number l ∷ []) (sym same);
 }
 
@@ -185,12 +190,13 @@ Unfinished-last tells files Leaves at shown now number line same h some x = reco
 -- there was no memory for the next byte
 pub Stopped-start : (tells : Bool) (files : Files) (Leaves : Moments) (at : Standing) (bytes : List ℕ) (model : Model) (number : ℕ) (line : List ℕ)
     → Quiet Leaves at
-    → RunIsStopped tells files Leaves at bytes (record { model = model; said = at.said; faults = at.faults; number = number; line = line })
+    → RunIsStopped tells files Leaves at bytes
+    (record { model = model; said = at.said; faults = at.faults; count = at.count; number = number; line = line })
 Stopped-start tells files Leaves at bytes model number line crash = record {
   answers = [];
   steps = [];
   taken = Taken-none tells files Leaves at crash;
-  front = front-none at.said [] at.said refl;
+  said = upto-whole at.said [] at.said (sym (append-nil at.said));
   ahead = λ rest more. record {
     model = at.model;
     number = at.number;
@@ -205,7 +211,7 @@ Stopped-more tells files Leaves at bytes more now x = record {
   answers = x.answers;
   steps = x.steps;
   taken = x.taken;
-  front = x.front;
+  said = x.said;
   ahead = λ rest others. subst (λ (l : List ℕ). ComeFirst x.steps others (steps_at at l (x.answers ++ others)))
       (sym (append_assoc bytes more rest)) (x.ahead (more ++ rest) others);
 }
@@ -247,7 +253,8 @@ module _ {D : Type 0} (clock : D → ℕ) (might : D → ℕ → Images → List
   Advanced-then tells files files' d0 d1 d2 p q r bytes more same x y = record {
     answers = x.answers ++ y.answers;
     steps = x.steps ++ y.steps;
-    taken = Taken-then clock might tells files files' d0 d1 d2 p q r.faults x.answers y.answers x.steps y.steps same x.after x.taken y.taken;
+    taken = Taken-then clock might tells files files' d0 d1 d2 p q r.faults r.count x.answers y.answers x.steps y.steps
+        same x.after x.taken y.taken;
     after = IsAfter-then p q r x.steps y.steps x.after y.after;
     ahead = λ rest others.
         ap (λ (l : List ℕ). steps_at p l ((x.answers ++ y.answers) ++ others)) (append_assoc bytes more rest)
@@ -270,9 +277,9 @@ module _ {D : Type 0} (clock : D → ℕ) (might : D → ℕ → Images → List
   Stopped-then tells files files' d0 d1 d2 p q bytes more now same x y = record {
     answers = x.answers ++ y.answers;
     steps = x.steps ++ y.steps;
-    taken = Taken-then clock might tells files files' d0 d1 d2 p q now.faults x.answers y.answers x.steps y.steps same x.after x.taken y.taken;
-    front = front-same p.said (output_of x.steps ++ output_of y.steps) (output_of (x.steps ++ y.steps)) now.said (sym (output-append x.steps y.steps))
-        (front-after p.said (output_of x.steps) (output_of y.steps) q.said now.said x.after.said y.front);
+    taken = Taken-then clock might tells files files' d0 d1 d2 p q now.faults now.count x.answers y.answers x.steps
+        y.steps same x.after x.taken y.taken;
+    said = upto-after p.said q.said now.said x.steps y.steps x.after.said y.said;
     ahead = λ rest others.
         let z : ComeFirst y.steps others (steps_at q (more ++ rest) (y.answers ++ others)) = y.ahead rest others in
         record {

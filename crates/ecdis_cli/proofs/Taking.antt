@@ -1,12 +1,13 @@
 -- Steps that are taken one after another.
-use Rattle.std.proofs.Common.{◌≡◌, ℕ, ◌+◌, ◌≤◌, Bool, List, [], ◌++◌, length, take, drop, sym, ◌∙◌, ap, subst, arith, inl, inr, append_assoc}
+use Rattle.std.proofs.Common.{◌≡◌, ℕ, ◌+◌, ◌≤◌, Bool, List, [], ◌∷◌, ◌++◌, length, take, drop, refl, sym, ◌∙◌, ap}
+use Rattle.std.proofs.Common.{subst, arith, inl, inr, append_assoc}
 use Rattle.std.specs.Prelude.{IsTrue}
 use Rattle.std.specs.List.{All}
 use Rattle.std.proofs.lemmas.List.{append-nil, take-append-drop}
 use Rattle.std.proofs.lemmas.List.Elements.{All-nil, All-append, All-weaker}
 use Rattle.std.proofs.Math.Seq.{take-append-add, take-append_seam}
 use Rattle.chart_model.specs.State.{StateValue}
-use Rattle.chart_ports.specs.Count.{Rose, RoseBy}
+use Rattle.chart_ports.specs.Count.{RoseBy}
 use Rattle.chart_ports.specs.Moments.{LeavesOnly, MayBeLeft}
 use Rattle.chart_ports.specs.Said.{SaysFront}
 use Rattle.chart_ports.specs.declared.images.Images.{Images}
@@ -16,10 +17,12 @@ use Rattle.chart_store.specs.Outcome.{after}
 use Rattle.session_core.specs.Fetch.{Files, Fetches, fetches_of}
 use Rattle.session_core.specs.Model.{Model}
 use Rattle.ecdis_cli.specs.Crash.{LeavesPrefix}
-use Rattle.ecdis_cli.specs.Progress.{IsAfter, IsSpoken, StepsAreTaken}
+use Rattle.ecdis_cli.specs.Counted.{StepsAreCounted}
+use Rattle.ecdis_cli.specs.Progress.{IsAfter, IsSpoken, SaysUpToLast, StepsAreTaken}
 use Rattle.ecdis_cli.specs.Script.{IsAnswer, commands_in, failures_in, model_after, output_of}
 use Rattle.ecdis_cli.specs.Step.{Step}
 use Rattle.ecdis_cli.specs.Standing.{Standing}
+use Rattle.ecdis_cli.proofs.Counting.{counted-then}
 use Rattle.ecdis_cli.proofs.Crashes.{prefix-behind, prefix-extended, prefix-none}
 use Rattle.ecdis_cli.proofs.Lists.{after-append, after-none, commands-append, failures-append, model_after-append, output-append}
 
@@ -50,6 +53,50 @@ front-after before said bytes middle now e (n, f) = (
 pub front-same : (before bytes others now : List ℕ) → bytes ≡ others → SaysFront before bytes now → SaysFront before others now
 front-same before bytes others now e h = subst (λ (l : List ℕ). SaysFront before l now) e h
 
+-- ---- replies, and a front of the last one
+
+pub upto-front : (before : List ℕ) (steps : List Step) (now : List ℕ) → SaysUpToLast before steps now
+    → SaysFront before (output_of steps) now
+upto-front before steps now x =
+    front-same before (output_of x.answered ++ output_of x.last) (output_of steps) now
+    (sym (ap output_of x.whole ∙ output-append x.answered x.last))
+    (front-after before (output_of x.answered) (output_of x.last) (before ++ output_of x.answered) now refl x.front)
+
+-- all replies were said
+pub upto-whole : (before : List ℕ) (steps : List Step) (now : List ℕ) → now ≡ before ++ output_of steps
+    → SaysUpToLast before steps now
+upto-whole before steps now e = record {
+  answered = steps;
+  last = [];
+  whole = sym (append-nil steps);
+  one = omega arith;
+  front = front-none (before ++ output_of steps) [] now e;
+}
+
+-- there is one reply
+pub upto-one : (before : List ℕ) (step : Step) (now : List ℕ) → SaysFront before (output_of (step ∷ [])) now
+    → SaysUpToLast before (step ∷ []) now
+upto-one before step now front = record {
+  answered = [];
+  last = step ∷ [];
+  whole = refl;
+  one = omega arith;
+  front = subst (λ (l : List ℕ). SaysFront l (output_of (step ∷ [])) now) (sym (append-nil before)) front;
+}
+
+-- behind replies that were said
+pub upto-after : (before middle now : List ℕ) (steps others : List Step) → middle ≡ before ++ output_of steps
+    → SaysUpToLast middle others now → SaysUpToLast before (steps ++ others) now
+upto-after before middle now steps others e x = record {
+  answered = steps ++ x.answered;
+  last = x.last;
+  whole = ap (λ (l : List Step). steps ++ l) x.whole ∙ sym (append_assoc steps x.answered x.last);
+  one = x.one;
+  front = subst (λ (l : List ℕ). SaysFront l (output_of x.last) now)
+      (ap (λ (l : List ℕ). l ++ output_of x.answered) e ∙ append_assoc before (output_of steps) (output_of x.answered)
+      ∙ ap (λ (l : List ℕ). before ++ l) (sym (output-append steps x.answered))) x.front;
+}
+
 -- ---- counts
 
 pub rose-none : (before now : ℕ) → before ≤ now → RoseBy 0 before now
@@ -78,7 +125,8 @@ answers-same tells files files' answers same told =
 
 -- no step
 pub Taken-none : (tells : Bool) (files : Files) (Leaves : (Images → List ℕ → Type 0) → Type 0) (before : Standing)
-    → Leaves (LeavesPrefix before.model.state [] before.said) → StepsAreTaken tells files Leaves before before.faults [] []
+    → Leaves (LeavesPrefix before.model.state [] before.said)
+    → StepsAreTaken tells files Leaves before before.faults before.count [] []
 Taken-none tells files Leaves before crash = record {
   told = All-nil (IsAnswer tells files);
   spoken = All-nil IsSpoken;
@@ -86,6 +134,7 @@ Taken-none tells files Leaves before crash = record {
   failed = rose-none before.faults before.faults (omega arith);
   later = omega arith;
   crash = crash;
+  counted = omega arith;
 }
 
 module _ {D : Type 0} (clock : D → ℕ) (might : D → ℕ → Images → List ℕ → Type 0) where
@@ -99,13 +148,13 @@ module _ {D : Type 0} (clock : D → ℕ) (might : D → ℕ → Images → List
       (λ images so_far left. let now = only_now images so_far left in prefix-none state said so_far images now.1 (stands images now.0))
 
   -- steps after steps
-  pub Taken-then : (tells : Bool) (files files' : Files) (d0 d1 d2 : D) (before mid : Standing) (faults : ℕ)
+  pub Taken-then : (tells : Bool) (files files' : Files) (d0 d1 d2 : D) (before mid : Standing) (faults count : ℕ)
       (answers more : List Fetches) (steps others : List Step) → (IsTrue tells → files' ≡ files)
       → IsAfter before steps mid
-      → StepsAreTaken tells files (LeavesOnly clock might d0 d1) before mid.faults answers steps
-      → StepsAreTaken tells files' (LeavesOnly clock might d1 d2) mid faults more others
-      → StepsAreTaken tells files (LeavesOnly clock might d0 d2) before faults (answers ++ more) (steps ++ others)
-  Taken-then tells files files' d0 d1 d2 before mid faults answers more steps others same is x y =
+      → StepsAreTaken tells files (LeavesOnly clock might d0 d1) before mid.faults mid.count answers steps
+      → StepsAreTaken tells files' (LeavesOnly clock might d1 d2) mid faults count more others
+      → StepsAreTaken tells files (LeavesOnly clock might d0 d2) before faults count (answers ++ more) (steps ++ others)
+  Taken-then tells files files' d0 d1 d2 before mid faults count answers more steps others same is x y =
       let between : mid.model.state ≡ after before.model.state (commands_in steps)
       = ap (λ (m : Model). m.state) is.reached ∙ x.held in
       record {
@@ -127,6 +176,8 @@ module _ {D : Type 0} (clock : D → ℕ) (might : D → ℕ → Images → List
             (LeavesPrefix before.model.state (steps ++ others) before.said)
             (λ images so_far. prefix-behind before.model.state mid.model.state steps others before.said mid.said so_far images
             x.spoken is.said between) y.crash);
+        counted = counted-then before.model steps others before.count mid.count count x.counted
+            (subst (λ (m : Model). StepsAreCounted m others mid.count count) is.reached y.counted);
       }
 
 pub IsAfter-then : (before mid now : Standing) (steps others : List Step) → IsAfter before steps mid → IsAfter mid others now

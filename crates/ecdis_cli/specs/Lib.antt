@@ -2,6 +2,7 @@ pub mod Limits
 pub mod WholeLines
 pub mod Step
 pub mod Script
+pub mod Counted
 pub mod Crash
 pub mod Devices
 pub mod Standing

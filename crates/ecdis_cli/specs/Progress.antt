@@ -7,6 +7,7 @@ use Rattle.chart_ports.specs.declared.images.Images.{Images}
 use Rattle.chart_store.specs.Outcome.{after}
 use Rattle.session_core.specs.Fetch.{Files, Fetches}
 use Rattle.session_core.specs.Model.{Model}
+use Rattle.ecdis_cli.specs.Counted.{StepsAreCounted}
 use Rattle.ecdis_cli.specs.Crash.{LeavesPrefix}
 use Rattle.ecdis_cli.specs.WholeLines.{whole_lines}
 use Rattle.ecdis_cli.specs.Script.{IsAnswer, commands_in, failures_in, model_after, output_of, steps_from}
@@ -23,8 +24,8 @@ Moments = (Images → List ℕ → Type 0) → Type 0
 abbrev pub IsSpoken : Step → Type 0
 IsSpoken step = (step.command ≡ None) ⊎ (0 < length (said_in step))
 
--- Steps were taken, with what was said then and what a crash leaves of them.
-pub record StepsAreTaken (tells : Bool) (files : Files) (Leaves : Moments) (before : Standing) (faults : ℕ)
+-- Steps were taken, with what was said then, what a crash leaves of them and how they were counted.
+pub record StepsAreTaken (tells : Bool) (files : Files) (Leaves : Moments) (before : Standing) (faults count : ℕ)
     (answers : List Fetches) (steps : List Step) : Type 0 where
   pub told : All (IsAnswer tells files) answers
   pub spoken : All IsSpoken steps
@@ -32,11 +33,20 @@ pub record StepsAreTaken (tells : Bool) (files : Files) (Leaves : Moments) (befo
   pub failed : RoseBy (failures_in steps) before.faults faults
   pub later : before.faults ≤ faults
   pub crash : Leaves (LeavesPrefix before.model.state steps before.said)
+  pub counted : StepsAreCounted before.model steps before.count count
 
 -- what steps leave whose replies were said
 pub record IsAfter (before : Standing) (steps : List Step) (now : Standing) : Type 0 where
   pub said : now.said ≡ before.said ++ output_of steps
   pub reached : now.model ≡ model_after before.model steps
+
+-- of steps that were taken the replies to all but the last were said, and of that one a front
+pub record SaysUpToLast (before : List ℕ) (steps : List Step) (now : List ℕ) : Type 0 where
+  pub answered : List Step
+  pub last : List Step
+  pub whole : steps ≡ answered ++ last
+  pub one : length last ≤ 1
+  pub front : SaysFront (before ++ output_of answered) (output_of last) now
 
 -- ---- a line
 
@@ -47,13 +57,15 @@ step_at fetches at = step_to fetches at.model at.number at.line
 -- The line was answered: its step was taken, and its reply said.
 pub record LineIsAnswered (tells : Bool) (files : Files) (Leaves : Moments) (before now : Standing) : Type 0 where
   pub fetches : Fetches
-  pub taken : StepsAreTaken tells files Leaves before now.faults (fetches ∷ []) (step_at fetches before ∷ [])
+  pub taken : StepsAreTaken tells files Leaves before now.faults now.count (fetches ∷ [])
+      (step_at fetches before ∷ [])
   pub after : IsAfter before (step_at fetches before ∷ []) now
 
 -- no more than a front of the line's reply was said
 pub record ReplyIsInterrupted (tells : Bool) (files : Files) (Leaves : Moments) (before now : Standing) : Type 0 where
   pub fetches : Fetches
-  pub taken : StepsAreTaken tells files Leaves before now.faults (fetches ∷ []) (step_at fetches before ∷ [])
+  pub taken : StepsAreTaken tells files Leaves before now.faults now.count (fetches ∷ [])
+      (step_at fetches before ∷ [])
   pub front : SaysFront before.said (output_of (step_at fetches before ∷ [])) now.said
 
 -- ---- bytes of the script
@@ -72,7 +84,7 @@ pub record BytesAreTaken (tells : Bool) (files : Files) (Leaves : Moments) (at :
     (at' : Standing) : Type 0 where
   pub answers : List Fetches
   pub steps : List Step
-  pub taken : StepsAreTaken tells files Leaves at at'.faults answers steps
+  pub taken : StepsAreTaken tells files Leaves at at'.faults at'.count answers steps
   pub after : IsAfter at steps at'
   pub ahead : (rest : List ℕ) (more : List Fetches)
       → steps_at at (bytes ++ rest) (answers ++ more) ≡ steps ++ steps_at at' rest more
@@ -85,7 +97,7 @@ pub record BytesAreTaken (tells : Bool) (files : Files) (Leaves : Moments) (at :
 pub record ScriptIsFinished (tells : Bool) (files : Files) (Leaves : Moments) (at now : Standing) : Type 0 where
   pub answers : List Fetches
   pub steps : List Step
-  pub taken : StepsAreTaken tells files Leaves at now.faults answers steps
+  pub taken : StepsAreTaken tells files Leaves at now.faults now.count answers steps
   pub after : IsAfter at steps now
   pub ahead : (more : List Fetches) → steps_at at [] (answers ++ more) ≡ steps
 
@@ -93,8 +105,8 @@ pub record ScriptIsFinished (tells : Bool) (files : Files) (Leaves : Moments) (a
 pub record ScriptIsUnfinished (tells : Bool) (files : Files) (Leaves : Moments) (at now : Standing) : Type 0 where
   pub answers : List Fetches
   pub steps : List Step
-  pub taken : StepsAreTaken tells files Leaves at now.faults answers steps
-  pub front : SaysFront at.said (output_of steps) now.said
+  pub taken : StepsAreTaken tells files Leaves at now.faults now.count answers steps
+  pub said : SaysUpToLast at.said steps now.said
   pub ahead : (more : List Fetches) → steps_at at [] (answers ++ more) ≡ steps
 
 -- steps come first among others, which go on from there by further answers of the shelf
@@ -104,13 +116,13 @@ pub record ComeFirst (steps : List Step) (more : List Fetches) (whole : List Ste
   pub left : List (List ℕ)
   pub behind : whole ≡ steps ++ steps_from model number left more
 
--- The run ended within these bytes: a front of the replies to some steps was said, which come first, however the script
--- goes on.
+-- The run ended within these bytes: the replies to some steps were said, and of the last a front. They come first,
+-- however the script goes on.
 pub record RunIsStopped (tells : Bool) (files : Files) (Leaves : Moments) (at : Standing) (bytes : List ℕ)
     (now : Standing) : Type 0 where
   pub answers : List Fetches
   pub steps : List Step
-  pub taken : StepsAreTaken tells files Leaves at now.faults answers steps
-  pub front : SaysFront at.said (output_of steps) now.said
+  pub taken : StepsAreTaken tells files Leaves at now.faults now.count answers steps
+  pub said : SaysUpToLast at.said steps now.said
   pub ahead : (rest : List ℕ) (more : List Fetches)
       → ComeFirst steps more (steps_at at (bytes ++ rest) (answers ++ more))

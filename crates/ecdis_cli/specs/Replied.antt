@@ -7,6 +7,7 @@ use Rattle.chart_store.specs.Store.{StandsForEither}
 use Rattle.script_reader.specs.declared.reply.Reply.{Reply}
 use Rattle.session_core.specs.Fetch.{AreFetched, Files, Fetches}
 use Rattle.session_core.specs.Model.{Model}
+use Rattle.session_core.specs.Steps.{TakesAtMost}
 use Rattle.ecdis_cli.specs.declared.run.stop.Stop.{Stop}
 use Rattle.ecdis_cli.specs.Progress.{Moments, step_at}
 use Rattle.ecdis_cli.specs.Standing.{Standing}
@@ -17,13 +18,15 @@ abbrev pub GivesStep : Result (Option Reply) Stop → Model → Step → Type 0
 GivesStep (Ok reply) now step = (step.reply ≡ reply) × (step.model ≡ now)
 GivesStep (Err stop) now step = Unit {0}
 
--- The step of the line was taken, by some answers of the shelf, and a crash at any moment of it leaves files that stand
--- for what was held before, or for what the step leaves. Nothing is said.
-pub record ReplyIsFound (tells : Bool) (files : Files) (Leaves : Moments) (before : Standing) (faults : ℕ)
-    (IsGiven : Step → Type 0) : Type 0 where
+-- The step of the line was taken, by some answers of the shelf, and was counted. A crash at any moment of it leaves
+-- files that stand for what was held before, or for what the step leaves. Nothing is said.
+pub record ReplyIsFound (tells : Bool) (files : Files) (Leaves : Moments) (before : Standing)
+    (faults count : ℕ) (IsGiven : Step → Type 0) : Type 0 where
   pub fetches : Fetches
   pub answers : AreFetched tells files before.faults faults fetches
   pub gives : IsGiven (step_at fetches before)
+  pub counted : TakesAtMost (step_at fetches before).most before.model.state (step_at fetches before).model.state
+      before.count count
   pub leaves : Leaves (StandsForEither before.said before.model.state (step_at fetches before).model.state)
 
 -- while a reply is said a front of it is, and the files are as a crash might have left them before

@@ -9,21 +9,24 @@ use Rattle.session_core.specs.Fetch.{Files, Fetches}
 use Rattle.session_core.specs.Model.{Model, Portrayal}
 use Rattle.ecdis_cli.specs.declared.run.status.Status.{Status}
 use Rattle.ecdis_cli.specs.declared.run.status.Status.TheVariants.{Done, ScriptFault, ScriptLong}
+use Rattle.ecdis_cli.specs.Counted.{StepsAreCounted}
 use Rattle.ecdis_cli.specs.Crash.{LeavesPrefix}
 use Rattle.ecdis_cli.specs.WholeLines.{whole_lines}
 use Rattle.ecdis_cli.specs.Limits.{SCRIPT_LIMIT}
-use Rattle.ecdis_cli.specs.Progress.{Moments}
+use Rattle.ecdis_cli.specs.Progress.{Moments, SaysUpToLast}
 use Rattle.ecdis_cli.specs.Script.{IsAnswer, failures_in, model_after, output_of, steps_of}
 use Rattle.ecdis_cli.specs.Step.{Step}
 
--- what is around a run: what is left of its script, what was said, and how often the shelf has failed
+-- what is around a run: what is left of its script, what was said, how often the shelf has failed, and how many steps
+-- were counted
 pub record Outside : Type 0 where
   pub left : List ℕ
   pub said : List ℕ
   pub faults : ℕ
+  pub count : ℕ
 
-abbrev pub outside_of : List ℕ → List ℕ → ℕ → Outside
-outside_of left said faults = record { left = left; said = said; faults = faults }
+abbrev pub outside_of : List ℕ → List ℕ → ℕ → ℕ → Outside
+outside_of left said faults count = record { left = left; said = said; faults = faults; count = count }
 
 -- what is read of files at the opening, as a model
 abbrev pub model_at : Portrayal → Reading → Model
@@ -50,8 +53,17 @@ pub record Says (status : Status) (steps : List ℕ → List Step) (before now :
   pub at_limit : status ≡ ScriptLong
       → now.said ≡ before.said ++ output_of (steps (whole_lines (take SCRIPT_LIMIT before.left)))
 
+-- Of a script's steps those that were taken come first: the replies to all but the last of them were said, and of that
+-- one a front. They alone are counted.
+pub record TakenAreCounted (model : Model) (steps : List Step) (before now : Outside) : Type 0 where
+  pub taken : List Step
+  pub rest : List Step
+  pub split : steps ≡ taken ++ rest
+  pub said : SaysUpToLast before.said taken now.said
+  pub counted : StepsAreCounted model taken before.count now.count
+
 -- The run of a script from a model, by the answers of the shelf, line by line: what it says, how often the shelf
--- failed, what a crash at any moment leaves, and what one leaves at the end.
+-- failed, which steps are counted, what a crash at any moment leaves, and what one leaves at the end.
 pub record Ran (tells : Bool) (files : Files) (model : Model) (status : Status) (Leaves : Moments)
     (LeavesElse : Images → List ℕ → Type 0) (MayBeLeft : Images → Type 0) (before now : Outside) : Type 0 where
   pub answers : List Fetches
@@ -59,6 +71,7 @@ pub record Ran (tells : Bool) (files : Files) (model : Model) (status : Status) 
   pub enough : length (lines before.left) ≤ length answers
   pub says : Says status (λ script. steps_of model script answers) before now
   pub failed : RoseBy (failures_in (steps_of model before.left answers)) before.faults now.faults
+  pub counted : TakenAreCounted model (steps_of model before.left answers) before now
   pub crash : Leaves (λ images so_far. LeavesElse images so_far
       ⊎ LeavesPrefix model.state (steps_of model before.left answers) before.said images so_far)
   pub end : status ≡ Done → (images : Images) → MayBeLeft images

@@ -9,28 +9,32 @@ use Rattle.script_reader.specs.declared.reply.Reply.{Reply}
 use Rattle.script_reader.specs.declared.reply.Reply.TheVariants as replies
 use Rattle.session_core.specs.Fetch.{Fetches}
 use Rattle.session_core.specs.Model.{Model}
+use Rattle.session_core.specs.Steps.{most_steps_at}
 use Rattle.session_core.specs.Turn.{Turn, refusal_turn, turn_of}
 use Rattle.session_core.specs.declared.refusal.LineRefusal.TheVariants.{BadLine}
 
--- what is replied, the command that is accepted, and the model after it, where there are such
+-- what is replied, and the command that is accepted, where there are such; the model after it, and how many data
+-- records are come to at most
 pub record Step : Type 0 where
   pub reply : Option Reply
   pub command : Option Command
   pub model : Model
+  pub most : ℕ
 
 -- nothing is replied, and nothing done
 abbrev pub silent_step : Model → Step
-silent_step model = record { reply = None; command = None; model = model }
+silent_step model = record { reply = None; command = None; model = model; most = 0 }
 
--- a turn is taken
-abbrev pub step_of : Turn → Step
-step_of turn = record { reply = Some turn.reply; command = turn.command; model = turn.model }
+-- a turn is taken, which comes to so many data records at most
+abbrev pub step_of : ℕ → Turn → Step
+step_of most turn = record { reply = Some turn.reply; command = turn.command; model = turn.model; most = most }
 
 -- an empty line and a remark are silent, an event takes its turn, and a bad line is refused by its number
 abbrev pub step_by : Fetches → Model → ℕ → Result (Option Event) LineFault → Step
 step_by fetches model number (Ok None) = silent_step model
-step_by fetches model number (Ok (Some event)) = step_of (turn_of fetches model event)
-step_by fetches model number (Err fault) = step_of (refusal_turn model (BadLine number))
+step_by fetches model number (Ok (Some event)) =
+    step_of (most_steps_at fetches model event) (turn_of fetches model event)
+step_by fetches model number (Err fault) = step_of 0 (refusal_turn model (BadLine number))
 
 -- the step of the line of this number, by what the shelf answers
 unfoldable pub step_to : Fetches → Model → ℕ → List ℕ → Step

@@ -22,6 +22,7 @@ ghost use Rattle.chart_store.specs.Store.{LeavesBefore, LeavesReading};
 ghost use Rattle.command_words.specs.Reading.{WordsValue, words_of};
 ghost use Rattle.lookup_table.specs.declared.line.TableLine.{TableLine as LineValue};
 ghost use Rattle.session_core.specs.Model.{Portrayal};
+ghost use Rattle.ecdis_cli.specs.Counted.{most_at_opening, most_in_bank};
 ghost use Rattle.ecdis_cli.specs.Limits.{SCRIPT_LIMIT};
 ghost use Rattle.ecdis_cli.specs.Portrayal.{IsPortrayal};
 ghost use Rattle.ecdis_cli.specs.Run.{Ran, model_at, outside_of};
@@ -54,32 +55,35 @@ pub fn run_ecdis<S: Source, L: Shelf, D: Desk, C: Ledger>(
     desk: &mut D,
     steps: &mut Steps<C>,
 ) -> Status
-    // Words that don't fit end the run before anything is read, written or said, and no others do.
+    // Words that don't fit end the run before anything is read, written, said or counted, and no others do.
     ensures words { result ≡ Status.Words → words_of (map string_bytes words.now) ≡ None }
     ensures wordless { words_of (map string_bytes words.now) ≡ None →
         (result ≡ Status.Words) ⊎ (result ≡ Status.NoMemory) }
     ensures untouched { words_of (map string_bytes words.now) ≡ None →
-        (script.new ≡ script.old) × (shelf.new ≡ shelf.old) × (desk.new ≡ desk.old) }
+        (script.new ≡ script.old) × (shelf.new ≡ shelf.old) × (desk.new ≡ desk.old) × (steps.new ≡ steps.old) }
 
     // A catalogue or a table that isn't there, is too long or has a fault ends it too, and no other does: nothing of
-    // the script is read and nothing is written or said, however the run ends then, and wherever the words or a fetch
-    // of these files end it.
+    // the script is read and nothing is written, said or counted, however the run ends then, and wherever the words or
+    // a fetch of these files end it.
     ensures tables { (which : ℕ) (fault : FaultValue) → IsTrue L.tells → result ≡ Status.Tables which fault →
         (said : WordsValue) × (words_of (map string_bytes words.now) ≡ Some said)
         × (table_in (L.files shelf.old) said ≡ Err (record { which = which; fault = fault })) }
     ensures refused_tables { (said : WordsValue) (end : TablesEnd) → IsTrue L.tells →
         words_of (map string_bytes words.now) ≡ Some said → table_in (L.files shelf.old) said ≡ Err end →
         (result ≡ Status.Tables end.which end.fault) ⊎ ((result ≡ Status.ShelfFault) ⊎ (result ≡ Status.NoMemory)) }
-    ensures untabled { IsTrue (is_early result) → (script.new ≡ script.old) × (desk.new ≡ desk.old) }
+    ensures untabled { IsTrue (is_early result) →
+        (script.new ≡ script.old) × (desk.new ≡ desk.old) × (steps.new ≡ steps.old) }
     ensures tableless { (said : WordsValue) (end : TablesEnd) → IsTrue L.tells →
         words_of (map string_bytes words.now) ≡ Some said → table_in (L.files shelf.old) said ≡ Err end →
-        (script.new ≡ script.old) × (desk.new ≡ desk.old) }
+        (script.new ≡ script.old) × (desk.new ≡ desk.old) × (steps.new ≡ steps.old) }
 
     // From files that read as what is held, the output is the replies to the script's lines, all of them where the run
     // is done and else a front. At every moment a crash leaves files that stand for what the first accepted commands
     // leave: as many as have a reply that was begun, or one more; or the files as one might have left them at the
     // start. At the end of a run that is done it leaves what all of them leave. Cells are drawn by the table that was
-    // read and by the settings of the words.
+    // read and by the settings of the words. The count of steps rises by no more than the data records that the bank's
+    // commands may come to, the features of the charts that are held at the start, and, of each line that is come to,
+    // the data records that it may come to and the names whose records differ after it.
     ensures ran { IsTrue S.tells → IsTrue D.tells → (opening : Reading) →
         read_of (images_of (D.contents desk.old)) ≡ Ok opening →
         (portrayal : Portrayal)
@@ -87,17 +91,19 @@ pub fn run_ecdis<S: Source, L: Shelf, D: Desk, C: Ledger>(
         × Ran L.tells (L.files shelf.old) (model_at portrayal opening) result
         (λ P. LeavesOnly D.clock D.might desk.old desk.new P) (LeavesBefore (D.may_leave desk.old) (D.said desk.old))
         (MayBeLeft (D.may_leave desk.new))
-        (outside_of (S.left script.old) (D.said desk.old) (L.faults shelf.old))
-        (outside_of (S.left script.new) (D.said desk.new) (L.faults shelf.new)) }
+        (outside_of (S.left script.old) (D.said desk.old) (L.faults shelf.old)
+        (steps.old + most_at_opening (D.contents desk.old) opening))
+        (outside_of (S.left script.new) (D.said desk.new) (L.faults shelf.new) steps.new) }
 
     // A run that is done has read the whole script, which is no longer than may be.
     ensures done { result ≡ Status.Done → IsTrue (S.is_at_end script.new) }
     ensures read { IsTrue S.tells → result ≡ Status.Done → S.left script.new ≡ [] }
     ensures short { IsTrue S.tells → result ≡ Status.Done → length (S.left script.old) ≤ SCRIPT_LIMIT }
 
-    // Where the files are no store's, nothing is read of the script and nothing said, however the run ends, and at
-    // every moment a crash leaves files that read the same, or as one might have left them at the start; it ends for
-    // them unless the disk fails or memory runs out, and then they are left as they were.
+    // Where the files are no store's, nothing is read of the script, nothing said and no more counted than the bank's
+    // data records, however the run ends, and at every moment a crash leaves files that read the same, or as one might
+    // have left them at the start; it ends for them unless the disk fails or memory runs out, and then they are left as
+    // they were.
     ensures foreign { (bank at : ℕ) → IsTrue D.tells → result ≡ Status.Foreign bank at →
         read_of (images_of (D.contents desk.old)) ≡ Err (record { bank = bank; at = at }) }
     ensures refused_files { (bank at : ℕ) → IsTrue D.tells →
@@ -107,7 +113,8 @@ pub fn run_ecdis<S: Source, L: Shelf, D: Desk, C: Ledger>(
     ensures unread { (bank at : ℕ) → result ≡ Status.Foreign bank at → script.new ≡ script.old }
     ensures unopened { (bank at : ℕ) → IsTrue D.tells →
         read_of (images_of (D.contents desk.old)) ≡ Err (record { bank = bank; at = at }) →
-        (script.new ≡ script.old) × (D.said desk.new ≡ D.said desk.old) }
+        (script.new ≡ script.old) × (D.said desk.new ≡ D.said desk.old)
+        × (steps.new ≤ steps.old + most_in_bank (D.contents desk.old)) }
     ensures refused_moments { (bank at : ℕ) → IsTrue D.tells →
         read_of (images_of (D.contents desk.old)) ≡ Err (record { bank = bank; at = at }) →
         LeavesOnly D.clock D.might desk.old desk.new

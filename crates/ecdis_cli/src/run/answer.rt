@@ -59,11 +59,11 @@ fn reply_to<L: Shelf, D: Desk, C: Ledger>(
     requires number { number < 2 ^ 63 }
     requires ready { IsReadyFor D.tells D.contents D.may_leave devices.old number session.old }
 
-    // The line's step is taken, and nothing is said.
+    // The line's step is taken and counted, and nothing is said.
     ensures replied { ReplyIsFound L.tells (L.files devices.old.shelf.now)
         (λ P. IsTrue D.tells → LeavesBetween D.clock D.might devices.old devices.new P)
         (standing_at L.faults D.said session.old devices.old number line.now) (L.faults devices.new.shelf.now)
-        (GivesStep result (model_of session.new)) }
+        devices.new.steps.now (GivesStep result (model_of session.new)) }
     ensures said { IsTrue D.tells → D.said devices.new.desk.now ≡ D.said devices.old.desk.now }
 
     // The next line may follow, and what stops the run has its cause.

@@ -7,6 +7,7 @@ ghost use Rattle.chart_ports.specs.Moments.{MayBeLeft, images_of};
 ghost use Rattle.chart_store.specs.Images.{Reading, read_of};
 ghost use Rattle.chart_store.specs.Store.{LeavesBefore, LeavesReading};
 ghost use Rattle.session_core.specs.Model.{portrayal_with};
+ghost use Rattle.ecdis_cli.specs.Counted.{most_at_opening, most_in_bank};
 ghost use Rattle.ecdis_cli.specs.Devices.{KeepsDevices, LeavesBetween};
 ghost use Rattle.ecdis_cli.specs.Limits.{SCRIPT_LIMIT};
 ghost use Rattle.ecdis_cli.specs.Run.{Ran, model_at, outside_of};
@@ -35,15 +36,17 @@ pub fn run_opened<S: Source, L: Shelf, D: Desk, C: Ledger>(
     devices: &mut Devices<L, D, C>,
 ) -> Status
     // From files that read as what is held, the replies to the script's lines are said, and a crash leaves what they
-    // acknowledge, or what one might have left before.
+    // acknowledge, or what one might have left before. No more is counted than the opening and the lines may count.
     ensures ran { IsTrue S.tells → IsTrue D.tells → (opening : Reading) →
         read_of (images_of (D.contents devices.old.desk.now)) ≡ Ok opening →
         Ran L.tells (L.files devices.old.shelf.now) (model_at (portrayal_with table settings) opening) result
         (LeavesBetween D.clock D.might devices.old devices.new)
         (LeavesBefore (D.may_leave devices.old.desk.now) (D.said devices.old.desk.now))
         (MayBeLeft (D.may_leave devices.new.desk.now))
-        (outside_of (S.left script.old) (D.said devices.old.desk.now) (L.faults devices.old.shelf.now))
-        (outside_of (S.left script.new) (D.said devices.new.desk.now) (L.faults devices.new.shelf.now)) }
+        (outside_of (S.left script.old) (D.said devices.old.desk.now) (L.faults devices.old.shelf.now)
+        (devices.old.steps.now + most_at_opening (D.contents devices.old.desk.now) opening))
+        (outside_of (S.left script.new) (D.said devices.new.desk.now) (L.faults devices.new.shelf.now)
+        devices.new.steps.now) }
 
     // A run that is done has read the whole script, which is no longer than may be.
     ensures done { result ≡ Status.Done → IsTrue (S.is_at_end script.new) }
@@ -51,7 +54,7 @@ pub fn run_opened<S: Source, L: Shelf, D: Desk, C: Ledger>(
     ensures short { IsTrue S.tells → result ≡ Status.Done → length (S.left script.old) ≤ SCRIPT_LIMIT }
 
     // Files that are no store's are told by their first fault, unless the disk fails or memory runs out. Nothing is
-    // read or said then, and they are left as they were.
+    // read or said then, no more is counted than the bank may count, and they are left as they were.
     ensures foreign { (bank at : ℕ) → IsTrue D.tells → result ≡ Status.Foreign bank at →
         read_of (images_of (D.contents devices.old.desk.now)) ≡ Err (record { bank = bank; at = at }) }
     ensures refused_files { (bank at : ℕ) → IsTrue D.tells →
@@ -60,7 +63,8 @@ pub fn run_opened<S: Source, L: Shelf, D: Desk, C: Ledger>(
     ensures unread { (bank at : ℕ) → result ≡ Status.Foreign bank at → script.new ≡ script.old }
     ensures unopened { (bank at : ℕ) → IsTrue D.tells →
         read_of (images_of (D.contents devices.old.desk.now)) ≡ Err (record { bank = bank; at = at }) →
-        (script.new ≡ script.old) × (D.said devices.new.desk.now ≡ D.said devices.old.desk.now) }
+        (script.new ≡ script.old) × (D.said devices.new.desk.now ≡ D.said devices.old.desk.now)
+        × (devices.new.steps.now ≤ devices.old.steps.now + most_in_bank (D.contents devices.old.desk.now)) }
     ensures refused_moments { (bank at : ℕ) → IsTrue D.tells →
         read_of (images_of (D.contents devices.old.desk.now)) ≡ Err (record { bank = bank; at = at }) →
         LeavesBetween D.clock D.might devices.old devices.new (LeavesReading (D.contents devices.old.desk.now)

@@ -37,8 +37,8 @@ impl Reader {
 
     /// At the start of the first line.
     pub fn new(alloc: Global, session: Session) -> Reader
-        ensures start { (said : List ℕ) (faults : ℕ) → reader_standing result said faults
-            ≡ at_start (model_of session) said faults }
+        ensures start { (said : List ℕ) (faults count : ℕ) → reader_standing result said faults count
+            ≡ at_start (model_of session) said faults count }
         ensures session { result.session ≡ session }
     {
         Reader {

@@ -33,13 +33,16 @@ pub fn run_script<S: Source, L: Shelf, D: Desk, C: Ledger>(
     requires room { 0 < length buffer.old }
     requires ready { IsReadyFor D.tells D.contents D.may_leave devices.old 1 session }
 
-    // The replies to the script's lines are said, and a crash leaves what they acknowledge.
+    // The replies to the script's lines are said, the lines that were come to are counted, and a crash leaves what the
+    // replies acknowledge.
     ensures ran { IsTrue S.tells → IsTrue D.tells →
         Ran L.tells (L.files devices.old.shelf.now) (model_of session) result
         (LeavesBetween D.clock D.might devices.old devices.new) (λ images so_far. ⊥)
         (MayBeLeft (D.may_leave devices.new.desk.now))
-        (outside_of (S.left script.old) (D.said devices.old.desk.now) (L.faults devices.old.shelf.now))
-        (outside_of (S.left script.new) (D.said devices.new.desk.now) (L.faults devices.new.shelf.now)) }
+        (outside_of (S.left script.old) (D.said devices.old.desk.now) (L.faults devices.old.shelf.now)
+        devices.old.steps.now)
+        (outside_of (S.left script.new) (D.said devices.new.desk.now) (L.faults devices.new.shelf.now)
+        devices.new.steps.now) }
 
     // A run that is done has read the whole script, which is no longer than may be.
     ensures done { result ≡ Status.Done → IsTrue (S.is_at_end script.new) }

@@ -1,7 +1,7 @@
 -- The line is silent, takes its turn, or is refused.
 use Rattle.std.proofs.Common.{◌∙◌, Some, None, ap, sym}
-use Rattle.std.specs.Prelude.{IsTrue, Ok, Err}
-use Rattle.session_core.specs.Session.{GivesTurn, model_of}
+use Rattle.std.specs.Prelude.{IsTrue, Ok}
+use Rattle.session_core.specs.Session.{model_of}
 use Rattle.ecdis_cli.specs.Replied.{GivesStep}
 use Rattle.ecdis_cli.specs.Step.{Step}
 use Rattle.ecdis_cli.proofs.Answering.{Replied-quiet, Replied-turn, gives-spoken, gives-stopped}
@@ -10,17 +10,19 @@ use Rattle.ecdis_cli.proofs.run.answer.reply_to.Goals as goal
 
 pub returns-in_err-turn-in-Ok-Some-clause-replied : goal.returns-in_err-turn-in-Ok-Some-clause-replied
 returns-in_err-turn-in-Ok-Some-clause-replied g c =
-    Replied-turn _ _ _ _ _ c.in-Ok-Some.event _ _ (GivesStep c.from_residual.result (model_of c.turn.new.self))
+    Replied-turn _ _ _ _ _ _ c.in-Ok-Some.event c.turn.result (model_of c.turn.new.self)
+    (GivesStep c.from_residual.result (model_of c.turn.new.self))
     (λ fetches. step-asked c.long_lines_are_read_by_their_front.ensures.front fetches _ _ _ _ (Ok (Some c.in-Ok-Some.event)) c.front_of.ensures (ap Ok (sym c.in-Ok-Some.field-0-is) ∙ c.in-Ok-Some.ensures.function))
-    (λ turn h. gives-stopped c.from_residual.result _ _ c.from_residual.ensures.0)
+    (λ most turn h. gives-stopped c.from_residual.result _ _ c.from_residual.ensures.0)
     c.turn.ensures.turned
 
 pub returns-in_ok-turn-in-Ok-Some-clause-replied : goal.returns-in_ok-turn-in-Ok-Some-clause-replied
 returns-in_ok-turn-in-Ok-Some-clause-replied g c =
-    Replied-turn _ _ _ _ _ c.in-Ok-Some.event _ (GivesTurn (Ok c.in_ok-turn-in-Ok-Some.field-0) (model_of c.args.session.now) (model_of c.turn.new.self))
+    Replied-turn _ _ _ _ _ _ c.in-Ok-Some.event (Ok c.in_ok-turn-in-Ok-Some.field-0) (model_of c.turn.new.self)
     (GivesStep (Ok (Some c.in_ok-turn-in-Ok-Some.field-0)) (model_of c.turn.new.self))
     (λ fetches. step-asked c.long_lines_are_read_by_their_front.ensures.front fetches _ _ _ _ (Ok (Some c.in-Ok-Some.event)) c.front_of.ensures (ap Ok (sym c.in-Ok-Some.field-0-is) ∙ c.in-Ok-Some.ensures.function))
-    (λ turn h. gives-spoken c.in_ok-turn-in-Ok-Some.field-0 (model_of c.args.session.now) (model_of c.turn.new.self) turn h)
+    (λ most turn h. gives-spoken c.in_ok-turn-in-Ok-Some.field-0 (model_of c.args.session.now)
+    (model_of c.turn.new.self) most turn h)
     c.in_ok-turn-in-Ok-Some.ensures.turned
 
 pub returns-in-Ok-None-clause-replied : goal.returns-in-Ok-None-clause-replied

@@ -1,5 +1,5 @@
 -- A line of at most so many bytes is looked at whole.
-use Rattle.std.proofs.Common.{arith, length, length-take-le, sym}
+use Rattle.std.proofs.Common.{arith, length-take-le, sym}
 use Rattle.ecdis_cli.proofs.Lines.{take_short}
 use Rattle.ecdis_cli.proofs.run.line.front_of.Goals as goal
 

@@ -16,19 +16,20 @@ pub pulls-init : goal.pulls-init
 pulls-init g c = record {
   underway = λ s d.
       let desk = c.args.devices.now.desk.now in
-      let before = at_start (model_of c.args.session) (g.D.Desk.said desk) (g.L.Shelf.faults c.args.devices.now.shelf.now) in
-      Underway-start g.D.Desk.clock g.D.Desk.might _ _ _ _ desk desk _ (c.new-reader.ensures.start _ _)
+      let before = at_start (model_of c.args.session) (g.D.Desk.said desk)
+      (g.L.Shelf.faults c.args.devices.now.shelf.now) c.args.devices.now.steps.now in
+      Underway-start g.D.Desk.clock g.D.Desk.might _ _ _ _ desk desk _ (c.new-reader.ensures.start _ _ _)
       (Advanced-start _ _ (LeavesOnly g.D.Desk.clock g.D.Desk.might desk desk) before
       (quiet g.D.Desk.clock g.D.Desk.might desk (g.D.Desk.may_leave desk) (g.D.Desk.said desk) before.model.state
       (λ images so_far left. g.met.D.Desk.only_now desk images so_far d left)
       (λ images left. c.kept_stores_are_read.ensures.stands desk _ images (c.requires.ready.store.kept d) left)));
   ready =
       subst (λ (n : ℕ). IsReadyFor g.D.Desk.tells g.D.Desk.contents g.D.Desk.may_leave c.args.devices.now n c.new-reader.result.session)
-      (sym (ap (λ (at : Standing). at.number) (c.new-reader.ensures.start [] 0)))
+      (sym (ap (λ (at : Standing). at.number) (c.new-reader.ensures.start [] 0 0)))
       (subst (λ (session : Session). IsReadyFor g.D.Desk.tells g.D.Desk.contents g.D.Desk.may_leave c.args.devices.now 1 session)
       (sym c.new-reader.ensures.session) c.requires.ready);
   counted = λ s. omega arith;
-  number = omega (arith, ap (λ (at : Standing). at.number) (c.new-reader.ensures.start [] 0));
+  number = omega (arith, ap (λ (at : Standing). at.number) (c.new-reader.ensures.start [] 0 0));
   within = omega arith;
   given = inl (omega arith);
   script_later = omega arith;

@@ -1,5 +1,5 @@
 -- The last line was answered, or there is none.
-use Rattle.std.proofs.Common.{length, arith}
+use Rattle.std.proofs.Common.{arith}
 use Rattle.std.proofs.lemmas.List.{nil_from_length}
 use Rattle.chart_ports.specs.Moments.{LeavesOnly}
 use Rattle.ecdis_cli.specs.Devices.{LeavesBetween}

@@ -18,15 +18,18 @@ returns-else-byte-eq10-clause-ok g c = λ d.
     let faults = g.L.Shelf.faults c.args.devices.now.shelf.now in
     let files = g.L.Shelf.files c.args.devices.now.shelf.now in
     let leaves = LeavesOnly g.D.Desk.clock g.D.Desk.might desk desk in
-    let before = reader_standing c.args.self.now said faults in
+    let count = c.args.devices.now.steps.now in
+    let before = reader_standing c.args.self.now said faults count in
     let crash = quiet g.D.Desk.clock g.D.Desk.might desk (g.D.Desk.may_leave desk) said before.model.state
     (λ images so_far left. g.met.D.Desk.only_now desk images so_far d left)
     (λ images left. c.kept_stores_are_read.ensures.stands desk _ images (c.requires.ready.store.kept d) left) in
     OnOk-map c.keep.result _ _
     (λ (kept : c.keep.new.self.line.items ≡ cond (ltb (length c.args.self.now.line.items) KEPT_LIMIT) (c.args.self.now.line.items ++ c.args.byte ∷ []) c.args.self.now.line.items).
-    subst (λ (n : ℕ). BytesAreTaken g.L.Shelf.tells files leaves before (c.args.byte ∷ []) (standing_of c.keep.new.self.session said faults n c.keep.new.self.line.items))
+    subst (λ (n : ℕ). BytesAreTaken g.L.Shelf.tells files leaves before (c.args.byte ∷ [])
+    (standing_of c.keep.new.self.session said faults count n c.keep.new.self.line.items))
     (sym c.keep.ensures.number)
-    (subst (λ (s : Session). BytesAreTaken g.L.Shelf.tells files leaves before (c.args.byte ∷ []) (standing_of s said faults c.args.self.now.number c.keep.new.self.line.items))
+    (subst (λ (s : Session). BytesAreTaken g.L.Shelf.tells files leaves before (c.args.byte ∷ [])
+    (standing_of s said faults count c.args.self.now.number c.keep.new.self.line.items))
     (sym c.keep.ensures.session)
     (Advanced-byte c.long_lines_are_read_by_their_front.ensures.front _ _ leaves before _ _ crash c.args.self.now.unbroken (let ne : eqb c.args.byte 10 ≡ false = search (rules, c.if-byte-eq10.false) in ne) kept)))
     c.keep.ensures.ok
@@ -36,7 +39,8 @@ returns-else-byte-eq10-clause-err g c = λ d.
     let desk = c.args.devices.now.desk.now in
     let said = g.D.Desk.said desk in
     let faults = g.L.Shelf.faults c.args.devices.now.shelf.now in
-    let before = reader_standing c.args.self.now said faults in
+    let count = c.args.devices.now.steps.now in
+    let before = reader_standing c.args.self.now said faults count in
     let crash = quiet g.D.Desk.clock g.D.Desk.might desk (g.D.Desk.may_leave desk) said before.model.state
     (λ images so_far left. g.met.D.Desk.only_now desk images so_far d left)
     (λ images left. c.kept_stores_are_read.ensures.stands desk _ images (c.requires.ready.store.kept d) left) in

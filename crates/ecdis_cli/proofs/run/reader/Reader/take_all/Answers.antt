@@ -1,5 +1,5 @@
 -- Nothing was taken yet; then one byte more.
-use Rattle.std.proofs.Common.{ℕ, List, arith, subst, ◌∙◌}
+use Rattle.std.proofs.Common.{ℕ, List, arith, subst}
 use Rattle.std.proofs.lemmas.List.{take_all}
 use Rattle.chart_ports.specs.Moments.{LeavesOnly}
 use Rattle.ecdis_cli.specs.Progress.{BytesAreTaken}
