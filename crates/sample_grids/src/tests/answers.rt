@@ -1,13 +1,16 @@
 //! What a grid answers of an area.
 
-use chart_model::Name;
+use chart_model::{Cell, Name};
 use plane_bounds::Bounds;
 use sample_rows::name;
-use spatial_grid::Grid;
+use spatial_grid::{Grid, grid_of};
 use std::alloc::{AllocError, Global};
 
 /// An area, by its west, south, east and north.
 pub type Area = (i64, i64, i64, i64);
+
+/// An area, and the numbers of the features whose boxes meet it.
+pub type Case = (Area, &'static [u32]);
 
 fn are_names(names: &[Name], numbers: &[u32]) -> bool {
     names.len() == numbers.len()
@@ -32,4 +35,15 @@ pub fn is_answer(
     };
     let names = grid.candidates(alloc, &area)?;
     Ok(are_names(names.as_slice(), numbers))
+}
+
+/// Whether the grid of a chart answers each case.
+pub fn are_answered(alloc: Global, cell: &Cell, cases: &[Case]) -> Result<bool, AllocError> {
+    let grid = grid_of(alloc, cell)?;
+    for (area, numbers) in cases {
+        if !is_answer(alloc, &grid, *area, numbers)? {
+            return Ok(false);
+        }
+    }
+    Ok(true)
 }

@@ -1,9 +1,9 @@
 //! Boxes of an area that points to one edge many times, and of many areas with an edge of their own.
 
-use super::answers::{Area, is_answer};
+use super::answers::{Case, are_answered};
 use cell_bytes::make_cell;
+use chart_model::Cell;
 use sample_rows::{Row, add_rows, chart, feature, vector};
-use spatial_grid::grid_of;
 use std::alloc::Global;
 use std::test::Fail;
 
@@ -25,10 +25,7 @@ static ROWS: [Row; 4] = [
     AREA,
 ];
 
-/// An area, and the numbers of the features whose boxes meet it.
-type Case = (Area, &'static [u32]);
-
-static CASES: [Case; 5] = [
+static OF_AREA: [Case; 5] = [
     ((5, 60, 5, 60), &[1]),
     ((30, 20, 30, 20), &[1]),
     ((4, 20, 4, 60), &[]),
@@ -36,34 +33,24 @@ static CASES: [Case; 5] = [
     ((5, 61, 30, 99), &[]),
 ];
 
-/// Whether the candidates are right where the area goes along its edge and back 150 times.
-fn is_boxed(alloc: Global) -> Result<bool, Fail> {
+/// Of areas side by side, those of which a strip from the first to the tenth has a part.
+static OF_STRIP: [Case; 1] = [((1_000, 450, 10_900, 450), &[1, 2, 3, 4, 5, 6, 7, 8, 9, 10])];
+
+/// The chart of the rows, where the area goes along its edge and back 150 times.
+fn winding(alloc: Global) -> Result<Cell, Fail> {
     let mut cell = chart(alloc, &ROWS)?;
     for version in 2..151 {
         add_rows(alloc, &mut cell, &[Row { version, ..LONGER }])?;
     }
-    let grid = grid_of(alloc, &cell)?;
-    for (area, numbers) in &CASES {
-        if !is_answer(alloc, &grid, *area, numbers)? {
-            return Ok(false);
-        }
-    }
-    Ok(true)
+    Ok(cell)
 }
 
 #[test]
 fn shared_edges(rt: HostRuntime) -> Result<(), Fail> {
     let alloc = rt.alloc();
-    assert!(rt; is_boxed(alloc)?);
-    let cell = make_cell(alloc, 100)?;
-    let grid = grid_of(alloc, &cell)?;
-    assert!(rt;
-        is_answer(
-            alloc,
-            &grid,
-            (1_000, 450, 10_900, 450),
-            &[1, 2, 3, 4, 5, 6, 7, 8, 9, 10]
-        )?
-    );
+    let cell = winding(alloc)?;
+    assert!(rt; are_answered(alloc, &cell, &OF_AREA)?);
+    let side_by_side = make_cell(alloc, 100)?;
+    assert!(rt; are_answered(alloc, &side_by_side, &OF_STRIP)?);
     Ok(())
 }
