@@ -1,7 +1,8 @@
 -- Records copied to the end of a file, one after the other.
 use Rattle.std.proofs.Common.{◌≡◌, ℕ, ◌+◌, ◌<◌, ◌≤◌, List, [], ◌∷◌, ◌++◌, length, take, get_or, refl, sym, ◌∙◌, ap}
 use Rattle.std.proofs.Common.{arith, length-append, flat_map}
-use Rattle.std.proofs.lemmas.List.{length-map, length-take-le, append-nil, append_assoc, take_all, take_at, take_more, get_or-map}
+use Rattle.std.proofs.lemmas.List.{length-map, length-take-le, append-nil, append_assoc, get_or-map}
+use Rattle.std.proofs.lemmas.List.{take_all, take_at, take_more}
 use Rattle.std.proofs.lemmas.List.Concat.{flat_map-append, flat_map-cons}
 use Rattle.byteorder.specs.Endian.{big_bytes}
 use Rattle.chart_ports.specs.Disk.{with_bytes}

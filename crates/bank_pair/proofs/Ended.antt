@@ -20,7 +20,8 @@ counted n x fits = ap (big_number n) (sym (append-nil (big_bytes n x))) ∙ big_
 
 -- ---- records
 
-records_cons : (body : List ℕ) (bodies : List (List ℕ)) → records_of (body ∷ bodies) ≡ record_of body ++ records_of bodies
+records_cons : (body : List ℕ) (bodies : List (List ℕ))
+    → records_of (body ∷ bodies) ≡ record_of body ++ records_of bodies
 unfolding records_of
 records_cons body bodies = flat_map-cons record_of body bodies
 

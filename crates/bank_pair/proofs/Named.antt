@@ -96,7 +96,8 @@ module _ (contents : ℕ → List ℕ) (may_leave : Leaving) (pair : PairValue) 
     leaves_either said then_said P images so_far silent leaves =
         let past = leaves.others pair.file (λ e. omega (arith, e, low)) in
         let bank = step.bank.settled (image_of images pair.file) (no_more pair.file bank_apart _ past) in
-        let other_bank = settled (image_of images other) (leaves.others other (λ e. omega (arith, e, high, other_is))) in
+        let past_other = leaves.others other (λ e. omega (arith, e, high, other_is)) in
+        let other_bank = settled (image_of images other) past_other in
         record {
           silent = leaves.silent ∙ silent;
           either = says_either images pair.file other (contents pair.file) (next other) content after low high other_is

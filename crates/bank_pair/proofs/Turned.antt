@@ -84,7 +84,7 @@ module _ (contents : ℕ → List ℕ) (may_leave : Leaving) (pair : PairValue) 
         → next 0 ≡ with_bytes 0 ((other - 1) ∷ []) (mid 0) → Only (next 0) (then_may 0)
         → file ≡ other → place ≡ gate
         → IsPairInStep next then_may (record { file = file; gate = place; save = None }) (saved_content save bodies)
-    turned_in_step mid next mid_may then_may file place ended_at settled same no_more head head_settled file_is place_is =
+    turned_in_step mid next mid_may then_may file place ended_at settled same no_more head head_is file_is place_is =
         let least = low contents may_leave pair content step other other_is in
         let most = high contents may_leave pair content step other other_is in
         let named : 1 + (other - 1) % 2 ≡ other = omega (arith, least, most, other_is) in
@@ -93,7 +93,7 @@ module _ (contents : ℕ → List ℕ) (may_leave : Leaving) (pair : PairValue) 
         let turned : IsPairInStep next then_may (record { file = other; gate = place; save = None })
         (saved_content save bodies) = record {
           named = ap bank_named head ∙ named;
-          head = head_settled;
+          head = head_is;
           bank = record {
             has = subst (λ (l : List ℕ). HasContent l (saved_content save bodies)) (sym next_is) ended_has;
             reads = ap bank_of next_is ∙ ended_reads;

@@ -7,9 +7,9 @@ use Rattle.bank_pair.proofs.Turned.{ended_reads, length-whole, ready, turned_in_
 use Rattle.bank_pair.proofs.pair.Pair.flip.Goals as goal
 
 -- what was copied of these frames
-copied_from : {a b bodies : List (List ℕ)} {Q : Type 0} → a ≡ b
-    → (AreFramed a bodies → Q) → AreFramed b bodies → Q
-copied_from {bodies = bodies} same copied are = copied (subst (λ (l : List (List ℕ)). AreFramed l bodies) (sym same) are)
+copied_from : {a b bodies : List (List ℕ)} {Q : Type 0} → a ≡ b → (AreFramed a bodies → Q) → AreFramed b bodies → Q
+copied_from {bodies = bodies} same copied are =
+    copied (subst (λ (l : List (List ℕ)). AreFramed l bodies) (sym same) are)
 
 pub end_bank-requires-clause-ends : goal.end_bank-requires-clause-ends
 end_bank-requires-clause-ends g c = λ tells.
@@ -44,7 +44,8 @@ returns-in_err-write_through-clause-moments g c = λ tells content save bodies s
     let done = c.in_ok-end_bank.ensures in
     let is_ready = ready pair c.in-Some.save c.in-Some.is c.requires.written save saves in
     says_one contents may_leave (value_of pair) content step other other_is (g.D.Desk.contents mid)
-    (g.D.Desk.may_leave mid) (done.others tells) (done.crash_others tells) (done.settled tells) (saved_content save bodies)
+    (g.D.Desk.may_leave mid) (done.others tells) (done.crash_others tells) (done.settled tells)
+    (saved_content save bodies)
     (ended_reads contents may_leave (value_of pair) content step other other_is save saves pair.since.items pair.gate
     is_ready bodies are (g.D.Desk.contents mid other)
     (copied_from (c.as_slice-2.ensures.value) (done.copied tells bodies)))
@@ -63,7 +64,8 @@ returns-clause-moments g c = λ tells content save bodies step saves are.
     let done = c.in_ok-end_bank.ensures in
     let is_ready = ready pair c.in-Some.save c.in-Some.is c.requires.written save saves in
     says_one contents may_leave (value_of pair) content step other other_is (g.D.Desk.contents mid)
-    (g.D.Desk.may_leave mid) (done.others tells) (done.crash_others tells) (done.settled tells) (saved_content save bodies)
+    (g.D.Desk.may_leave mid) (done.others tells) (done.crash_others tells) (done.settled tells)
+    (saved_content save bodies)
     (ended_reads contents may_leave (value_of pair) content step other other_is save saves pair.since.items pair.gate
     is_ready bodies are (g.D.Desk.contents mid other)
     (copied_from (c.as_slice-2.ensures.value) (done.copied tells bodies)))
