@@ -23,11 +23,13 @@ const AREA: Bounds = Bounds {
     y1: 50,
 };
 
-/// Lines that change charts: a cell is made, updated, rolled back, taken away and made again, and another is loaded,
-/// updated, rolled back and cancelled.
-const LINES: [&[u8]; 12] = [
+/// Lines that change charts: a cell is made, updated three times, rolled back over all of them, taken away and made
+/// again, and another is loaded, updated, rolled back and cancelled.
+const LINES: [&[u8]; 14] = [
     b"make 2 0",
     b"make 2 1",
+    b"make 2 2",
+    b"make 2 3",
     b"load T",
     b"load U",
     b"rollback MK000002 0",
@@ -41,7 +43,7 @@ const LINES: [&[u8]; 12] = [
 ];
 
 /// How many charts are held after each.
-const CHARTS: [usize; 12] = [1, 1, 2, 2, 2, 2, 1, 1, 0, 1, 2, 1];
+const CHARTS: [usize; 14] = [1, 1, 1, 1, 2, 2, 2, 2, 1, 1, 0, 1, 2, 1];
 
 /// Whether the session keeps of a chart what is found of it anew.
 fn is_kept<C: Ledger>(
