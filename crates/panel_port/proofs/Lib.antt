@@ -1,0 +1,2 @@
+pub mod PanelKeys
+pub mod Scenes
