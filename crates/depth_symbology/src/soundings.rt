@@ -7,9 +7,9 @@ ghost use Rattle.chart_model.specs.Record.{IsCoord};
 ghost use Rattle.depth_symbology.specs.Soundings.{sounding_items, soundings_of, HasCoords};
 ghost use Rattle.depth_symbology.specs.Soundings.{soundings_in, soundg02_of, soundg02_at};
 
-use area_rings::{Shape, feature_shape};
+use area_rings::Shape;
 use chart_model::{Cell, Coord, Feature, ItemList, Name, Settings, Target};
-use depth_values::{Effort, push_digits};
+use depth_values::{Effort, push_digits, shape_within};
 use std::alloc::{AllocError, Global};
 use topology_cache::Users;
 
@@ -87,7 +87,7 @@ pub fn push_soundg02(
     // A cell is known to be one where a field of it is read: its depths are then within 9,999,999 cm, as `push_digits`
     // needs.
     let _ = &cell.vectors;
-    let shape = feature_shape(alloc, cell, feature)?;
+    let shape = shape_within(alloc, effort, cell, feature)?;
     push_shape(alloc, effort, items, settings, shape)
 }
 

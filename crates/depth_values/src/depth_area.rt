@@ -4,6 +4,7 @@ ghost use Rattle.std.specs.Prelude.{◌≡◌, IfOk};
 ghost use Rattle.depth_values.specs.Under.{is_depth_area, area_at, areas_of};
 
 use crate::area::least_depth;
+use crate::bounded::most_points;
 use crate::codes::{DEPARE, DRGARE};
 use crate::effort::Effort;
 use area_rings::{RingList, rings};
@@ -111,9 +112,11 @@ fn size_of(rings: &[Ring]) -> usize {
     size
 }
 
-/// The depth area that a feature is; `None` where it is none or has no rings.
+/// The depth area that a feature is; `None` where it is none or has no rings. It takes of the effort by the points that
+/// the rings have at most, before they are made.
 fn depth_area(
     alloc: Global,
+    effort: &mut Effort,
     cell: &Cell,
     name: Name,
     feature: &Feature,
@@ -123,6 +126,7 @@ fn depth_area(
     if !is_depth_area(feature) {
         return Ok(None);
     }
+    effort.spend(most_points(cell, feature))?;
     let Some(rings) = rings(alloc, cell, feature)? else {
         return Ok(None);
     };
@@ -144,8 +148,7 @@ pub(crate) fn areas_in(alloc: Global, cell: &Cell) -> Result<Sequence<DepthArea>
     let mut areas = Sequence::new(alloc);
     let mut effort = Effort::of_rings();
     for (name, feature) in cell.features.iter() {
-        if let Some(area) = depth_area(alloc, cell, *name, feature)? {
-            effort.spend(area.size)?;
+        if let Some(area) = depth_area(alloc, &mut effort, cell, *name, feature)? {
             areas.push(area)?;
         }
     }

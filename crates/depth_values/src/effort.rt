@@ -10,8 +10,8 @@ use std::marker::Model;
 /// How often a drawing or a report tests a point against a segment, so that it ends within seconds.
 const MOST_TESTS: usize = 300_000_000;
 
-/// The most points that the rings of all depth areas of a chart have, so that they fit in memory.
-const MOST_POINTS: usize = 16_777_216;
+/// The most points of a shape, and of the rings of all depth areas of a chart, so that they fit in memory.
+pub(crate) const MOST_POINTS: usize = 16_777_216;
 
 /// How much more work is done for a drawing or a report. Contracts see the number.
 #[derive(Debug, Drop)]

@@ -9,6 +9,7 @@ ghost use Rattle.depth_values.specs.Hazard.{hazard_depth, hazard_depth_by};
 
 use crate::areas::{DepthAreas, depth_areas};
 use crate::attributes::{depth_at, has_value};
+use crate::bounded::shape_within;
 use crate::codes::{
     ALWAYS_UNDER_WATER, AWASH, CATOBS, CATWRK, DANGEROUS_WRECK, DEEPER_THAN_AROUND, EXPSOU,
     FOUL_AREA, NON_DANGEROUS_WRECK, OBSTRN, VALSOU, WATLEV, WITHIN_DEPTHS_AROUND, WRECK_WITH_HULL,
@@ -16,7 +17,7 @@ use crate::codes::{
 };
 use crate::effort::Effort;
 use crate::under::least_among;
-use area_rings::{Shape, feature_shape};
+use area_rings::Shape;
 use chart_model::{Cell, Feature};
 use std::alloc::{AllocError, Global};
 
@@ -95,7 +96,7 @@ fn depth_among(
 ) -> Result<Option<i32>, AllocError>
     ensures { IfOk result (λ depth. depth ≡ depth_among areas.now cell.now feature.now) }
 {
-    match feature_shape(alloc, cell, feature)? {
+    match shape_within(alloc, effort, cell, feature)? {
         Some(shape) => least_among(alloc, effort, areas, &shape),
         None => Ok(None),
     }

@@ -10,9 +10,11 @@ ghost use Rattle.depth_values.specs.Hazard.{sounding_of};
 ghost use Rattle.hazard_symbology.specs.Point.{danger_symbol, depth_items, is_isolated, items_by, point_items};
 
 use crate::symbol::symbol_of;
-use area_rings::{Shape, feature_shape};
+use area_rings::Shape;
 use chart_model::{Cell, Feature, ItemList, Settings, Target};
-use depth_values::{DepthAreas, Effort, hazard_depth_at, is_safe_among, push_digits, sounding};
+use depth_values::{
+    DepthAreas, Effort, hazard_depth_at, is_safe_among, push_digits, shape_within, sounding,
+};
 use draw_items::push_item;
 use std::alloc::{AllocError, Global};
 
@@ -67,7 +69,7 @@ fn is_isolated(
     requires { areas.now ≡ areas_of cell.now }
     ensures { IfOk result (λ isolated. isolated ≡ is_isolated cell.now safety_contour feature.now) }
 {
-    let Some(shape) = feature_shape(alloc, cell, feature)? else {
+    let Some(shape) = shape_within(alloc, effort, cell, feature)? else {
         return Ok(false);
     };
     spend_places(effort, &shape)?;

@@ -11,11 +11,11 @@ ghost use Rattle.route_check.specs.Found.{AreOf};
 use crate::depths::hazard_depth;
 use crate::object::Object;
 use crate::target::Target;
-use area_rings::{Shape, feature_shape};
+use area_rings::Shape;
 use chart_model::codes::{AREA, POINT};
 use chart_model::{Cell, Coord, Feature, Key, Name, Settings};
 use depth_values::codes::{OBSTRN, UWTROC, WRECKS};
-use depth_values::{DepthAreas, Effort, is_unsafe_area};
+use depth_values::{DepthAreas, Effort, is_unsafe_area, shape_within};
 use std::alloc::{AllocError, Global};
 
 /// The class of soundings (S-57 Appendix A).
@@ -69,6 +69,7 @@ fn is_shallow(safety_depth: i32, depth: Option<i32>) -> bool
 /// Adds an unsafe area as an object, where it has a shape.
 fn push_area(
     alloc: Global,
+    effort: &mut Effort,
     objects: &mut Vec<Object>,
     from: &Sources,
     rcid: u32,
@@ -77,7 +78,7 @@ fn push_area(
     ensures { OnOk result (objects.new.items
         ≡ objects.old.items ++ whole_of from.now.key rcid (shape_of from.now.cell.now feature.now)) }
 {
-    match feature_shape(alloc, from.cell, feature)? {
+    match shape_within(alloc, effort, from.cell, feature)? {
         Some(shape) => {
             objects.push(Object::new(from.key, rcid, 0, Target::Whole(shape)))?;
             Ok(())
@@ -101,7 +102,7 @@ fn push_hazard(
     ensures objects { OnOk result (objects.new.items ≡ objects.old.items
         ++ hazards_of from.now.settings.now from.now.key from.now.cell.now rcid feature.now) }
 {
-    let Some(shape) = feature_shape(alloc, from.cell, feature)? else {
+    let Some(shape) = shape_within(alloc, effort, from.cell, feature)? else {
         return Ok(());
     };
     let depth = hazard_depth(alloc, effort, areas, from.cell, feature, &shape)?;
@@ -147,6 +148,7 @@ fn push_coords(
 /// Adds the shallow soundings of a feature as objects, where it is a point.
 fn push_soundings(
     alloc: Global,
+    effort: &mut Effort,
     objects: &mut Vec<Object>,
     from: &Sources,
     rcid: u32,
@@ -155,7 +157,7 @@ fn push_soundings(
     ensures { OnOk result (objects.new.items ≡ objects.old.items ++ soundings_in from.now.key rcid
         from.now.settings.now.safety_depth (shape_of from.now.cell.now feature.now)) }
 {
-    match feature_shape(alloc, from.cell, feature)? {
+    match shape_within(alloc, effort, from.cell, feature)? {
         Some(Shape::Points(coords)) => push_coords(objects, from, rcid, coords.as_slice()),
         _ => Ok(()),
     }
@@ -177,11 +179,11 @@ fn push_feature(
         ++ objects_at from.now.settings.now from.now.key from.now.cell.now rcid feature.now) }
 {
     if is_unsafe_area(feature, from.settings.safety_contour) {
-        push_area(alloc, objects, from, rcid, feature)
+        push_area(alloc, effort, objects, from, rcid, feature)
     } else if is_hazard(feature) {
         push_hazard(alloc, effort, objects, areas, from, rcid, feature)
     } else if feature.class == SOUNDG {
-        push_soundings(alloc, objects, from, rcid, feature)
+        push_soundings(alloc, effort, objects, from, rcid, feature)
     } else {
         Ok(())
     }
