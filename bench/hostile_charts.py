@@ -138,6 +138,38 @@ def soundings_of_three_bytes():
             "table": SOUNDINGS, "passage": b"box 10 10\n0 0\n9 9\n"}
 
 
+def edge_pointed_to():
+    """An edge of 12,000 points that returns to its node."""
+    return [corner(1, SIDE, SIDE // 2), edge(1, 1, 1, list(round_points(12_000)))]
+
+
+def areas_of_many_pointers():
+    """80 areas that point 12,000 times each to one edge of 12,000 points."""
+    return {"base": base(edge_pointed_to() + [area(number, [1] * 12_000, UNSAFE) for number in range(1, 81)]),
+            "passage": b"box 10 10\n0 0\n%d %d\n" % (SIDE, SIDE)}
+
+
+def hazards_of_many_pointers():
+    """A depth area, and 80 wrecks at its bottom, areas that point 12,000 times each to its edge."""
+    def hazard(number):
+        identifier = (b"FRID", struct.pack("<BIBBHHB", 100, number, 3, 2, 159, 1, 1))
+        return packed(identifier, (b"FOID", struct.pack("<HIH", 550, number, 1)),
+                      (b"ATTF", texts([(EXPSOU, b"1"), (WATLEV, b"3")])), shown([1] * 12_000))
+
+    records = edge_pointed_to() + [area(1, [1], UNSAFE)] + [hazard(number) for number in range(2, 82)]
+    return {"base": base(records), "table": DEPTH_AREAS + b"WRECKS A 4 - CS(WRECKS02)\n"}
+
+
+def soundings_of_many_pointers():
+    """Soundings that point 9,000 times to a node of 8,000 coordinates."""
+    depths = b"".join(struct.pack("<iii", at, at, 99) for at in range(8_000))
+    pointers = (name(ISOLATED_NODE, 1) + b"\xff\xff\xff") * 9_000
+    feature_of_node = packed((b"FRID", struct.pack("<BIBBHHB", 100, 1, 1, 2, 129, 1, 1)),
+                             (b"FOID", struct.pack("<HIH", 550, 1, 1)), (b"FSPT", pointers))
+    return {"base": base([packed(vector(ISOLATED_NODE, 1), (b"SG3D", depths)), feature_of_node]),
+            "table": SOUNDINGS, "passage": b"box 10 10\n0 0\n9 9\n"}
+
+
 def wrecks_passed():
     """999 legs to and fro past 30,000 wrecks."""
     records = long_areas(1, 100) + wrecks_among(30_000, 1)
@@ -164,4 +196,8 @@ CASES = [
     ("999 legs past 30,000 wrecks", wrecks_passed, PASSED),
     ("2,500,000 soundings, drawn", soundings_of_three_bytes, DRAWN),
     ("2,500,000 soundings, passed by a leg", soundings_of_three_bytes, PASSED),
+    ("80 areas of 12,000 pointers, passed by a leg", areas_of_many_pointers, PASSED),
+    ("80 wrecks of 12,000 pointers, drawn", hazards_of_many_pointers, DRAWN),
+    ("soundings of 9,000 pointers, drawn", soundings_of_many_pointers, DRAWN),
+    ("soundings of 9,000 pointers, passed by a leg", soundings_of_many_pointers, PASSED),
 ]
