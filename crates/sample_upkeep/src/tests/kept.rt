@@ -1,7 +1,6 @@
 //! What is kept of a chart, made and brought up to date.
 
 ghost use Rattle.std.specs.Prelude.{◌≡◌, ◌<◌, IfOk, OnOk};
-ghost use Rattle.sample_upkeep.specs.Kept.{IsKeptOf};
 ghost use Rattle.spatial_grid.specs.Box.{IsGridOf};
 ghost use Rattle.topology_cache.specs.Users.{AreUsersOf};
 
@@ -36,7 +35,8 @@ fn users_with<C: Ledger>(alloc: Global, cell: &Cell, blank: Blank) -> Result<Use
 
 /// What is kept of a chart, made anew.
 pub fn kept_of(alloc: Global, cell: &Cell) -> Result<Kept, AllocError>
-    ensures { IfOk result (IsKeptOf cell.now) }
+    ensures users { IfOk result (λ kept. AreUsersOf cell.now kept.users) }
+    ensures grid { IfOk result (λ kept. IsGridOf cell.now kept.grid) }
 {
     let users = users_with::<Brand>(alloc, cell, Blank::new(1))?;
     let grid = grid_of(alloc, cell)?;
@@ -84,8 +84,10 @@ fn absorb_grid(alloc: Global, grid: &mut Grid, old: &Cell, new: &Cell) -> Result
 
 /// The chart that changes leave, with what is kept brought up to date with it.
 pub fn updated(alloc: Global, kept: &mut Kept, cell: &Cell, rows: &[Row]) -> Result<Cell, Fail>
-    requires { IsKeptOf cell.now kept.old }
-    ensures { IfOk result (λ new. IsKeptOf new kept.new) }
+    requires users { AreUsersOf cell.now kept.old.users }
+    requires grid { IsGridOf cell.now kept.old.grid }
+    ensures users { IfOk result (λ new. AreUsersOf new kept.new.users) }
+    ensures grid { IfOk result (λ new. IsGridOf new kept.new.grid) }
 {
     let mut new = cell.copy(alloc)?;
     add_rows(alloc, &mut new, rows)?;

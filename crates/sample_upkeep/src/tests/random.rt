@@ -1,7 +1,8 @@
 //! Updates at random.
 
 ghost use Rattle.std.specs.Prelude.{IfOk};
-ghost use Rattle.sample_upkeep.specs.Kept.{IsKeptOf};
+ghost use Rattle.spatial_grid.specs.Box.{IsGridOf};
+ghost use Rattle.topology_cache.specs.Users.{AreUsersOf};
 
 use super::kept::{Kept, is_as_anew, kept_of, updated};
 use super::updates::CHART;
@@ -66,8 +67,10 @@ fn under(rcid: u32, row: &Row) -> Row {
 
 /// A feature of a number up to 12 comes, where there is none, and else goes or is replaced.
 fn feature_changed(alloc: Global, kept: &mut Kept, cell: &Cell, number: u32) -> Result<Cell, Fail>
-    requires { IsKeptOf cell.now kept.old }
-    ensures { IfOk result (λ new. IsKeptOf new kept.new) }
+    requires users { AreUsersOf cell.now kept.old.users }
+    requires grid { IsGridOf cell.now kept.old.grid }
+    ensures users { IfOk result (λ new. AreUsersOf new kept.new.users) }
+    ensures grid { IfOk result (λ new. IsGridOf new kept.new.grid) }
 {
     let rcid = 1 + (number >> 8) % 12;
     let rows = [
@@ -85,8 +88,10 @@ fn feature_changed(alloc: Global, kept: &mut Kept, cell: &Cell, number: u32) -> 
 
 /// A node moves, or a feature changes.
 fn changed(alloc: Global, kept: &mut Kept, cell: &Cell, number: u32) -> Result<Cell, Fail>
-    requires { IsKeptOf cell.now kept.old }
-    ensures { IfOk result (λ new. IsKeptOf new kept.new) }
+    requires users { AreUsersOf cell.now kept.old.users }
+    requires grid { IsGridOf cell.now kept.old.grid }
+    ensures users { IfOk result (λ new. AreUsersOf new kept.new.users) }
+    ensures grid { IfOk result (λ new. IsGridOf new kept.new.grid) }
 {
     if (number >> 24) % 8 == 0 {
         updated(alloc, kept, cell, &MOVES[(number >> 16) as usize % 2])

@@ -1,6 +1,7 @@
 -- what is kept is that of the chart
-use Rattle.sample_upkeep.specs.Kept.{IsKeptOf}
+use Rattle.spatial_grid.specs.Box.{IsGridOf}
+use Rattle.topology_cache.specs.Users.{AreUsersOf}
 use Rattle.sample_upkeep.proofs.tests.random.random_updates.Given as goal
 
 abbrev pub invariant-loop-at : goal.invariant-loop-at
-invariant-loop-at g l = IsKeptOf l.cell l.kept
+invariant-loop-at g l = AreUsersOf l.cell l.kept.users × IsGridOf l.cell l.kept.grid
