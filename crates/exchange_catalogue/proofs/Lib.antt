@@ -1,0 +1,11 @@
+mod Counted
+mod EntriesSoFar
+mod Failing
+mod Limits
+mod Listed
+mod Members
+mod Names
+mod Noted
+mod Putting
+mod Sorted
+mod Spelled

@@ -1,0 +1,7 @@
+pub mod Answers
+pub mod CellNames
+pub mod Entries
+pub mod Catalogue
+pub mod Paths
+pub mod Orders
+pub mod Firsts
