@@ -177,6 +177,39 @@ def wrecks_passed():
     return {"base": base(records), "passage": b"box 10000 10000\n" + legs}
 
 
+def ringed(number, x, y, side, depths):
+    """A square area of one edge of its own, with the edge and its node."""
+    around = [(x, y + side), (x + side, y + side), (x + side, y)]
+    return corner(number, x, y) + edge(number, number, number, around) + area(number, [number], depths)
+
+
+def areas_of_many_instructions():
+    """20,000 areas, for each of which the table calls a procedure 80,000 times."""
+    squares = [ringed(number, number * 10, 0, 10, UNSAFE) for number in range(1, 20_001)]
+    return {"base": base(squares), "table": b"DEPARE A 1 - " + b";".join([b"CS(DEPARE01)"] * 80_000) + b"\n"}
+
+
+FULL_CELLS = [b"FULL%d" % number for number in range(1, 33)]
+
+
+def full_cells():
+    """32 cells of 7,000 areas each, in rows one above the other: all that a store takes."""
+    cells = {cell.decode(): base([ringed(number, number * 100, row * 1_000, 99, UNSAFE) for number in range(1, 7_001)],
+                                 cell=cell) for row, cell in enumerate(FULL_CELLS)}
+    legs = b"".join(b"%d %d\n" % (700_000 * (at % 2), 32 * at) for at in range(1_000))
+    return cells | {"table": DEPTH_AREAS, "passage": b"box 10 10\n" + legs}
+
+
+def areas_in_many_buckets():
+    """999 legs over 36,000 wrecks and 10,000 areas, each of which covers 8 by 8 buckets of the grid."""
+    wide = [ringed(number, number * 500 % (SIDE * 7 // 8), number * 300 % (SIDE * 7 // 8), SIDE // 9, UNSAFE)
+            for number in range(1, 10_001)]
+    points = [place(number, x, y) + wreck(10_000 + number, number)
+              for number, (x, y) in enumerate(scattered(36_000), 1)]
+    legs = b"".join(b"%d %d\n" % (SIDE * (at % 2), SIDE * at // 1_000) for at in range(1_000))
+    return {"base": base(wide + points), "passage": b"box 1000 1000\n" + legs}
+
+
 DRAWN = b"load base\ndraw %s\n" % HELD
 PASSED = b"load base\nroute passage\n"
 
@@ -200,4 +233,10 @@ CASES = [
     ("80 wrecks of 12,000 pointers, drawn", hazards_of_many_pointers, DRAWN),
     ("soundings of 9,000 pointers, drawn", soundings_of_many_pointers, DRAWN),
     ("soundings of 9,000 pointers, passed by a leg", soundings_of_many_pointers, PASSED),
+    ("20,000 areas of 80,000 instructions, drawn", areas_of_many_instructions, DRAWN),
+    ("32 full cells, drawn", full_cells, b"".join(b"load %s\n" % cell for cell in FULL_CELLS)
+     + b"".join(b"draw %s\n" % cell for cell in FULL_CELLS)),
+    ("32 full cells, passed by 999 legs", full_cells, b"".join(b"load %s\n" % cell for cell in FULL_CELLS)
+     + b"route passage\n"),
+    ("999 legs over areas in many buckets", areas_in_many_buckets, PASSED),
 ]

@@ -33,6 +33,8 @@ ROWS = {
 ISOLATED_NODE, CONNECTED_NODE, EDGE = 110, 120, 130
 INSERT, DELETE, MODIFY = 1, 2, 3
 LARGEST = 8_000_000
+# The key of the cell that most cases make.
+HELD = b"HOSTILE"
 
 
 def descriptor(labels, formats, about=b""):
@@ -65,17 +67,17 @@ def packed(*fields):
     return spans(entries, area)
 
 
-def head(update=0):
-    """The first records of a base file, or of an update with this number."""
+def head(update=0, cell=HELD):
+    """The first records of a base file of a cell, or of an update with this number."""
     profile = 2 if update else 1
-    first = packed((b"DSID", UNIT.join((b"HOSTILE.000", b"1", b"%d" % update, b"20240101"))
+    first = packed((b"DSID", UNIT.join((cell + b".000", b"1", b"%d" % update, b"20240101"))
                     + struct.pack("<BH", profile, 550)))
     scale = packed((b"DSPM", struct.pack("<IBBII", 10_000, 1, 1, 10_000_000, 10)))
     return first + (b"" if update else scale)
 
 
-def base(records, **rows):
-    return whole(descriptive(**rows) + head() + b"".join(records))
+def base(records, cell=HELD, **rows):
+    return whole(descriptive(**rows) + head(cell=cell) + b"".join(records))
 
 
 def update(records, number=1, **rows):
@@ -301,8 +303,6 @@ def many_groups_twice():
 
 
 # Numbers of things at which the code changes its way.
-
-HELD = b"HOSTILE"
 
 
 def placed_node(number=1):
