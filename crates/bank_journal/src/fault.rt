@@ -1,4 +1,7 @@
 //! Why a bank is not opened, and why a record is not appended.
+//!
+//! An append takes no memory and reads nothing, so it can neither want memory nor find foreign bytes; an opening needs
+//! no room. So each has a type of its own.
 
 ghost use Rattle.std.specs.Prelude.{◌≡◌};
 ghost use Rattle.bank_journal.specs.declared.fault.AppendFault.TheVariants.{DeskFault as AppendFailed};

@@ -1,4 +1,7 @@
 //! Records copied behind a checkpoint, into a bank that no head names.
+//!
+//! A record isn't synced here before its gate is opened, as one is that is appended to the current bank: whatever a
+//! crash leaves of this file, no head names it yet. So one sync at the end is enough, however many records there are.
 
 ghost use Rattle.std.specs.Prelude.{◌≡◌, ◌+◌, ◌<◌, ◌≤◌, ℕ, List, [], ◌∷◌, ◌++◌, IsTrue, OnOk, length, take};
 ghost use Rattle.std.specs.List.{sum_by};

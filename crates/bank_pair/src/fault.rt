@@ -1,4 +1,6 @@
 //! Why no save begins.
+//!
+//! A save that begins takes no memory and asks no desk, so want of room is all that can be in its way.
 
 use thiserror::Error;
 

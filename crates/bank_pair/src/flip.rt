@@ -1,4 +1,7 @@
 //! The end of a save: the other bank becomes the current one.
+//!
+//! The head is written last, when the other bank is on the disk. It is one byte whose lowest bit decides, so a crash
+//! inside its write leaves a head that names one bank or the other, and either is whole.
 
 ghost use Rattle.std.specs.Prelude.{◌≡◌, ◌≤◌, ℕ, List, None, IsTrue, OnErr, OnOk};
 ghost use Rattle.chart_ports.specs.Count.{HasCause};

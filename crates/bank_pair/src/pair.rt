@@ -1,4 +1,8 @@
 //! Two banks, of which one is the current one, and a save into the other.
+//!
+//! What is appended while a save goes on is in no checkpoint, so its frames are kept: they are copied behind the
+//! checkpoint at the end. Where the other bank's closed gate will stand is counted along, so that an append knows the
+//! room in both.
 
 ghost use Rattle.std.specs.Prelude.{◌≡◌, ◌+◌, ◌<◌, ◌≤◌, [], None, length};
 ghost use Rattle.std.specs.Option.{ForSome};

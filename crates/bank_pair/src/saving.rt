@@ -1,4 +1,7 @@
 //! A save, from its beginning to its last slice.
+//!
+//! A checkpoint may be nearly as long as a bank, 268,435,456 bytes. So it is written in slices of 65,536, between which
+//! records may be appended, and into the other bank alone: what a crash leaves of it doesn't count.
 
 ghost use Rattle.std.specs.Prelude.{◌≡◌, ◌≢◌, ◌↔◌, ◌+◌, ◌*◌, ◌<◌, ◌≤◌, [], ℕ, List, None, Some};
 ghost use Rattle.std.specs.Prelude.{Err, IfErr, IfOk, IsTrue, OnErr, OnOk, length, take};

@@ -1,4 +1,7 @@
 //! Why a cell is not written: the limits of the formats, and want of memory.
+//!
+//! The length of a record has five digits in its leader (ISO/IEC 8211), and a file that is written may be no longer
+//! than one that can be loaded. The least name with a record that is too long is told, so that a cell has one fault.
 
 ghost use Rattle.std.specs.Prelude.{◌≡◌};
 ghost use Rattle.cell_bytes.specs.declared.fault.WriteFault.TheVariants.{NoMemory};

@@ -1,5 +1,8 @@
 //! Cells as bytes: a cell is written as a base file (S-57 Appendix B.1), whose bytes are a file of records with the
 //! cell's values (ISO/IEC 8211); and cells and updates for trials.
+//!
+//! It stands on no reader of S-57's fields, so its definitions say what is written without saying how it is read.
+//! `cell_writer`, which stands on both, has that a closed chart reads back as the same chart.
 #![tactic(auto)]
 
 mod data_set;

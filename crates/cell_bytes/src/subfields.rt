@@ -1,5 +1,8 @@
 //! Subfields as bytes (ISO/IEC 8211, user data), by the formats that the data descriptive record gives them: numbers
 //! with the least significant byte first (S-57 Part 3), and texts up to a unit terminator.
+//!
+//! A file that is read may have more formats than these. The fields that are written need no others: a text with a
+//! width is its bytes alone, and a name in a string of bits (NAME, LNAM) is a row of such numbers.
 
 ghost use Rattle.std.specs.Prelude.{◌≡◌, ◌++◌, OnOk};
 ghost use Rattle.cell_bytes.specs.Subfields.{b11, b12, b14, b24, open_text};

@@ -1,4 +1,7 @@
 //! Cells as files: the order of the records, and what is told of a cell that can't be written.
+//!
+//! Vectors are written before features, though a feature's name is less (RCNM 100). So a fault among the features is
+//! told before one among the vectors, which came up first.
 
 ghost use Rattle.chart_model.specs.Answers.{unless};
 ghost use Rattle.std.specs.Prelude.{IfOk};

@@ -1,4 +1,7 @@
 //! Why a chart isn't closed.
+//!
+//! A chart has one fault, whoever looks for it, so the faults of a record have an order: where it points to comes
+//! before what is made of its pointers, the line of an edge and the rings of an area.
 
 use chart_model::Name;
 use thiserror::Error;

@@ -1,4 +1,7 @@
 //! Records that are told apart, field by field: what is drawn and reported depends on each of them.
+//!
+//! Lists are compared item by item, whatever memory they share. A record whose version alone has risen is another one:
+//! its version tells which change may follow.
 
 ghost use Rattle.std.specs.Prelude.{◌≡◌};
 ghost use Rattle.std.specs.Option.{option_copied};

@@ -1,4 +1,7 @@
 //! Cells and their records (S-57 Part 3, section 3).
+//!
+//! A feature has no place of its own, and points to the vector records that give it one, so the two kinds are two maps.
+//! An edge's own coordinates leave out those of its nodes, to which it points (chain-node topology).
 
 ghost use Rattle.std.specs.Prelude.{◌≡◌, IfOk};
 ghost use Rattle.chart_model.specs.Cell.{IsChartHeader, empty_cell};

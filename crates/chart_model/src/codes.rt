@@ -1,4 +1,7 @@
 //! The codes of S-57 Part 3 and of ISO/IEC 8211.
+//!
+//! They are for code alone. Definitions have a list of their own, or a code that is wrong would be wrong on both sides
+//! of a contract.
 
 /// The record name (RCNM) of a feature record.
 pub const FEATURE: u8 = 100;

@@ -1,4 +1,7 @@
 //! What a cell file says: its header and the changes that its records stand for.
+//!
+//! Base files and updates are one type: the records of a base file are changes that insert, and a chart is made by the
+//! same changes in either case. An update of edition 0 cancels its cell, and has none.
 
 use crate::key::Key;
 use crate::sequence::Sequence;

@@ -1,4 +1,7 @@
 //! The plain values that the chart kernel speaks of.
+//!
+//! Almost every crate stands on this one, so that two crates can speak of a value without standing on each other.
+//! Contracts see its types as lists, finite maps and records of these, whatever memory they share or have left.
 #![tactic(auto)]
 
 mod attr_map;

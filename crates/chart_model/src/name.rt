@@ -1,4 +1,7 @@
 //! Names of records and of feature objects.
+//!
+//! Records point to each other by name, so an update can insert and delete records without touching any that points
+//! elsewhere. The order of names, by kind and then by number, is the one in which the first fault of a chart is told.
 
 use crate::sequence::Sequence;
 

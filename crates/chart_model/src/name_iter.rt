@@ -1,4 +1,7 @@
 //! The walk over the records of a map, page by page.
+//!
+//! The records of a page are a slice, so the tree of pages is asked once for each page. No page of a map is empty:
+//! where there is one left, there is a record.
 
 ghost use Rattle.std.specs.Prelude.{◌≡◌, ◌++◌, length};
 ghost use Rattle.std.specs.Iterator.{at_most};

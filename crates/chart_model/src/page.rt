@@ -1,4 +1,7 @@
 //! Pages: the few records whose names lie side by side, in one block.
+//!
+//! An update copies the pages that it touches, so a page is small; the numbers of records mostly have no gaps, so the
+//! place of a record is guessed from its number before it is searched for.
 
 ghost use Rattle.std.specs.Prelude.{◌≡◌, ◌<◌, T, IfOk, IfErr, OnOk, OnErr, IfSome, IsTrue, length};
 ghost use Rattle.std.specs.Option.{option_copied};

@@ -1,4 +1,7 @@
 //! Edits of one record, as edits of its page.
+//!
+//! A page and a record may each be shared with another chart. So an edit is handed inwards, through the page and then
+//! through the record's pointer, and each of the two copies what it has only where that is shared still.
 
 ghost use Rattle.std.specs.Prelude.{◌≡◌, IfSome};
 ghost use Rattle.std.specs.FinMap as map;

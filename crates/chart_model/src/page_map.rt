@@ -1,4 +1,7 @@
 //! Pages by their names, each behind a pointer that copies of the map share.
+//!
+//! So a copy of a chart costs a pointer for a page of 64 numbers, and an edit copies the one page that it touches, and
+//! only where another map has that still.
 
 ghost use Rattle.std.specs.Prelude.{◌≡◌, ◌/◌, if◌then◌else◌, Some, None, IfSome, IfOk, OnOk, OnErr};
 ghost use Rattle.std.specs.Option.{option_copied};

@@ -1,4 +1,7 @@
 //! The parts of vector and feature records (S-57 Part 3).
+//!
+//! ORNT, USAG, TOPI and MASK stay the numbers that a file has, the null value 255 among them, so that a chart which is
+//! written again says the same. A depth is in centimetres, ten times the VE3D of a file.
 
 ghost use Rattle.std.specs.Prelude.{◌≡◌};
 

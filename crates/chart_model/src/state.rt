@@ -1,4 +1,7 @@
 //! The cells that are held: their files and their charts.
+//!
+//! The live files are kept whole beside the chart that they build: a rollback builds the chart of the first of them
+//! anew, and whether a file may follow is asked of the numbers that the last ones left.
 
 ghost use Rattle.std.specs.Prelude.{◌≡◌, IfOk};
 

@@ -1,4 +1,7 @@
 //! Cells in the order of their keys.
+//!
+//! Each key has to come behind the one before, so no cell stands twice, and a state has one spelling. A cell without a
+//! file is none: what is held of it comes from its live files, the base file first.
 
 ghost use Rattle.std.specs.Prelude.{◌≡◌, ◌++◌, length, OnOk};
 ghost use Rattle.std.specs.List.{AllByRecursion, flat_map};

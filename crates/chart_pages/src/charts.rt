@@ -1,4 +1,7 @@
 //! Charts.
+//!
+//! Of a chart's header the date of issue, the agency and the scale are written: its key, edition and update are those
+//! of its cell, which stand before it. A cell that is cancelled has no chart, and no byte for one.
 
 ghost use Rattle.std.specs.Prelude.{◌≡◌, ◌++◌, OnOk, IfSome};
 ghost use Rattle.chart_model.specs.State.{IsHeld};

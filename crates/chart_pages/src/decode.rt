@@ -1,4 +1,7 @@
 //! States of bytes.
+//!
+//! The bytes have to be used up, so nothing may stand behind the last cell. That they spell no state is an answer,
+//! since any bytes may come from a disk; where they go wrong isn't told.
 
 ghost use Rattle.std.specs.Prelude.{◌≡◌, IfOk, IfSome, IfNone};
 ghost use Rattle.chart_model.specs.State.{StateValue};

@@ -1,4 +1,6 @@
 //! Bytes of states.
+//!
+//! Every state has a spelling, so want of memory is all that can be answered in its place.
 
 ghost use Rattle.std.specs.Prelude.{◌≡◌, IfOk};
 ghost use Rattle.chart_pages.specs.Grammar.{Spells, spelling};

@@ -1,4 +1,7 @@
 //! Feature records.
+//!
+//! RCNM isn't written: it is 100 for each of them (S-57 Part 3). A primitive other than 1, 2, 3 and 255, and a pointer
+//! with a topology (TOPI), which only an edge's pointers have, are refused.
 
 ghost use Rattle.std.specs.Prelude.{◌≡◌};
 ghost use Rattle.page_parts.specs.Reader.{Finds};

@@ -1,4 +1,7 @@
 //! Keys, and the numbers that are held of a cell.
+//!
+//! EDTN and UPDN have at most nine digits, and a base file's edition isn't 0, so greater numbers and edition 0 are held
+//! of no cell, and are refused. Of the bytes of a flag 0 and 1 alone are read, so that it has one spelling.
 
 ghost use Rattle.std.specs.Prelude.{◌≡◌, ◌++◌, OnOk, IfOk};
 ghost use Rattle.chart_model.specs.State.{IsHeld};

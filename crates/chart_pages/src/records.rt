@@ -1,4 +1,7 @@
 //! The records of a chart, in the order of their names.
+//!
+//! Vectors and features are walked in the same way, by what their trait says of one record. Each name has to come
+//! behind the one before, so no record stands twice, and a chart has one spelling.
 
 ghost use Rattle.std.specs.Prelude.{◌≡◌, ◌++◌, length, OnOk};
 ghost use Rattle.std.specs.List.{AllByRecursion, flat_map};

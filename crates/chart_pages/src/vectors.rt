@@ -1,4 +1,7 @@
 //! Vector records.
+//!
+//! Their names are written whole, since isolated nodes, connected nodes and edges (RCNM 110, 120 and 130, S-57 Part 3)
+//! stand in one list. A name of another kind is refused.
 
 ghost use Rattle.std.specs.Prelude.{◌≡◌};
 ghost use Rattle.page_parts.specs.Reader.{Finds};

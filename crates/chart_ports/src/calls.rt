@@ -1,4 +1,7 @@
 //! The calls of a source, a shelf or a desk in memory: which are to fail, how many were made, and how many failed.
+//!
+//! Calls have numbers, so a test can have each of them fail in turn. Each failure is counted, as every port does: a
+//! contract takes a failure's cause from the count, which code over a port can't raise itself.
 
 ghost use Rattle.std.specs.Prelude.{◌≡◌, ◌≤◌, ◌↔◌, IsTrue, IsErr, OnOk, Contains, []};
 ghost use Rattle.chart_ports.specs.Count.{HasCause, Rose};

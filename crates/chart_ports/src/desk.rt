@@ -1,4 +1,7 @@
 //! A disk of three files, and where replies are said, under one clock.
+//!
+//! A reply promises that its command outlives a crash. That can be said only where what the disk leaves and what was
+//! said by then belong to one moment, so saying is a call of the desk and no port of its own.
 
 ghost use Rattle.std.specs.Prelude.{◌≡◌, ◌-◌, ◌≤◌, ◌++◌, Bool, List, ℕ, IfOk, IsTrue, OnOk, OnErr};
 ghost use Rattle.std.specs.Prelude.{length, min, take, drop};

@@ -1,4 +1,7 @@
 //! The desk of a folder: the files of a store, and what is said on standard output.
+//!
+//! The folder and the files are made at the first call on one of them, and saying makes none. So a run that ends before
+//! its store is opened makes nothing there.
 
 ghost use Rattle.std.specs.Prelude.{◌≡◌, ◌≤◌, ⊤, [], false, IsTrue, IfOk, OnErr, OnOk, Ok, length};
 ghost use Rattle.std.proofs.Common.{refl};

@@ -1,4 +1,8 @@
 //! The files under the current folder, as a shelf.
+//!
+//! Names come from a script, so those that lead out of the folder are answered as absent, whatever files there are;
+//! links inside it are followed. Of a file one byte more than the limit is read at most: it tells that the file is too
+//! long.
 
 ghost use Rattle.std.specs.Prelude.{◌≡◌, ◌<◌, ◌≤◌, None, Some, false, IsTrue, IfOk, IfSome, IsErrOf, Ok, length};
 ghost use Rattle.chart_ports.specs.Count.{LAST, Rose, one_more};

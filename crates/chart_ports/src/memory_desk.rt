@@ -1,4 +1,7 @@
 //! A desk in memory, which tells contracts all that it holds and has said, and what a crash may leave.
+//!
+//! It logs each call, so that a test can have a crash behind any of them, and a clause can speak of the moments inside
+//! one. A write that is to fail writes half of its bytes, as one on a failing disk may.
 
 ghost use Rattle.std.specs.Prelude.{◌≡◌, ◌-◌, ◌/◌, ◌≤◌, ◌++◌, ◌+◌, [], List, ℕ, true, IfOk, OnOk, OnErr, IsErr};
 ghost use Rattle.std.specs.Prelude.{IsTrue, length, min, take, drop};

@@ -1,4 +1,7 @@
 //! A shelf in memory, which tells contracts its files.
+//!
+//! A real folder tells contracts nothing, so a clause about what a file holds says something of this shelf alone. A
+//! file that is fetched is a copy: the shelf keeps its own.
 
 ghost use Rattle.std.specs.Prelude.{◌≡◌, ◌≤◌, ℕ, List, None, Some, true};
 ghost use Rattle.std.specs.Prelude.{IfOk, OnErr, OnOk, IsErrOf, string_bytes, if◌then◌else◌};

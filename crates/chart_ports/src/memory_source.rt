@@ -1,4 +1,7 @@
 //! A source in memory, which tells contracts its bytes.
+//!
+//! A pull may give fewer bytes than there is room for, as one from a pipe does: with a pace of its own a source makes
+//! pulls end in the middle of lines.
 
 ghost use Rattle.std.specs.Prelude.{◌≡◌, ◌+◌, ◌<◌, ◌≤◌, ◌++◌, ◌↔◌, [], true, IsTrue, IsErr};
 ghost use Rattle.std.specs.Prelude.{IfOk, OnErr, OnOk, Ok, length, min, take, drop, vec_len};

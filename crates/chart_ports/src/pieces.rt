@@ -1,4 +1,7 @@
 //! Whole reads and writes, made of the pieces in which the system takes and gives bytes.
+//!
+//! The system may move fewer bytes than it was asked to, or none where a signal comes, and neither is a fault. Both are
+//! tried on, but not without end: one interruption more than 64 is a fault.
 
 ghost use Rattle.std.specs.Prelude.{◌≡◌, ◌<◌, ◌≤◌, take, length, IfOk, OnOk};
 ghost use Rattle.std.specs.Io.KnownBytes.{Appends, Consumes, IsAtEnd, ReadConsumes};

@@ -1,4 +1,7 @@
 //! What a log of calls leaves, call by call, with the bytes that are uncertain filled.
+//!
+//! A desk keeps the files that it began with, those of now and the log between, and no image of other moments. So a
+//! call costs what it writes, and the images of a moment are made where a test asks for them, by the calls up to it.
 
 ghost use Rattle.std.specs.Prelude.{◌≡◌, ◌≤◌, ◌-◌, List, ℕ, OnOk, IfOk, length, take};
 ghost use Rattle.chart_ports.specs.Disk.{with_bytes};

@@ -1,4 +1,7 @@
 //! A collection of files that are fetched whole, by name.
+//!
+//! The length of a file isn't the program's to choose, so each fetch has a limit, past which no bytes are answered.
+//! That there is no file of a name is an answer; that the shelf failed says nothing of the file.
 
 ghost use Rattle.std.specs.Prelude.{◌≡◌, ◌≤◌, Bool, List, ℕ, Option, IsTrue, IfOk, IsErrOf};
 ghost use Rattle.chart_ports.specs.Count.{Rose};

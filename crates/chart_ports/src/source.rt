@@ -1,4 +1,7 @@
 //! A stream of bytes that is read once, from front to end.
+//!
+//! A script may be longer than what is kept of it, so it is pulled in pieces into the caller's buffer. `Failed`, which
+//! stands beside it, is what a desk answers too.
 
 ghost use Rattle.std.specs.Prelude.{◌≡◌, ◌+◌, ◌<◌, ◌≤◌, ◌++◌, ◌↔◌, Bool, List, ℕ};
 ghost use Rattle.std.specs.Prelude.{[], IsTrue, IfOk, IfErr, OnErr, Ok, length, min, take};

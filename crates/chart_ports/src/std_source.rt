@@ -1,4 +1,7 @@
 //! Standard input, as a source.
+//!
+//! A pull isn't filled up by further reads. So a line that comes through a pipe can be answered when it is there,
+//! before the next one is written.
 
 ghost use Rattle.std.specs.Prelude.{◌≡◌, ◌+◌, ◌<◌, ◌≤◌, ◌↔◌, [], false, IsTrue, IfOk, OnErr, OnOk, Ok, length, min};
 ghost use Rattle.std.specs.Io.KnownBytes.{ReadConsumes};

@@ -1,4 +1,7 @@
 //! A count of steps that costs nothing: of decoded records, or of features looked at.
+//!
+//! A clause bounds by it how much a call looks at. The blank of a ledger, of which a count is made, is in the hands of
+//! the program's start and of tests alone: code below can't begin a count of its own and leave this one as it was.
 
 ghost use Rattle.std.specs.Prelude.{◌≡◌, ◌+◌, ◌<◌};
 

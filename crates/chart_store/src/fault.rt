@@ -1,4 +1,7 @@
 //! Why a file is not taken over.
+//!
+//! Each crate below has faults of its own, which become rows of the one table of refusals here. A file is judged
+//! without a desk, so no fault of the disk is among them: `SubmitFault` has it beside these.
 
 ghost use Rattle.std.specs.Prelude.{◌≡◌};
 ghost use Rattle.chart_store.specs.declared.fault.TakeFault.TheVariants.{NoMemory};

@@ -1,4 +1,7 @@
 //! The cells that are held, and the limits of what may be held.
+//!
+//! The bytes of all live files are kept as a number, so that a file which is loaded is held against the limit by what
+//! it replaces alone, without a walk over the files of other cells.
 
 ghost use Rattle.std.specs.Prelude.{◌≡◌, ◌≤◌, ℕ, List, IfOk, IfSome, IsSome, IsOk, OnOk, OnErr};
 ghost use Rattle.std.specs.FinMap as map;

@@ -1,4 +1,7 @@
 //! What a command makes of its cell, before it is put in place.
+//!
+//! It is made whole before the command's record is written. Where that can't be kept this is let go again, and what is
+//! held is as it was.
 
 use chart_model::{Held, Holding, Key, NameList};
 

@@ -1,4 +1,7 @@
 //! Why a store is not opened.
+//!
+//! Bytes that are no store's are told from a disk that fails, by file and place. A bank that is whole may be foreign
+//! too, where the command of one of its records is none, or is refused.
 
 ghost use Rattle.std.specs.Prelude.{◌≡◌};
 ghost use Rattle.chart_store.specs.declared.open_fault.OpenFault.TheVariants.{DeskFault, NoMemory};

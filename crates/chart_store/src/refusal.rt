@@ -1,4 +1,7 @@
 //! Why a store refuses a command.
+//!
+//! A refusal follows from the command, from what is held and from the room in the bank. Want of memory and a fault of
+//! the desk follow from none of these, so they are no refusals, and a script is never told one for them.
 
 use chart_model::{Foid, Key, Name};
 use thiserror::Error;

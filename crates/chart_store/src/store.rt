@@ -1,4 +1,7 @@
 //! A store: what is held, and the journal that keeps it.
+//!
+//! A command that is accepted is on the disk when it is answered, and any other leaves what is held as it was. So what
+//! a crash leaves is never behind what was answered, and ahead of it by no more than the command at hand.
 
 ghost use Rattle.std.specs.Prelude.{◌≡◌};
 

@@ -1,4 +1,7 @@
 //! Why a store does not accept a command.
+//!
+//! It is what `LiveCells::take` may answer and the fault of the desk beside it. After that one what the disk holds is
+//! known only by reading it again, so it ends the store, and the others don't.
 
 ghost use Rattle.std.specs.Prelude.{◌≡◌};
 ghost use Rattle.chart_store.specs.declared.submit_fault.SubmitFault.TheVariants.{NoMemory};

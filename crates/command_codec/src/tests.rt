@@ -1,4 +1,7 @@
 //! Bytes worked out by hand from the format.
+//!
+//! A command is written and read over the same bytes, none of which was made by the writer, so that the two can't be
+//! wrong alike. Bytes that come near a command and spell none are read too.
 
 use super::*;
 use chart_model::{Command, Key, Octets};

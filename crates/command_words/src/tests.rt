@@ -1,4 +1,7 @@
 //! Words of the command line, with what they say worked out by hand.
+//!
+//! Each range is met at its ends and past its end. The other rows are words that are easily taken by mistake: `+1` and
+//! `01` for numbers, an option that is given twice, a value of `--pattern`.
 
 use super::*;
 use chart_model::{Settings, Shades};

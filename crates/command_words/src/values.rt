@@ -1,4 +1,7 @@
 //! The values of the options. Depths are in centimetres.
+//!
+//! Each value is a text to `clap`, which would take more spellings of a number (`+1`, `007`), and is read here. The
+//! defaults stand here too: an option that isn't among the words has no text, and `clap` makes none up.
 
 ghost use Rattle.std.specs.Prelude.{◌≡◌, codes, option_map};
 ghost use Rattle.clap.specs.Words.{first_of, found_of, rows_of};

@@ -1,4 +1,9 @@
 //! All that the program does.
+//!
+//! It is generic in the devices. What its contract says of every byte that is said, and of what a crash leaves, is said
+//! over devices that tell what they hold, and the same code runs over the real ones, which tell nothing. The words come
+//! first, then the catalogue and the table, then the store: a run that ends at the words or at either file has read
+//! nothing of the script, written nothing and said nothing.
 
 mod answer;
 mod devices;

@@ -1,4 +1,8 @@
 //! The program over devices in memory.
+//!
+//! `run_ecdis` is called as `main` calls it, with devices of which a call of any number can fail: so a case is a
+//! script, the call that fails, the status, and every byte that is said. The built program over real files is the
+//! matter of the runners in `conformance/`.
 
 mod crashes;
 mod files;

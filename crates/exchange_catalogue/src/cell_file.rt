@@ -1,4 +1,7 @@
 //! The cell files that a catalogue lists.
+//!
+//! A catalogue lists other files too: a cell file is one that is binary and has a cell file's name. Two folders may
+//! have a file of one name, so the place in the catalogue is part of what a file is loaded by.
 
 ghost use Rattle.std.specs.Prelude.{◌≡◌, IfOk, option_map};
 ghost use Rattle.exchange_catalogue.specs.Paths.{cell_path_of};

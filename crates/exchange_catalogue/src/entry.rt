@@ -1,4 +1,7 @@
 //! What a catalogue lists.
+//!
+//! Of the field CATD the path and the implementation are kept, which tell a cell file from the others. The number leads
+//! back to the record, where its path is refused.
 
 use chart_model::{Octets, Sequence};
 

@@ -1,4 +1,7 @@
 //! Why a catalogue is not read, and why its cell files have no load order.
+//!
+//! A catalogue is read whole before its cell files are put in order. A path that isn't fetched is a fault of the order
+//! alone, and only where it is that of a cell file: what else the set has doesn't matter.
 
 ghost use Rattle.std.specs.Prelude.{◌≡◌};
 ghost use Rattle.exchange_catalogue.specs.declared.fault.OrderFault.TheVariants.{NoMemory};

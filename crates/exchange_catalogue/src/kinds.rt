@@ -1,4 +1,7 @@
 //! What the subfields of a catalogue's entries may hold.
+//!
+//! Any text is taken for either. Which paths are fetched is asked where the files are put in order, and of an
+//! implementation it only matters whether it is `BIN`.
 
 ghost use Rattle.std.specs.Prelude.{◌≡◌};
 ghost use Rattle.exchange_catalogue.specs.Entries.{text_of, binary_of};

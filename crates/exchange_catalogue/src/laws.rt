@@ -1,4 +1,7 @@
 //! What holds of cell names and of load orders, apart from how they are found.
+//!
+//! Definitions cite a function where contracts need one answer. That the function gives what the rule says, and that
+//! nothing else fits the rule, is said here once.
 
 ghost use Rattle.std.specs.Prelude.{◌≡◌, ◌↔◌, List, ℕ, Some};
 ghost use Rattle.exchange_catalogue.specs.CellNames.{CellNameValue, SpellsCellName, cell_name_of};

@@ -1,4 +1,8 @@
 //! The order in which the cell files of a catalogue are loaded.
+//!
+//! A catalogue may list updates in any order, and a path several times, while each update is to be applied behind the
+//! one before it. So the files are sorted by the names and numbers that their names spell, and each path is loaded
+//! once.
 
 ghost use Rattle.std.specs.Prelude.{◌≡◌, IfOk, map};
 ghost use Rattle.exchange_catalogue.specs.Answers.{GivesOrder, GivesOrderBy};

@@ -1,4 +1,7 @@
 //! The row CATD of a catalogue (S-57 Part 3, catalogue directory field).
+//!
+//! Its subfields are found once a file, in the file's own descriptor, and then read of each record. A descriptor
+//! without one of them is a fault only where a record has the field: else there is nothing to read by it.
 
 ghost use Rattle.std.specs.Prelude.{◌≡◌, ◌<◌, ◌^◌, ◌&&◌, is_some};
 ghost use Rattle.std.specs.Option.{option_copied};

@@ -1,4 +1,7 @@
 //! Attributes in the order of their codes.
+//!
+//! No record keeps the text that removes an attribute, nor one with a terminator in it, which ATVL can't hold (S-57
+//! Part 3), so both are refused. The codes rise, so that none stands twice.
 
 ghost use Rattle.std.specs.Prelude.{◌≡◌, ◌++◌, length, OnOk};
 ghost use Rattle.std.specs.List.{AllByRecursion, flat_map};

@@ -1,4 +1,7 @@
 //! Coordinates: longitude and latitude, and for soundings a depth.
+//!
+//! A place off the globe, a depth that isn't a whole number of decimetres in six digits (VE3D, S-57 Part 3), and
+//! soundings among points without a depth are refused, or a checkpoint could say a chart that no files build.
 
 ghost use Rattle.std.specs.Prelude.{◌≡◌, ◌<◌, ◌^◌, ◌++◌, length, is_some, is_none, OnOk};
 ghost use Rattle.std.specs.List.{list_all};

@@ -1,4 +1,7 @@
 //! Why a part isn't read.
+//!
+//! Where the bytes go wrong isn't told: a checkpoint that spells no state is refused whole. Want of memory stands
+//! apart, since it says nothing of the bytes.
 
 ghost use Rattle.std.specs.Prelude.{◌≡◌};
 ghost use Rattle.page_parts.specs.declared.fault.PageFault.TheVariants.{NoMemory};

@@ -1,4 +1,7 @@
 //! Files of a cell, each of which is a text.
+//!
+//! Of a file's bytes nothing is looked at but their number: one of more than 8,388,608 bytes is never loaded, and so is
+//! refused. A file that is read stands behind the pointer that copies of what is held share.
 
 ghost use Rattle.std.specs.Prelude.{◌≡◌};
 

@@ -1,4 +1,7 @@
 //! Numbers of a width, the most significant byte first.
+//!
+//! In cell files the least significant byte is first (S-57 Part 3). A checkpoint is no cell file, and has the order of
+//! the other numbers that a bank and its commands are written with.
 
 ghost use Rattle.std.specs.Prelude.{◌≡◌, ◌<◌, ◌^◌, ◌++◌, OnOk};
 ghost use Rattle.std.specs.Int.{w16, w32, w64};

@@ -1,4 +1,7 @@
 //! The order of keys.
+//!
+//! What is kept by key is written as a list, and read item by item. That each key comes behind the one before leaves
+//! one spelling, and no place for a second item with the same key.
 
 ghost use Rattle.std.specs.Prelude.{◌≡◌};
 ghost use Rattle.page_parts.specs.Lists.{is_behind};

@@ -1,4 +1,7 @@
 //! Names of records, and pointers to them.
+//!
+//! Each part of a pointer may be any number of its width here. Whether it names a record that is there, of a kind that
+//! may stand there, is asked of a whole chart and not of the bytes of one pointer.
 
 ghost use Rattle.std.specs.Prelude.{◌≡◌, ◌++◌, OnOk};
 ghost use Rattle.page_parts.specs.Reader.{Finds};

@@ -1,4 +1,7 @@
 //! Identifiers of feature objects, and related objects.
+//!
+//! A feature's own identifier and those of the objects that it is related to are the same eight bytes (AGEN, FIDN,
+//! FIDS), so one function reads both. An object that is named may be in no chart that is held.
 
 ghost use Rattle.std.specs.Prelude.{◌≡◌, ◌++◌, OnOk};
 ghost use Rattle.page_parts.specs.Reader.{Finds};

@@ -1,4 +1,7 @@
 //! Texts: a length of eight bytes, and that many bytes.
+//!
+//! The length is held against the bytes that are there before any memory is taken, so one that promises more costs
+//! nothing. A text can be read where it stands, so that what is refused then isn't copied.
 
 ghost use Rattle.std.specs.Prelude.{◌≡◌, ◌<◌, ◌^◌, ◌++◌, length, OnOk};
 ghost use Rattle.page_parts.specs.Reader.{Finds};

@@ -1,4 +1,7 @@
 //! Blocks by the keys of a panel.
+//!
+//! A scene is what is shown, and not how it came to be, so contracts see a finite map. Want of memory leaves the map as
+//! it was.
 
 ghost use Rattle.std.specs.Prelude.{◌≡◌, OnOk, OnErr};
 ghost use Rattle.std.specs.Option.{option_copied};

@@ -1,4 +1,7 @@
 //! A panel that keeps numbers only.
+//!
+//! A panel need not tell its scene, and this one can't: code over any panel has to do without it. What it counts is
+//! only what it was given.
 
 ghost use Rattle.std.specs.Prelude.{◌≡◌, None, false, IsOk};
 ghost use Rattle.chart_ports.specs.Count.{one_more};

@@ -1,4 +1,7 @@
 //! Why a call of a panel failed.
+//!
+//! Want of memory isn't counted, since it is no failure of the panel: `Failed` alone is answered only where the panel's
+//! count of faults rose.
 
 use thiserror::Error;
 

@@ -1,4 +1,7 @@
 //! A panel in memory that fails at the calls on a list.
+//!
+//! With it a test sees what its caller does when a call fails. Its scene isn't told then, until it is cleared, although
+//! the blocks stay: nobody knows what a real panel shows after a failure.
 
 ghost use Rattle.std.specs.Prelude.{◌≡◌, ◌≢◌, ◌≤◌, None, Some, true, IfSome, IsErr, IsErrOf, OnErr, OnOk};
 ghost use Rattle.std.specs.Option.{option_copied};

@@ -1,4 +1,7 @@
 //! A panel in memory, which tells contracts its scene.
+//!
+//! A clause about what is shown says something of a panel that tells it, as this one does. It counts no fault: want of
+//! memory is all that can stop a call.
 
 ghost use Rattle.std.specs.Prelude.{◌≡◌, None, Some, true, IfSome, IsOk, IsOkUnless, OnErr, OnOk};
 ghost use Rattle.std.specs.Option.{option_copied};

@@ -1,4 +1,7 @@
 //! What a display panel is.
+//!
+//! A panel may fail in the middle of a call, so what it shows isn't told after an error, until it is cleared. Blocks
+//! stand under the keys of their features, so that one which changed is shown anew without the others.
 
 ghost use Rattle.std.specs.Prelude.{◌≡◌, ◌≢◌, ◌≤◌, ℕ, Bool, Option, None, IfSome, IsErrOf, OnErr, OnOk};
 ghost use Rattle.std.specs.FinMap as map;

@@ -1,4 +1,7 @@
 //! The blocks of a panel in memory, and whether they are told.
+//!
+//! The panel that fails at a list of calls differs from the other one in that alone, so both stand on this. Blocks that
+//! aren't told any more are kept, since a summary counts them still.
 
 ghost use Rattle.std.specs.Prelude.{◌≡◌, None, Some, OnErr, OnOk};
 ghost use Rattle.std.specs.Option.{option_copied};

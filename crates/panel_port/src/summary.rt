@@ -1,4 +1,6 @@
 //! How much a panel shows.
+//!
+//! It is what every panel can say of itself, also one that keeps no blocks and tells no scene.
 
 /// How much a panel shows. A number stays at 2^64 - 1 where it would pass it.
 #[derive(Clone, Copy, Debug, PartialEq, Eq)]

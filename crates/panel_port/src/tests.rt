@@ -1,4 +1,7 @@
 //! Panels as boxed objects, against values that were worked out by hand.
+//!
+//! A session may have panels of several kinds, so they are called through one trait object, as it would call them. A
+//! row is a call, its answer, and how much is shown after it.
 
 use crate::{CountingPanel, FailingPanel, MemoryPanel, Panel, PanelError, Summary};
 use chart_model::codes::FEATURE;

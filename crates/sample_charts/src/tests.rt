@@ -1,3 +1,5 @@
+//! Shapes, closure, differences and changes, over small charts.
+
 mod changes;
 mod differences;
 mod faults;

@@ -1,2 +1,4 @@
+//! Data sets of small files, and sequences of such files.
+
 mod datasets;
 mod sequences;

@@ -1,4 +1,7 @@
 //! A desk in memory of which contracts see nothing.
+//!
+//! A call on a desk that tells its files has conditions, as that a write begins at their end at most. A test that tries
+//! any place would have to show them, and here it needn't.
 
 ghost use Rattle.std.specs.Prelude.{◌≡◌, ◌≤◌, ⊤, [], false, IfOk, OnOk, length};
 ghost use Rattle.std.proofs.Common.{refl};

@@ -1,4 +1,7 @@
 //! Banks and their records, worked out by hand.
+//!
+//! Room for the log is taken ahead, so that a call fails where its number is on the list and nowhere else. A content is
+//! compared as a text, with a bar before each body.
 
 ghost use Rattle.std.specs.Prelude.{◌≡◌, ◌≤◌, length};
 

@@ -1,4 +1,7 @@
 //! Checkpoints of a few cells.
+//!
+//! The bytes are spelled by the format, and not taken from the writer. What is read of them is written again and has to
+//! be the same bytes, since a state has one spelling.
 
 mod faults;
 mod sizes;

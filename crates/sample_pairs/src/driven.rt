@@ -1,4 +1,7 @@
 //! A pair of banks, driven through the steps of a script.
+//!
+//! A slice may be written only while one is left, and a save ended only behind its last one: these are conditions of
+//! the calls. So the type keeps how far the save is, and a step that doesn't fit is a fault of the script.
 
 ghost use Rattle.std.specs.Prelude.{◌≡◌, ◌≢◌, ◌<◌, None};
 ghost use Rattle.std.specs.Option.{ForSome};

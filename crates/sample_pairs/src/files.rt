@@ -1,4 +1,7 @@
 //! Files in memory, and what is said of them.
+//!
+//! A checkpoint here has up to some hundred thousand bytes, so of a content its length is shown, and whether its bytes
+//! are those of the pattern, which has no two slices alike that follow each other.
 
 use bank_journal::BankContent;
 use bank_pair::open_pair;

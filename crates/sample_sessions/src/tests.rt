@@ -1,3 +1,5 @@
+//! Turns, what is kept beside the charts, and the replies to refusals.
+
 mod kept;
 mod refusals;
 mod turns;

@@ -1,4 +1,7 @@
 //! The bytes of a bank in pieces, worked out by hand.
+//!
+//! A piece is what stands around a file, whose bytes are in `files`. So the bank of some commands is a list of pieces,
+//! and a place in it is a sum of their lengths.
 
 /// The layout, and the length of a checkpoint without bytes.
 pub const HEAD: &[u8] = b"\0\0\0\0\0\0\0\0";

@@ -1,4 +1,8 @@
 //! The files of a small cell, and commands of them.
+//!
+//! A file is the one data descriptive record and a few data records, whose lengths are known, so that places and
+//! lengths in a bank can be summed by hand. A command is given by the records of its file, since those can stand in a
+//! `static` table.
 
 use chart_model::{Command, Key, Octets};
 use std::alloc::{AllocError, Global};

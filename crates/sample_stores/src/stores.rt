@@ -1,4 +1,7 @@
 //! Stores on desks, and what they tell.
+//!
+//! A desk in memory and one in a folder are driven by the same calls, and tell the same texts. No command is given to a
+//! store whose desk has failed, since it is used no more then.
 
 ghost use Rattle.std.specs.Prelude.{◌≡◌, ◌+◌, ◌<◌, ◌≤◌, IsTrue};
 ghost use Rattle.chart_store.specs.Store.{IsKept, count_of, is_sound};

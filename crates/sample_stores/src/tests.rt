@@ -1,3 +1,5 @@
+//! Commands, the bytes that they leave, crashes, want of memory, and files that are no store's.
+
 mod bytes;
 mod commands;
 mod crashes;

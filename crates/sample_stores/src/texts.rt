@@ -1,4 +1,7 @@
 //! What is answered and what is held, as texts.
+//!
+//! A text is compared in one step, and can stand in a table. Of a chart its numbers and its count of vector records are
+//! shown: they tell which files it was built of, and that is what the tests of a store ask.
 
 use chart_model::{Held, HoldingMap, Key, NameList};
 use chart_store::{Accepted, SubmitFault, TakeFault, Taken};

@@ -1,4 +1,7 @@
 //! Why an event has no reply, or is refused one.
+//!
+//! Whatever the crates below may answer comes to three things here: a refusal, which is a reply, a fault of the desk,
+//! and want of memory. Only the latter two leave the session, which is used no more after them.
 
 ghost use Rattle.std.specs.Prelude.{◌≡◌};
 ghost use Rattle.session_core.specs.declared.fault.EventFault.TheVariants.{NoMemory as NoMemoryForEvent};

@@ -1,4 +1,7 @@
 //! Files by their names.
+//!
+//! A file that is absent or too long and a shelf that fails are refusals, so that a script goes on after them. The
+//! limit is the line's: a route's file may have 65,536 bytes, a cell's 8,388,608.
 
 ghost use Rattle.std.specs.Prelude.{◌≡◌, ◌≢◌, ◌≤◌, Some, Err, IsTrue};
 ghost use Rattle.session_core.specs.declared.fault.EventFault.TheVariants.{DeskFault};

@@ -1,4 +1,7 @@
 //! Charts that are held.
+//!
+//! A cell that is cancelled has no chart, as one that isn't held has none: whoever asks for a chart, as `draw` and
+//! `reissue` do, refuses both in the same way (`no 73`).
 
 ghost use Rattle.std.specs.Prelude.{◌≡◌, List, ℕ, IfSome};
 ghost use Rattle.std.specs.Option.{option_copied};

@@ -1,4 +1,7 @@
 //! Laws of the definitions.
+//!
+//! The reply and the command of an event are defined side by side. That what is held after it is what the command
+//! leaves, and with it still what the live files leave, is said here once for those who run many turns.
 
 ghost use Rattle.std.specs.Prelude.{◌≡◌, ◌<◌, ℕ, List, Option, Some, None, length};
 ghost use Rattle.chart_model.specs.declared.command.Command.{Command};

@@ -1,4 +1,7 @@
 //! Why a line is refused.
+//!
+//! The codes are given here, since the store has variants for its refusals and no numbers. A reply has the code and the
+//! values that are named, and nothing of the sentences that the crates below have for people.
 
 ghost use Rattle.std.specs.Prelude.{◌≡◌, ◌∷◌, [], IfOk};
 ghost use Rattle.std.specs.List.{join_with_byte};

@@ -1,4 +1,9 @@
 //! A session: a store, and the turns of events over it.
+//!
+//! The users of edges and the grids are kept beside the charts, so that no drawing has to find who uses an edge, and no
+//! route looks at features that its legs don't reach. They are brought up to date behind each accepted command, where
+//! memory may still run out: the command is on the disk then although its reply isn't told, as after a crash, and the
+//! store has to be opened again.
 
 use crate::changes::{Order, drop_order, load_order, make_order, reissue_order, rollback_order};
 use crate::fault::{EventFault, TurnFault};

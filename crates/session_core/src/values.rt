@@ -1,4 +1,7 @@
 //! What a refusal names, as it is printed.
+//!
+//! What a refusal names is one list of these, in the order in which they are printed. The name of a record is two
+//! words, and the identifier of a feature object three.
 
 ghost use Rattle.std.specs.Prelude.{◌≡◌, ◌++◌, IfOk, OnOk};
 ghost use Rattle.std.specs.List.{flat_map, join_with_byte};

@@ -1,4 +1,7 @@
 //! One line's reply.
+//!
+//! A command is on the disk before anything of its reply is said. So a reply that was read, even a front of one,
+//! acknowledges what no crash takes back.
 
 ghost use Rattle.std.specs.Prelude.{◌≡◌, ◌+◌, ◌^◌, ◌<◌, ◌≤◌, ◌++◌, [], IsTrue};
 ghost use Rattle.std.specs.Prelude.{IfOk, OnOk, OnErr, IsErrOf, min, take, length};

@@ -1,4 +1,6 @@
 //! What a run works with.
+//!
+//! What answers a line is lent these three together, and not the script: no line can read on in it.
 
 use chart_ports::{Desk, Shelf, Steps};
 use std::sync::ledger::Ledger;

@@ -1,4 +1,7 @@
 //! Why the catalogue or the table is not taken.
+//!
+//! Both files are fetched and read in the same way, so the faults of their readers are one type here; `Status` adds
+//! which file it was. A shelf that fails and want of memory stand apart, since neither says anything of the file.
 
 ghost use Rattle.std.specs.Prelude.{◌≡◌};
 

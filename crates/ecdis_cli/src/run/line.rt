@@ -1,4 +1,7 @@
 //! Lines of the script.
+//!
+//! A line of more than 1,024 bytes is bad, unless it is a remark, and a remark may be of any length. So the front of a
+//! line tells what it is, and no script can make the program keep more of it.
 
 ghost use Rattle.std.specs.Prelude.{◌≡◌, take};
 

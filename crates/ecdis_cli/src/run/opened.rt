@@ -1,4 +1,7 @@
 //! The run of a script over the store that a desk keeps.
+//!
+//! The store is opened before a byte of the script is asked for. So where its files are no store's, nothing was
+//! answered by what they seemed to hold, and they are left as they were.
 
 ghost use Rattle.std.specs.Prelude.{◌≡◌, ◌+◌, ◌<◌, ◌≤◌, ◌⊎◌, [], ℕ, IsTrue, false, length, Ok, Err};
 ghost use Rattle.chart_ports.specs.Count.{IsSteady, Rose, RoseBy};

@@ -1,4 +1,7 @@
 //! The script as it is read, byte by byte.
+//!
+//! A pull may end anywhere in a line. So what has begun of one is kept between pulls: its number and its front, at most
+//! 1,026 bytes of it. A line is answered once its line feed is there, or at the script's end.
 
 ghost use Rattle.std.specs.Prelude.{◌≡◌, ◌+◌, ◌^◌, ◌<◌, ◌≤◌, ◌∷◌, ◌++◌, [], IsTrue, OnOk, OnErr, IsErrOf, IsOkUnless};
 ghost use Rattle.std.specs.Prelude.{length, All, vec_len, ◌==◌, nat_lt, false, if◌then◌else◌, List, ℕ};

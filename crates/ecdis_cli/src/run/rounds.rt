@@ -1,4 +1,7 @@
 //! The run of a script.
+//!
+//! Of a script that is too long each line is answered that ends within its first 16,777,216 bytes, and only then the
+//! run ends. So the room is counted down over the pulls, and of the last one no more is taken than fits.
 
 ghost use Rattle.std.specs.Prelude.{◌≡◌, ◌≢◌, ◌+◌, ◌<◌, ◌≤◌, [], ℕ, IsTrue, false, length};
 ghost use Rattle.chart_ports.specs.Count.{Rose, RoseBy};

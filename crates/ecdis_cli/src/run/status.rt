@@ -1,4 +1,7 @@
 //! How a run ends.
+//!
+//! Each end is a number, the program's exit status, and a line for standard error. A line that is refused is no end:
+//! its reply says so, and the run goes on.
 
 ghost use Rattle.std.specs.Prelude.{◌≡◌};
 ghost use Rattle.ecdis_cli.specs.FileStop.{status_of_file};

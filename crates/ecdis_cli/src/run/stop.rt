@@ -1,4 +1,7 @@
 //! Why a line was not answered.
+//!
+//! A refusal is a reply, also where the shelf fails (`no 72`). So a run stops at a line for two causes alone, after
+//! which the session is used no more.
 
 ghost use Rattle.std.specs.Prelude.{◌≡◌};
 ghost use Rattle.ecdis_cli.specs.declared.run.stop.Stop.TheVariants.{DeskFault, NoMemory};

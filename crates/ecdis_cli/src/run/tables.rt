@@ -1,4 +1,7 @@
 //! The object catalogue and the lookup table, fetched and read.
+//!
+//! The table names classes and attributes by their acronyms, so the catalogue with their codes is read before it. The
+//! table keeps the codes, and the catalogue is let go when it is read. Each file has at most 1,048,576 bytes.
 
 ghost use Rattle.std.specs.Prelude.{◌≡◌, ◌≤◌, IsTrue, IfErr, IsErrOf};
 ghost use Rattle.chart_ports.specs.Count.{Rose};

@@ -1,4 +1,7 @@
 //! What is wrong with a catalogue or a table.
+//!
+//! Of a line with a fault the number alone is printed, which leads to the line; that a file is absent or too long is
+//! printed as a word. Which rule the line breaks is told to callers, by the variant.
 
 use std::fmt;
 

@@ -1,4 +1,7 @@
 //! A script that is stopped at each call of the desk, and the store that is opened then.
+//!
+//! A call that fails is torn, and leaves the images that a crash inside it may leave. A store is opened on three of
+//! these, and has to list what the commands left whose replies were begun, or one command more.
 
 ghost use Rattle.std.specs.Prelude.{◌≡◌, ◌<◌};
 

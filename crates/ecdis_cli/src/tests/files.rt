@@ -1,4 +1,7 @@
 //! Small cell files, made by hand.
+//!
+//! Their bytes are spelled out, and no writer makes them, so that no fault of a writer can hide one of a reader. All
+//! have the same data descriptive record, so a file is that and a few data records.
 
 use std::alloc::{AllocError, Global};
 

@@ -1,4 +1,7 @@
 //! Files that are taken over, and refused.
+//!
+//! A refusal has to leave what is held as it was, so the scripts list the cells behind one. The limits are met from
+//! both sides: 32 cells and one more, and 67,108,864 bytes of live files and some more.
 
 use super::{Answer, Case, ends, first_wrong};
 use crate::run::status::Status;

@@ -1,4 +1,7 @@
 //! Catalogues and tables that are read, and those that end the run.
+//!
+//! A run that ends at one of them has called neither the source nor the desk: the first call of each is one that fails,
+//! and no failure is counted.
 
 ghost use Rattle.std.specs.Prelude.{◌≡◌, ◌<◌};
 

@@ -1,4 +1,7 @@
 //! What changes make of one record, and why they are refused.
+//!
+//! Each case is tried with a change that is lent and with one that is given away, whose lists are taken over: the two
+//! have to answer alike. A change that is refused has to leave the record as it was.
 
 mod identifiers;
 mod lists;

@@ -1,4 +1,7 @@
 //! The names whose records differ between two charts.
+//!
+//! Each part of a record is changed by itself, the version among them, and has to give the name of that record and no
+//! other. Records that come and go give theirs.
 
 use chart_difference::{changed_among, changed_names};
 use chart_model::{Cell, Foid, Name};

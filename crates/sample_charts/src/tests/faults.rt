@@ -1,4 +1,7 @@
 //! Faults of charts that aren't closed.
+//!
+//! Each record with a fault that is put in has a lesser name than those before it, so it is the one that the whole
+//! chart is answered by. A record without a fault beside it keeps its own answer.
 
 use chart_closure::{ClosureFault, check, check_at};
 use chart_model::Cell;

@@ -1,4 +1,8 @@
 //! Lines of edges and shapes of features.
+//!
+//! `has_line` and `has_shape` answer without making anything, so each case asks them as well. The chart isn't closed,
+//! since a shape may be asked of any chart: there are edges without a node, without its coordinate, and with two begin
+//! nodes.
 
 use area_rings::{Line, Shape, edge_line, feature_shape, has_line, has_shape, rings};
 use chart_model::{Coord, Name};

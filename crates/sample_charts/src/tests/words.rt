@@ -1,4 +1,6 @@
 //! Why a change was not made, and why a chart isn't closed, in words.
+//!
+//! A record is named by its kind and its number, as replies name it. Each variant has a row.
 
 use chart_closure::ClosureFault;
 use chart_model::{Foid, Name};

@@ -1,4 +1,7 @@
 //! Small files, whose data sets are worked out by hand.
+//!
+//! A file describes the fields that its test needs, with the labels that are looked at and no others: those may be
+//! absent from a descriptor. So each file is short enough to be checked by eye.
 
 ghost use Rattle.std.specs.Prelude.{◌≡◌, ◌<◌};
 

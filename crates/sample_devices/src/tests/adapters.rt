@@ -1,3 +1,8 @@
+//! Standard input and the folder, over the real system.
+//!
+//! Neither tells contracts what it holds. So what they answer to a read that is interrupted, to a folder in the place
+//! of a file and to a name that is too long is seen by trying.
+
 use super::calls::{gives, pulls};
 use chart_ports::{Failed, FolderShelf, StdSource};
 use std::io::{ErrorKind, Read};

@@ -1,5 +1,6 @@
-//! Calls of the ports, and whether they are answered as wanted. What makes them knows a port by its
-//! bound alone, so that a proof reads the few clauses of the trait.
+//! Calls of the ports, and whether they are answered as wanted.
+//!
+//! What makes them knows a port by its bound alone, so that a proof reads the few clauses of the trait.
 
 ghost use Rattle.std.specs.Prelude.{◌≤◌, IsTrue};
 

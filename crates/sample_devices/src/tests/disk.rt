@@ -1,4 +1,7 @@
 //! What a desk in memory keeps, what a crash leaves of it, and what a call does that fails.
+//!
+//! Tests of crashes in other crates stand on what this desk leaves. So its images are worked out by hand here, byte by
+//! byte, after each call and with each fill.
 
 ghost use Rattle.std.specs.Prelude.{IsTrue};
 

@@ -1,4 +1,7 @@
-//! What the desk of a folder does with real files. The parts share a folder, so they are one test.
+//! What the desk of a folder does with real files.
+//!
+//! The parts share a folder, so they are one test. Faults that the real system can't be made to have come from a slow
+//! one that is put in its place.
 
 ghost use Rattle.std.specs.Prelude.{IsTrue};
 

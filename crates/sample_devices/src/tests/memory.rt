@@ -1,3 +1,8 @@
+//! Sources, shelves and desks in memory, call by call.
+//!
+//! Tests in other crates stand on what these move, count and fail at, so it is held against values that were worked out
+//! by hand here.
+
 use super::calls::{Call, gives, is_answered, pulls};
 use crate::Untold;
 use chart_ports::{

@@ -1,4 +1,7 @@
 //! A system that moves few bytes at a time, and fails where it is told to.
+//!
+//! A real system may do all this, and can't be made to: pieces of three bytes, an interruption, a write that takes
+//! nothing, a sync that fails. It moves the bytes of real files, so that what was moved can be read there.
 
 ghost use Rattle.std.specs.Prelude.{◌≤◌, IfOk};
 

@@ -1,4 +1,7 @@
 //! Records that are appended, and what crashes and failing calls leave of them.
+//!
+//! An append makes four calls on the disk. It is stopped after each of them, and each of them fails once: what is left
+//! reads as the records before, or as those and the new one.
 
 ghost use Rattle.std.specs.Prelude.{◌≤◌, length};
 

@@ -1,4 +1,7 @@
 //! A desk with a bank whose closed gate stands far behind, where a file in memory would be too long.
+//!
+//! A bank has at most 268,435,456 bytes, and a record that passes them is refused. To come near that the bank is made
+//! up as it is read, and what is written goes to a short file, where it fails.
 
 ghost use Rattle.std.specs.Prelude.{◌≡◌, ◌≤◌, ⊤, [], false, IfOk, OnOk, length};
 ghost use Rattle.std.proofs.Common.{refl};

@@ -1,4 +1,7 @@
 //! What banks read as, and where they are damaged.
+//!
+//! What stands behind the closed gate is neither read nor a fault. An opening of nine bytes or fewer writes the empty
+//! bank, so each of its four calls fails once here.
 
 use super::{desk_of, read_as};
 use bank_journal::{BankFault, open_bank};

@@ -1,4 +1,7 @@
 //! Bytes that spell no state.
+//!
+//! Of a whole checkpoint one byte is exchanged at a time, so that a row has one cause. Then it is cut at each length:
+//! none of its fronts spells a state.
 
 use super::TWO_CELLS;
 use chart_pages::decode_store;

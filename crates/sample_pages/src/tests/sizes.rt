@@ -1,4 +1,6 @@
 //! A checkpoint of a hundred records.
+//!
+//! A page of a chart has 64 numbers, so a hundred features stand on two, and are written and read across the border.
 
 use super::{TWO_CELLS, read_and_written};
 use chart_model::{Key, Name};

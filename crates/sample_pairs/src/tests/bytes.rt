@@ -1,4 +1,7 @@
 //! The bytes of the files, worked out by hand.
+//!
+//! The other bank is looked at after each slice and while the first record is copied, and the head is empty all the
+//! while: it names no bank that is half written.
 
 use crate::driven::{Step, drive, leave};
 use crate::files::{Files, NOTHING, are_files, checkpoint_of, desk_with};

@@ -1,4 +1,7 @@
 //! A crash after each call of a script, and each call of it failing.
+//!
+//! How many of the images say what was said before a step, and how many what is said after it, is counted and compared
+//! too. So a table that is wrong in the same way as the code would have to be wrong in these numbers as well.
 
 use crate::driven::{Outcome, drive};
 use crate::files::{NOTHING, desk_with, opened};

@@ -1,4 +1,7 @@
 //! Files that are opened: the bank that the head names is read, and the other one isn't.
+//!
+//! The other bank may be the half of a save. So rows in which it is damaged are opened as if it weren't, and those in
+//! which the named one is are refused.
 
 use crate::driven::{StepFault, drive, leave};
 use crate::files::{Files, are_files, desk_with, says};

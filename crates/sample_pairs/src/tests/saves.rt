@@ -1,4 +1,7 @@
 //! Saves of an empty checkpoint, and of checkpoints that end near the end of a slice.
+//!
+//! A record that is appended during a save has to stand in both banks, before a slice as behind it. The lengths are
+//! those at which a checkpoint gets a slice more, with the eight bytes of its header counted.
 
 use crate::driven::{Step, leave};
 use crate::files::{Files, NOTHING, are_files, opened};

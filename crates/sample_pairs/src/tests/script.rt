@@ -1,4 +1,7 @@
 //! The script whose crashes and failing calls are looked at.
+//!
+//! What the calls of a step leave is said once for each kind of step, since every append makes the same four. So 49
+//! calls are a table of a few rows.
 
 use crate::driven::{Step, StepFault};
 use bank_journal::{AppendFault, BankFault};

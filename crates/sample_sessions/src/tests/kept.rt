@@ -1,4 +1,7 @@
 //! What a session keeps of each chart that is held.
+//!
+//! It is brought up to date by the records that differ. So after each line it is held against what is found anew in the
+//! charts of a store that is opened on the same desk, and that knows nothing of the lines before.
 
 ghost use Rattle.std.specs.Prelude.{◌≡◌, ◌<◌};
 

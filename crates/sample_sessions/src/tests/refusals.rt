@@ -1,4 +1,7 @@
 //! The replies to refusals.
+//!
+//! Some refusals would need files of many megabytes, so they are made by hand and printed. Almost every value is
+//! another number, so that two which change places are seen.
 
 use chart_model::{Foid, Key, Name};
 use chart_store::Refusal as StoreRefusal;

@@ -1,4 +1,7 @@
 //! Turns of a session.
+//!
+//! A row is a whole session: its lines, the calls of the shelf and of the desk that fail, and all that is replied. A
+//! shelf that fails is replied to, and a desk that fails ends the session.
 
 ghost use Rattle.std.specs.Prelude.{◌≡◌, ◌<◌, true};
 ghost use Rattle.chart_ports.specs.MemoryDesk.{contents_of, leaves_of};

@@ -1,4 +1,7 @@
 //! The bytes of the bank, worked out by hand.
+//!
+//! The bank is looked at after each call that changes it, so that the order of the writes is seen: a record stands
+//! whole behind the closed gate, and is synced, before the gate is opened.
 
 use crate::banks::{CLOSED, DROPS, HEAD, LOADS};
 use crate::files::{BASE, FIRST, GENERAL, Given, RECORDS, joined};

@@ -1,4 +1,7 @@
 //! Commands without a bank.
+//!
+//! `LiveCells` judges a command without a desk. So a cell is followed from its base file to its cancellation and back,
+//! with refusals on the way that leave it as it was, and no call on a disk has to be counted.
 
 ghost use Rattle.std.specs.Prelude.{◌≡◌, ◌<◌};
 

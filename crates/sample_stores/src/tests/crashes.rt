@@ -1,4 +1,7 @@
 //! A crash at each moment, and a call that fails at each number.
+//!
+//! The script makes 44 calls, so a crash is tried at 45 moments, with three fills of the bytes that are uncertain
+//! there. Files that are opened then have to hold what was held before a command or after it, and nothing else.
 
 use crate::files::BASE;
 use crate::stores::{failing_desk, opened, tell};

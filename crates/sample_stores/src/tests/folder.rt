@@ -1,4 +1,7 @@
 //! A store in a folder of real files.
+//!
+//! A real folder tells contracts nothing, so that a store is found in it again is seen by trying. What a loss of power
+//! would leave of it can't be tried here: that is what the clauses over the desk in memory say.
 
 use crate::files::{BASE, FIRST_UPDATE};
 use crate::stores::{Told, tell};

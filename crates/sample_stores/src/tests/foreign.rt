@@ -1,4 +1,7 @@
 //! Files that are no store's, with the place of their first fault worked out by hand.
+//!
+//! Any bytes may come from a disk, and the answer is the first fault in a fixed order: the head, the layout and the
+//! lengths of the bank, a checkpoint, and then the first record whose command is none or is refused.
 
 use crate::banks::{CLOSED, DROPS, EXTENDS, HEAD, LOADS};
 use crate::files::{FIRST, GENERAL, MOVED, RECORDS, UPDATE, joined};

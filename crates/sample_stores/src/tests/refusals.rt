@@ -1,4 +1,7 @@
 //! What a refusal says to a user.
+//!
+//! A script is answered by a code and values alone. These are the sentences of the same refusals, for callers of the
+//! crate: each names the record, the cell or the place that it is about.
 
 use chart_model::{Foid, Key, Name};
 use chart_store::{Refusal, SubmitFault};

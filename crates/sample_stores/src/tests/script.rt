@@ -1,4 +1,7 @@
 //! Ten commands, of which nine are accepted.
+//!
+//! The calls of each step are counted by hand, so that a table of crashes can say between which calls of which command
+//! it stands. The command that is refused makes none, and shifts nothing.
 
 use crate::files::{ADDED, BASE, CANCEL, EDITION, FIRST_UPDATE, Given, OTHER, RECORDS, SECOND};
 use crate::stores::{failing_desk, tell};

@@ -1,4 +1,7 @@
 //! The line `load`.
+//!
+//! All that can be refused before the store is asked is the fetch: the file is absent or has more than 8,388,608 bytes,
+//! or the shelf failed. What the bytes say is the store's to judge.
 
 ghost use Rattle.std.specs.Prelude.{◌≡◌, ◌≢◌, ◌≤◌, Err, IsTrue};
 ghost use Rattle.session_core.specs.declared.fault.EventFault.TheVariants.{DeskFault};

@@ -1,4 +1,7 @@
 //! What a line orders: a command, and the reply that follows it.
+//!
+//! `load`, `make` and `reissue` all give the store a file to load, so the command alone doesn't tell the reply. That is
+//! made of what the command did, once it is accepted: the numbers that are held then stand in it.
 
 ghost use Rattle.std.specs.Prelude.{◌≡◌};
 ghost use Rattle.session_core.specs.Order.{drop_order, reply_to, rollback_order};

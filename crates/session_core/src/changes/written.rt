@@ -1,4 +1,7 @@
 //! The lines `make` and `reissue`: files that are written here.
+//!
+//! Such a file is loaded as one that was fetched, and the journal keeps its bytes. So a store is opened without writing
+//! a cell, and its charts stay the same should a later program write other bytes.
 
 ghost use Rattle.std.specs.Prelude.{◌≡◌, ◌≢◌, ◌≤◌, length, Err, IfOk, IfSome};
 ghost use Rattle.std.specs.FinMap as map;

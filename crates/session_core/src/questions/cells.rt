@@ -1,4 +1,7 @@
 //! The line `cells`.
+//!
+//! A cell that is cancelled is listed with the numbers that are held of it, since they say which base file it takes
+//! next. It has no chart to count, so the word `cancelled` stands in the place of the number of records.
 
 ghost use Rattle.std.specs.Prelude.{◌≡◌, ◌≢◌, ◌++◌, ◌∷◌, pos, Ok, Err, IfOk, OnOk};
 ghost use Rattle.script_reader.specs.Reply.{number};

@@ -1,4 +1,7 @@
 //! The line `draw`.
+//!
+//! The users of the chart's edges are those that the session keeps, so no drawing begins with a pass over the features
+//! to find them. They are there wherever the chart is.
 
 ghost use Rattle.std.specs.Prelude.{◌≢◌, Err};
 ghost use Rattle.session_core.specs.declared.fault.EventFault.TheVariants.{DeskFault};

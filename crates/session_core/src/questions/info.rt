@@ -1,4 +1,7 @@
 //! The line `info`.
+//!
+//! No store is asked and no chart made: of the file's fields DSID alone is looked at, and its data records are counted.
+//! So a file can be looked at that couldn't be loaded, as an update of a cell that isn't held.
 
 ghost use Rattle.std.specs.Prelude.{◌≡◌, ◌≢◌, ◌+◌, ◌≤◌, Err, IsTrue};
 ghost use Rattle.session_core.specs.declared.fault.EventFault.TheVariants.{DeskFault};

@@ -1,4 +1,7 @@
 //! The line `route`.
+//!
+//! The grids of the charts are those that the session keeps, so features that no leg reaches aren't looked at. A route
+//! has at most 1,000 points, and its file 65,536 bytes.
 
 ghost use Rattle.std.specs.Prelude.{◌≡◌, ◌≢◌, ◌++◌, ◌≤◌, Err, IfOk, IsTrue, OnOk};
 ghost use Rattle.session_core.specs.declared.fault.EventFault.TheVariants.{DeskFault};

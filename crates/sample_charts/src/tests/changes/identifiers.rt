@@ -1,4 +1,7 @@
 //! Names, identifiers and soundings.
+//!
+//! A change may not hit another record than it was made for: its name has to be there or not, and a FOID that is given
+//! has to be the kept one in each of its parts. Nor may it mix soundings with points that have no depth.
 
 use super::{
     Case, EDGE, EDGE_CHANGE, EDGE_NAME, FEATURE, FEATURE_CHANGE, FEATURE_NAME, hold, items,

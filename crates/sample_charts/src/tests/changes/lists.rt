@@ -1,4 +1,7 @@
 //! Edits of lists.
+//!
+//! An edit means the same on each of the lists of a vector record and of a feature, so one table is tried on four of
+//! them: at the first place, at the last, at the one behind it, and past that.
 
 use super::{Case, EDGE, EDGE_CHANGE, FEATURE, FEATURE_CHANGE, FEATURE_NAME, hold, items};
 use chart_model::Name;

@@ -1,4 +1,7 @@
 //! Settings of attributes, few enough to be made in their places and one more.
+//!
+//! Up to 32 settings are made one after the other, and more are merged with the attributes in one pass. So 31, 32 and
+//! 33 of them are tried, and an attribute that was there before is among those that are set.
 
 use super::{Case, EDGE, EDGE_CHANGE, FEATURE, FEATURE_CHANGE, hold};
 use sample_rows::{Row, Setting};

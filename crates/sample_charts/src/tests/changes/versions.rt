@@ -1,4 +1,7 @@
 //! Versions and attributes.
+//!
+//! A version has 16 bits (RVER) and doesn't start again at 0: behind 65,535 nothing can be modified any more, and a
+//! record can still be deleted. An attribute is removed by the delete character alone, and an empty value is kept.
 
 use super::{Case, EDGE, EDGE_CHANGE, EDGE_NAME, FEATURE, FEATURE_CHANGE, hold};
 use sample_rows::{Row, Setting};

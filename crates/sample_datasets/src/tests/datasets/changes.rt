@@ -1,4 +1,7 @@
 //! What the records of an update say.
+//!
+//! Each file is an update with one or two records. What is asked of a change is what its record was chosen for: the
+//! version of a deletion, the control of an edge's coordinates, a sounding in centimetres, the identifier of a feature.
 
 use super::read;
 use chart_model::{Control, Coord, Foid, Name};

@@ -1,4 +1,7 @@
 //! What the first records of a file say.
+//!
+//! PROF tells a base file, 1, from an update, 2, and an update of edition 0 cancels its cell. A base file alone has a
+//! scale, which stands in its parameters (DSPM).
 
 use super::read;
 use s57_records::read_dataset;

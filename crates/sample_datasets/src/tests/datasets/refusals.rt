@@ -1,4 +1,7 @@
 //! Files that are no data sets.
+//!
+//! Each is a whole file of records (ISO/IEC 8211), in which one rule of S-57 is broken. So the file is read without a
+//! fault, and only its data set has one.
 
 use super::read;
 use s57_records::{DatasetFault, read_dataset};

@@ -1,4 +1,7 @@
 //! A small chart, extended.
+//!
+//! `extend` and `build` make the same chart of an update, so both are held against one table. Of a chart a few numbers
+//! are looked at, of which each record of these updates changes at least one.
 
 ghost use Rattle.std.specs.Prelude.{IfOk};
 ghost use Rattle.chart_closure.specs.Closed.{IsClosed};

@@ -1,4 +1,8 @@
 //! Small files, made by hand.
+//!
+//! An update is put together of a few records: a node that moves, one that goes, a feature that points to one that
+//! isn't there. So a table can say an update as a list of them, and each may be taken or refused by what stands beside
+//! it.
 
 ghost use Rattle.std.specs.Prelude.{◌≡◌, ◌<◌};
 

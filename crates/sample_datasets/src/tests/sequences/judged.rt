@@ -1,4 +1,7 @@
 //! What may follow what is held, as a table.
+//!
+//! `judge` asks the numbers of a file and those that are held, and nothing of the changes. So a row has these numbers,
+//! with the editions and updates before the held ones, equal to them and behind them.
 
 use chart_model::{ChangeList, Dataset, Header, Held, Key};
 use std::alloc::Global;

@@ -1,4 +1,7 @@
 //! Lists of whole files, rebuilt.
+//!
+//! A list is rebuilt only where each of its files was taken over behind those before it. So each is judged and built
+//! here first, as a store does it, and then the chart of the whole list is made from nothing.
 
 ghost use Rattle.std.specs.Prelude.{◌≡◌, ◌<◌, length, Some, IfOk, IsTrue};
 ghost use Rattle.chart_model.specs.State.{IsFileLength};

@@ -1,4 +1,7 @@
 //! Why a file is not taken, in words.
+//!
+//! A sentence names what a user has to compare: the cell or the record, the number that is held or wanted, and the one
+//! that was given.
 
 use chart_closure::ClosureFault;
 use chart_model::{Key, Name};
