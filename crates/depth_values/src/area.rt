@@ -1,4 +1,7 @@
 //! The range of depths of an area.
+//!
+//! What a chart doesn't say counts as shallow: an area without a least depth dries, and one without a greatest is
+//! hardly deeper than its least. So no area is drawn as deeper than the chart says.
 
 ghost use Rattle.std.specs.Prelude.{◌≡◌, pos, ◌≤ℤ◌};
 ghost use Rattle.depth_values.specs.Area.{d1_of, depths_of};

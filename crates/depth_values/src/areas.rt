@@ -1,4 +1,7 @@
 //! The depth areas of a chart, and which of them are under points.
+//!
+//! A drawing and a report ask them for one hazard after another. So they are made once, and put into groups as they are
+//! made.
 
 ghost use Rattle.std.specs.Prelude.{◌≡◌, IfOk};
 ghost use Rattle.depth_values.specs.Under.{areas_of};

@@ -1,4 +1,7 @@
 //! The attributes of features.
+//!
+//! S-57 gives the value of any attribute as a text (ATVL). One that is no depth counts as absent, so that a value that
+//! nobody can read refuses no drawing.
 
 ghost use Rattle.std.specs.Prelude.{◌≡◌, pos, ◌≤ℤ◌, IfSome};
 ghost use Rattle.depth_values.specs.Attributes.{depth_at, has_value};

@@ -1,4 +1,7 @@
 //! The cells of which a depth is drawn.
+//!
+//! A depth of up to 9,999,999 centimetres has five digits of metres at most, and perhaps a sign before them. So six
+//! places are enough, and digits take no memory.
 
 ghost use Rattle.std.specs.Prelude.{◌≡◌, ◌+◌, ◌≤◌, ◌++◌, [], length};
 

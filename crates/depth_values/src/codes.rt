@@ -1,4 +1,7 @@
 //! Codes of the S-57 object catalogue (S-57 Appendix A): classes, attributes, and values of attributes.
+//!
+//! Classes and attributes are numbered apart: 42 is a depth area as a class, and the category of an obstruction as an
+//! attribute. The values of attributes are texts in a chart, so they stand here as bytes.
 
 /// The class of a depth area.
 pub const DEPARE: u16 = 42;

@@ -1,4 +1,8 @@
 //! The depth areas of a chart.
+//!
+//! Each area keeps a box round its rings, since most points that are asked lie outside of it; a point in the box is
+//! tested against every segment. How many points the rings have at most is taken of the effort before they are made,
+//! since a feature may point to one edge many times.
 
 ghost use Rattle.std.specs.Prelude.{◌≡◌, IfOk};
 ghost use Rattle.depth_values.specs.Under.{is_depth_area, area_at, areas_of};

@@ -1,4 +1,7 @@
 //! The symbols of a depth's digits.
+//!
+//! They are instructions as a lookup table has them (`SY`), so who shows a drawing needs no rule for depths. All of a
+//! depth stand at its one target: the name of a symbol has the place of its digit.
 
 ghost use Rattle.std.specs.Prelude.{◌≡◌, ◌++◌, ◌∷◌, [], OnOk, IfOk};
 ghost use Rattle.chart_model.specs.Record.{IsWithin};

@@ -1,4 +1,7 @@
 //! The digits of depths, as symbols draw them.
+//!
+//! What is rounded off isn't told, so it matters which way that goes. Towards 0, no depth is written deeper than it is;
+//! a height that dries may be written lower than it is, by less than a metre.
 
 ghost use Rattle.std.specs.Prelude.{◌≡◌, ◌+◌, ◌<◌, ◌≤◌, ◌∷◌, [], ◌++◌, length};
 ghost use Rattle.chart_model.specs.Record.{IsWithin};

@@ -1,4 +1,8 @@
 //! The depth over a wreck, a rock or an obstruction.
+//!
+//! A hazard may have no depth of its own in a chart. So rules stand in an order, from what the chart knows to what it
+//! doesn't: the depth, the areas in which the hazard lies, its category, the water level. A hazard of which nothing is
+//! said dries 15 metres, so that what nobody knows counts as shallow.
 
 ghost use Rattle.std.specs.Prelude.{◌≡◌, Some, IfOk, IfSome};
 ghost use Rattle.chart_model.specs.Record.{IsWithin};

@@ -1,4 +1,7 @@
 //! What holds of the definitions.
+//!
+//! The code keeps the least of the depths as it goes, and cuts digits off by division. What the least is, and which
+//! depth some cells write, is said here without either.
 
 ghost use Rattle.std.specs.Prelude.{◌≡◌, ◌↔◌, List, ℤ, Some};
 ghost use Rattle.chart_model.specs.Record.{IsWithin};

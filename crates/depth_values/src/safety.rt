@@ -1,4 +1,7 @@
 //! Which areas are safe.
+//!
+//! Safe and unsafe are not each other's opposite: a depth area that is too shallow is neither where it isn't one of
+//! those that cover the chart, and no line or point is either. So each has a test of its own.
 
 ghost use Rattle.std.specs.Prelude.{◌≡◌};
 ghost use Rattle.depth_values.specs.Area.{depths_of};

@@ -1,4 +1,7 @@
 //! The depth areas under an object.
+//!
+//! An object is over the areas in or on which one of its points lies; a segment that crosses an area between two points
+//! isn't looked at. Of such an area no more is kept than its name and its least depth, since that is all that is asked.
 
 ghost use Rattle.std.specs.Prelude.{◌≡◌, ◌++◌, int_le, map, OnOk, IfOk};
 ghost use Rattle.std.specs.List.{list_any, flat_map, filter_map};

@@ -1,4 +1,7 @@
 //! The format controls: how a field's subfields are spelled.
+//!
+//! A count before a format repeats it: it is written out, so that a subfield's format is found by the place of its
+//! label. Formats are at most 64, as labels are, and lie in place.
 
 ghost use Rattle.std.specs.Prelude.{◌≡◌, ◌+◌, ◌++◌, ◌<◌, ◌≤◌, ◌==◌, if◌then◌else◌, length, replicate, option_map, Some};
 ghost use Rattle.std.specs.Prelude.{None};

@@ -1,4 +1,7 @@
 //! Descriptors of fields: which subfields a field has, and how each is spelled.
+//!
+//! A file of ISO/IEC 8211 describes its own fields, in its first record. Without the descriptor of a field nobody can
+//! tell where one of its values ends and the next begins.
 #![tactic(auto)]
 
 mod descriptor;

@@ -1,4 +1,7 @@
 //! Fields worked out by hand from the grammar.
+//!
+//! Descriptors of the standard's fields come first, and then texts that are one byte or one mark beside one. A label
+//! that looks like a mark is among those that are read.
 
 use super::*;
 use std::alloc::{AllocError, Global};

@@ -1,4 +1,7 @@
 //! Pieces of a field's text, and the numbers in it.
+//!
+//! A record has at most 99,999 bytes, since its length has five digits (ISO/IEC 8211, leader). So no width or count
+//! need be more; and 0 is none, since a value has at least one byte.
 
 ghost use Rattle.std.specs.Prelude.{◌≡◌, ◌<◌, ◌≤◌, length, take, drop, option_map, IfSome, position, not, ◌==◌};
 ghost use Rattle.std.specs.Char.{is_ascii_digit};

@@ -1,4 +1,7 @@
 //! Numbers in decimal digits.
+//!
+//! Each field of each record has two such numbers in its directory, so a file has many. Bytes are weighed by a table
+//! and added up, and one comparison at the end tells whether all were digits.
 
 ghost use Rattle.std.specs.Prelude.{◌≡◌, ◌-◌, ◌+◌, ◌*◌, ◌≤◌, ◌<◌, ◌^◌, length, IfSome};
 ghost use Rattle.std.specs.Int.{IsInRange};

@@ -1,4 +1,7 @@
 //! Leaders and entries as they stand in the bytes of a file.
+//!
+//! Only what a record's frame hangs on is looked at; the other bytes of a leader, such as the interchange level, may be
+//! anything. A tag has four bytes here, as all of S-57 have, though ISO/IEC 8211 lets a file say how many.
 
 ghost use Rattle.std.specs.Prelude.{◌≡◌, ◌↔◌, true, ◌-◌, ◌+◌, ◌≤◌, ◌<◌, length, slice_index, IfOk, IfErr, IfSome};
 ghost use Rattle.std.specs.Prelude.{IfNone, IsTrue, take, drop, MatchOption, codes};

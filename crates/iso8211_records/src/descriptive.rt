@@ -1,4 +1,7 @@
 //! The data descriptive record: how the fields of a file are spelled.
+//!
+//! A file may describe fields that nobody asks for, in ways that aren't read here. So only descriptors under a tag of
+//! the list are read, and the first of each; the others may be any bytes.
 
 ghost use Rattle.std.specs.Prelude.{◌≡◌, ◌≤◌, ◌&&◌, [], length, not, is_some};
 ghost use Rattle.std.specs.List.{AllByRecursion};

@@ -1,4 +1,7 @@
 //! Why a file was not read.
+//!
+//! Bytes may have many faults, and one is told. The variants stand in the order in which a record is looked at, so that
+//! which one it is doesn't hang on how the reader goes about it.
 
 ghost use Rattle.std.specs.Prelude.{◌≡◌};
 ghost use Rattle.iso8211_records.specs.declared.fault.FileFault.TheVariants.{NoMemory};

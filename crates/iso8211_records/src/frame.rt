@@ -1,4 +1,8 @@
 //! The frame of a record: its leader, its directory, and where its fields lie.
+//!
+//! All of a record's frame is tested before any field is read, so that a field is then cut out of the bytes without a
+//! test. Each kind of fault has its own walk over the directory: one of an earlier kind is told first, also where it is
+//! in a later entry.
 
 ghost use Rattle.std.specs.Prelude.{◌≡◌, ◌+◌, ◌*◌, ◌^◌, ◌≤◌, ◌<◌, ◌||◌, not, length, IfOk};
 ghost use Rattle.std.specs.List.{list_any, AllByRecursion};

@@ -1,4 +1,7 @@
 //! What holds of record files whatever reads them.
+//!
+//! Contracts cite functions that read bytes. Which file the bytes are, and which fault they have, is said in the
+//! standard's words as relations; that the functions give these, and no others, is said here.
 
 ghost use Rattle.std.specs.Prelude.{◌≡◌, ℕ, List, Ok, Err, length};
 ghost use Rattle.iso8211_records.specs.declared.fault.FileFault.{FileFault as FaultOfFile};

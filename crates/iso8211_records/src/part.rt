@@ -1,4 +1,7 @@
 //! Parts of lists that are shared.
+//!
+//! A file has many records of few fields, and fields of few values: with a vector for each, every one would take memory
+//! of its own. The list stays as long as one of its parts does.
 
 ghost use Rattle.std.specs.Prelude.{◌≡◌, ◌≤◌, length, IfOk};
 ghost use Rattle.std.specs.List.{slice_range};

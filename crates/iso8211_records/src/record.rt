@@ -1,4 +1,7 @@
 //! Records as they are read: fields with their values, and lists of them.
+//!
+//! A field that wasn't asked for stands in its place, with its tag and without values. So which fields a record has is
+//! known, whatever those are that nobody reads.
 
 use crate::descriptors::DescriptorMap;
 use crate::part::Part;

@@ -1,4 +1,7 @@
 //! The values of a field, from its text.
+//!
+//! How long a value is, is said by its format or by the unit terminator behind it (ISO/IEC 8211). Where bytes are left
+//! over, or the last group isn't whole, the field isn't read in part: it has no reading.
 
 ghost use Rattle.std.specs.Prelude.{◌≡◌, ◌⊎◌, ◌≤◌, ◌<◌, length, position, Ok, Err, Some, None, IfOk, IfSome};
 ghost use Rattle.iso8211_records.specs.declared.value.Value.{Value as ValueOf};

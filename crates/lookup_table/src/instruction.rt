@@ -1,4 +1,8 @@
 //! What a line of a table draws.
+//!
+//! A procedure has to be known, since it is carried out when a chart is drawn; so a call of an unknown one refuses the
+//! table. Any other instruction is passed on as the table writes it: what its symbols look like is for the display to
+//! know.
 
 ghost use Rattle.std.specs.Prelude.{◌≡◌};
 ghost use Rattle.lookup_table.specs.Named.{procedure_of, instruction_in};

@@ -1,4 +1,7 @@
 //! Boxes, and the box round rings.
+//!
+//! The bounds of no point reach from the greatest number to the least. So any point that is put to them is their only
+//! one, no box meets them, and a box is made of points without a case for the first.
 
 ghost use Rattle.std.specs.Prelude.{◌≡◌, ◌↔◌, ◌≤ℤ◌, IsTrue};
 ghost use Rattle.std.specs.Int.{int_min, int_max};

@@ -1,4 +1,7 @@
 //! What holds of the definitions.
+//!
+//! Testing a point against rings costs every segment, and asking a box costs four comparisons. That a point outside the
+//! box is outside the rings too, so that the box may be asked first, is said here.
 
 ghost use Rattle.std.specs.Prelude.{◌↔◌, List, IsTrue};
 ghost use Rattle.plane_geometry.specs.declared.point.Pt.{Pt};

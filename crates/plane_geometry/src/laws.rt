@@ -1,4 +1,7 @@
 //! What holds of the definitions.
+//!
+//! The even-odd rule counts by signs alone which segments cross a ray. What is counted is said here as a place: one
+//! that the segment and the ray have in common.
 
 ghost use Rattle.std.specs.Prelude.{◌↔◌, IsTrue};
 ghost use Rattle.plane_geometry.specs.declared.point.Pt.{Pt};

@@ -1,4 +1,7 @@
 //! Points, segments and rings of the plane, in whole numbers and exact.
+//!
+//! One unit decides whether a place lies on a border, so no answer may hang on rounding. Nothing is divided: every
+//! answer is the sign of a sum of products, in as many bits as these need.
 #![tactic(auto)]
 
 mod even_odd;

@@ -1,4 +1,7 @@
 //! Points and rings, in the whole numbers in which a chart has its coordinates.
+//!
+//! Longitudes of up to 180 degrees are at most 1,800,000,000 in these units, so 32 bits hold them, and charts, routes
+//! and rings have the same points. Rings are plain lists for contracts.
 
 use chart_model::Sequence;
 

@@ -1,4 +1,8 @@
 //! Segments that cross a ray to greater x: the even-odd rule counts them.
+//!
+//! A ray that goes through a corner meets two segments of the ring there. Of each segment the lower end counts to it
+//! and the upper one doesn't, and a level segment is never crossed: so inside and outside don't change places at a
+//! corner.
 
 ghost use Rattle.std.specs.Prelude.{◌≡◌};
 ghost use Rattle.plane_geometry.specs.EvenOdd.{crosses};

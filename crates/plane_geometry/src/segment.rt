@@ -1,4 +1,7 @@
 //! Points on a segment: a place on the boundary of an area belongs to it, and no ray is asked for it.
+//!
+//! It takes both tests: the line goes on beyond the ends of its segment, and most of the box isn't on the line. A
+//! segment of no length is its one point, since then every point is on the line and the box alone tells.
 
 ghost use Rattle.std.specs.Prelude.{◌↔◌, IsTrue};
 ghost use Rattle.plane_geometry.specs.Segment.{LiesOnSegment, IsBetween, IsInBox};

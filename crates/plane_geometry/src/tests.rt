@@ -1,3 +1,8 @@
+//! Sides, segments and areas worked out by hand.
+//!
+//! Among them are the corners of the plane, where a difference of coordinates has 33 bits, and an area with a hole,
+//! whose border belongs to it.
+
 use super::*;
 use chart_model::Sequence;
 use std::alloc::{AllocError, Global};

@@ -1,4 +1,8 @@
 //! What of a chart is asked along a route: the features that may be dangerous and whose boxes a leg reaches.
+//!
+//! All legs ask the grid before any shape is made, and what they ask for is put in order by feature: so the shape of a
+//! feature that many legs reach is made once. An ask is a name and a number, and it costs of the effort, since a route
+//! of 999 legs may reach every feature with each of them.
 
 ghost use Rattle.std.specs.Prelude.{◌≡◌, ◌++◌, ◌↔◌, filter, map, OnOk, IfOk, Contains};
 ghost use Rattle.route_check.specs.Gains.{Gains};

@@ -1,4 +1,8 @@
 //! The dangerous objects of a chart, feature by feature.
+//!
+//! Whether a feature may be dangerous is told by its class, its primitive and its attributes, without memory; its shape
+//! is made for those alone that may be. Of a hazard the shape comes before the depth, since its depth may be that of
+//! the areas in which it lies.
 
 ghost use Rattle.std.specs.Prelude.{◌≡◌, ◌++◌, OnOk};
 ghost use Rattle.std.specs.List.{flat_map, enumerate_from};

@@ -1,4 +1,7 @@
 //! The rows of a report, and their order.
+//!
+//! Rows are found feature by feature, as shapes are made, and told leg by leg, as a ship meets them: so they are put in
+//! order at the end. The order is that of the fields as they stand in the struct.
 
 ghost use Rattle.std.specs.Prelude.{◌≡◌, ◌↔◌, IfOk, Contains, AllPairs};
 ghost use Rattle.std.specs.declared.cmp.Ordering.TheVariants.{Less};

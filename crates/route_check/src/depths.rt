@@ -1,4 +1,7 @@
 //! The depths of hazards, by the depth areas of their chart.
+//!
+//! Making the depth areas of a chart costs the points of all their rings. So they are made once for all hazards along a
+//! route, and not at all where the route reaches none.
 
 ghost use Rattle.std.specs.Prelude.{◌≡◌, Some, IfOk, OnOk};
 ghost use Rattle.depth_values.specs.Hazard.{hazard_depth_by};

@@ -1,4 +1,7 @@
 //! What the lines of a route's file say, as far as they are read.
+//!
+//! Points are counted to the end of the file, since a route with too many is answered with their number. Those behind
+//! the first 1,000 aren't kept, so that memory doesn't grow with the file.
 
 ghost use Rattle.std.specs.Prelude.{◌≡◌, ◌+◌, ◌<◌, ◌≤◌, ◌^◌, [], OnOk, MatchResult, Ok};
 ghost use Rattle.chart_model.specs.Answers.{FailsBy};

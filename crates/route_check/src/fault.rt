@@ -1,4 +1,7 @@
 //! Why a route is not read.
+//!
+//! A bad line is told before a wrong number of points, since their number is known behind the last line alone. Want of
+//! memory says nothing of the file.
 
 ghost use Rattle.std.specs.Prelude.{◌≡◌};
 ghost use Rattle.route_check.specs.declared.fault.RouteFault.TheVariants.{NoMemory};

@@ -1,4 +1,7 @@
 //! What is kept of a chart while it is asked.
+//!
+//! Asks for one feature stand one after the other, so the objects of one feature are enough to keep. The depth areas
+//! stay for the whole chart, since any of its hazards may ask them.
 
 use crate::chart_objects::{Sources, push_named};
 use crate::object::Object;

@@ -1,4 +1,7 @@
 //! What holds of routes and of what their files say.
+//!
+//! The contracts cite functions of lines and of bytes. What a reader checks a file by, which text is a box, a point or
+//! a route and which line is the first bad one, is said as relations; the two are tied together here.
 
 ghost use Rattle.std.specs.Prelude.{◌≡◌, ◌≢◌, ◌↔◌, ◌<◌, List, ℕ, Some, Ok, Err};
 ghost use Rattle.std.specs.Str.Lines.{lines};

@@ -1,4 +1,7 @@
 //! One line of a route's file: the box or a point.
+//!
+//! Words are parted by one space each: two in a row have an empty word between them, which is no number, so such a line
+//! is bad. A longitude of up to 180 degrees, in degrees times 10,000,000, fits 32 bits with its sign.
 
 ghost use Rattle.std.specs.Prelude.{◌≡◌, ◌<◌, ◌^◌};
 ghost use Rattle.route_check.specs.RouteLine.{half_width_of, coordinate_of, box_with, box_of, point_with, point_of};

@@ -1,4 +1,7 @@
 //! Whether a leg meets a shape.
+//!
+//! A point is tried as a segment of no length, so that points, lines and borders of areas are all met by one rule. An
+//! area is met too where a leg lies inside it and comes near none of its borders.
 
 ghost use Rattle.std.specs.Prelude.{◌≡◌};
 ghost use Rattle.std.specs.List.{list_any};

@@ -1,4 +1,7 @@
 //! A dangerous object of a chart.
+//!
+//! Its box and the number of its points are made with it, since each leg that is tried asks for both: for the box, to
+//! leave out what is far away, and for the number, to know what trying costs before it is done.
 
 use crate::danger::Danger;
 use crate::reach::reach_of;

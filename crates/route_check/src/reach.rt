@@ -1,4 +1,7 @@
 //! How far a widened leg reaches.
+//!
+//! A grid is asked with this box, and so is the box of each object, before anything is tried exactly: whatever the leg
+//! meets has a point in it. It has 64 bits, so that any leg and any half-widths have one.
 
 ghost use Rattle.std.specs.Prelude.{◌≡◌, ◌-ℤ◌, ◌+ℤ◌, pos};
 ghost use Rattle.std.specs.Int.{int_min, int_max};

@@ -1,4 +1,7 @@
 //! A route, read.
+//!
+//! The first bad line ends the reading, and no line behind it is looked at. Lines that say nothing are counted too, so
+//! a line is told by the number that an editor shows.
 
 ghost use Rattle.route_check.specs.Reading.{route_in};
 ghost use Rattle.route_check.specs.Answers.{Answers};

@@ -1,4 +1,7 @@
 //! What holds of the report.
+//!
+//! A report is found chart by chart, by grids and boxes. What it has to be is said without these: which rows it has and
+//! in which order, and again as what trying every leg with every object gives. Those two are tied together here.
 
 ghost use Rattle.std.specs.Prelude.{◌≡◌, List};
 ghost use Rattle.chart_model.specs.declared.settings.Settings.{Settings};

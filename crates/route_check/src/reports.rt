@@ -1,4 +1,8 @@
 //! The dangerous objects along a route.
+//!
+//! Charts are asked one after the other, and of each the features one after the other, so that beside the rows no more
+//! than the asks of one chart, its depth areas and the objects of one feature are held. All charts draw on one
+//! `Effort`, so that no charts and no route keep the program busy for long.
 
 ghost use Rattle.std.specs.Prelude.{◌≡◌, ◌++◌, ◌↔◌, IfOk, OnOk, Contains};
 ghost use Rattle.std.specs.List.{flat_map};

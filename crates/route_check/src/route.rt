@@ -1,4 +1,7 @@
 //! A route and its legs.
+//!
+//! That a route has 2 to 1,000 points is kept with its list, so that nobody tests it again: a route has a leg, and each
+//! leg up to the last is there by its number.
 
 ghost use Rattle.std.specs.Prelude.{◌≡◌, ◌+◌, ◌-◌, length, slice_get, Some};
 ghost use Rattle.std.specs.Option.{SomeIff};

@@ -1,5 +1,8 @@
 //! The bands in which a leg and a segment are near on an axis: between two sides, one for each direction in which they
 //! may differ.
+//!
+//! "At most so far apart" is no linear condition, but "at most so far" each way is one. The two sides of a band add up
+//! to the same number everywhere, twice the reach, so a place can't be outside both.
 
 ghost use Rattle.std.specs.Prelude.{◌≡◌, ◌-ℤ◌, ◌<◌, ◌^◌, unsigned_abs};
 ghost use Rattle.route_geometry.specs.Side.{IsOpposite};

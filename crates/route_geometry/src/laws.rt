@@ -1,4 +1,7 @@
 //! What holds of the definitions.
+//!
+//! That two are near speaks of all places on a leg and on a segment. Definitions above cite tests, which ask in a few
+//! directions whether a line parts the two; that both come to the same is said here.
 
 ghost use Rattle.std.specs.Prelude.{◌↔◌, List, IsTrue};
 ghost use Rattle.plane_geometry.specs.declared.point.Pt.{Pt};

@@ -1,4 +1,7 @@
 //! Whether a leg and a segment are near on both axes at one place of each: near on each axis somewhere isn't enough.
+//!
+//! No such place is looked for. It is enough that each side of the one band has a place together with each side of the
+//! other, which is four tests of two sides each.
 
 ghost use Rattle.std.specs.Prelude.{◌↔◌, IsTrue};
 ghost use Rattle.route_geometry.specs.Band.{SideMeetsBand, BandsMeet, IsInBand};

@@ -1,4 +1,7 @@
 //! A side along one way, where the place on the other way is settled.
+//!
+//! Where one way is held at one of its ends, a side changes along the other way alone, and evenly: so its values at
+//! both ends of that way tell all of it.
 
 ghost use Rattle.route_geometry.specs.Bound.{IsBoundedSlope};
 

@@ -1,3 +1,8 @@
+//! Legs, and the points, segments and areas that they meet or miss.
+//!
+//! Cases worked out by hand go up to the ends of the globe, where sums and products are greatest. A search over small
+//! legs and segments tries place by place, since a rule of signs is easily wrong where nobody thought of a case.
+
 use super::*;
 use plane_geometry::{Pt, Ring};
 use std::alloc::{AllocError, Global};

@@ -1,4 +1,7 @@
 //! The fields of a file's data records, by the number of the record.
+//!
+//! A data record is told by its number in contracts and in faults alike. A number that a file doesn't have gives a
+//! record without fields, so that reading one answers as for any record that lacks them.
 
 ghost use Rattle.std.specs.Prelude.{◌≡◌};
 ghost use Rattle.s57_fields.specs.Files.{record_at};

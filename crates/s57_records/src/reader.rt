@@ -1,4 +1,7 @@
 //! The subfields of one data record.
+//!
+//! Of a record that deletes no list is looked at, whatever the file has in it. A field is found by its tag, wherever it
+//! stands in the record.
 
 ghost use Rattle.std.specs.Prelude.{◌≡◌, codes, MatchResult};
 ghost use Rattle.s57_subfields.specs.Columns.{once_in};

@@ -1,4 +1,7 @@
 //! The rows of the standard's tables, as they stand in a file's descriptors.
+//!
+//! They are found before any record is read, so that no record searches for a label. A row that lacks a subfield is no
+//! fault by itself: it is one where a record needs it.
 
 ghost use Rattle.std.specs.Prelude.{◌≡◌};
 ghost use Rattle.s57_records.specs.Resolved.{general_rows, vector_rows, feature_rows};

@@ -1,4 +1,8 @@
 //! The groups of a record's fields, read one behind the other.
+//!
+//! A list is read in one go, which ends at the first group that isn't right. Only then is the fault looked for,
+//! subfield by subfield over all groups: so which one is told goes by the order of the standard's row, and not by the
+//! file's.
 
 ghost use Rattle.std.specs.Option.{option_copied};
 ghost use Rattle.std.specs.Prelude.{◌≡◌, ◌+◌, ◌++◌, All, IfOk, IfSome, IfNone, Some, map};

@@ -1,4 +1,7 @@
 //! The labels of the subfields that are looked at (S-57 Part 3).
+//!
+//! A label says which subfield it is only with the tag of its field: several stand in two fields, and are one constant
+//! for both. A field may have more labels than these; what stands under them isn't looked at.
 
 /// The name of the data set (DSID).
 pub const DSNM: [u8; 4] = *b"DSNM";

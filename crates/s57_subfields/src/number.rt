@@ -1,4 +1,7 @@
 //! Unsigned numbers: binary, or digits in a text.
+//!
+//! A file says in its descriptors whether a number is binary or a text, so either is read. What it may be at most goes
+//! by the subfield, and not by how many bytes the file gives it.
 
 ghost use Rattle.std.specs.Prelude.{◌≡◌, ◌≤◌, IfSome};
 ghost use Rattle.s57_subfields.specs.Number.{number_up_to, natural_up_to, digits_up_to, ONE_BYTE, TWO_BYTES};

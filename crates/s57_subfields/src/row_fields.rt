@@ -1,4 +1,7 @@
 //! The fields of one tag in a record.
+//!
+//! A record may have several fields of one tag. A subfield that stands once is read from the first of them, and the
+//! groups of all of them are one list.
 
 ghost use Rattle.std.specs.Prelude.{◌≡◌, is_none, filter, slice_get, option_map};
 ghost use Rattle.std.specs.Option.{option_copied};

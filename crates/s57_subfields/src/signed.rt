@@ -1,4 +1,7 @@
 //! Signed numbers: binary, or digits in a text.
+//!
+//! Only a binary number has a sign: a text is digits alone, so nothing below 0 is read from it. Soundings are in
+//! decimetres (SOMF is 10 in an ENC) and are kept in centimetres, as all depths are.
 
 ghost use Rattle.std.specs.Prelude.{◌≡◌, ◌<◌, ◌≤◌, ◌^◌, IfSome, unsigned_abs};
 ghost use Rattle.chart_model.specs.Record.{IsDepth, IsWithin};

@@ -1,4 +1,7 @@
 //! Where a subfield stands in the descriptor of a file's field.
+//!
+//! A file may have its labels in any order, so a place is looked up once and then serves each record. That a label is
+//! missing is told when a record is read that needs it, with that record's number.
 
 ghost use Rattle.std.specs.Prelude.{◌≡◌, ◌<◌, ◌≤◌, Some, length, position, IfSome, IfOk};
 ghost use Rattle.std.specs.Option.{option_copied};

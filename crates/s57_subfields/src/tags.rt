@@ -1,4 +1,7 @@
 //! The tags of the fields that are read (S-57 Part 3).
+//!
+//! A cell file is read for such tags alone. A field under another one has to lie inside its record, and else may be
+//! anything.
 
 /// Data set identification (clause 7.3.1.1).
 pub const DSID: [u8; 4] = *b"DSID";

@@ -1,4 +1,7 @@
 //! Changes of rows.
+//!
+//! A change has invariants: an instruction is one of three, an insertion of a feature has an identifier. So a row may
+//! hold any numbers, and what can't be is mended here, so that tests need no faults of their own.
 
 ghost use Rattle.std.specs.Prelude.{◌≡◌, IsSome};
 ghost use Rattle.chart_model.specs.Record.{IsPrim, IsVectorName};

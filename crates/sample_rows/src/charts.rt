@@ -1,4 +1,7 @@
 //! Charts of rows.
+//!
+//! A chart is made by changes, as one that is loaded is, and not put together by hand. So a row that doesn't fit the
+//! rows before it fails its test.
 
 use crate::changes::change;
 use crate::rows::Row;

@@ -1,4 +1,7 @@
 //! What is drawn, as tables of tests state it.
+//!
+//! Tables of several crates state items in this form, a few words each. The settings have their contours far apart, so
+//! that a case says by its depth which of them it is about.
 
 use chart_model::{ItemList, Settings, Shades, Target};
 

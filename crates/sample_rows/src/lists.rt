@@ -1,4 +1,7 @@
 //! The lists of a record, of the items of rows.
+//!
+//! Lists have to hold what is true of every chart: texts without terminators, coordinates on the globe. Numbers of rows
+//! are small, so that any of them is a coordinate or a depth.
 
 ghost use Rattle.std.specs.Prelude.{◌≡◌, All, IfOk, IfSome, IsNone, IsSome};
 ghost use Rattle.chart_model.specs.Record.{AreCoords, IsCoord, IsDepth, IsPlainText};

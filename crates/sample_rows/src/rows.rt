@@ -1,4 +1,7 @@
 //! Changes of records, by a few numbers and texts.
+//!
+//! A row is a constant, so that tables of them are static, and each says only where it differs from `BARE`. The macros
+//! leave out what most rows have alike.
 
 use chart_model::{Foid, Name};
 

@@ -1,4 +1,7 @@
 //! What the values answer.
+//!
+//! Maps of names keep their values on pages that copies share, so names stand on both sides of a page's end, and alone
+//! on many pages. Lengths of octets stand on both sides of what fits in place.
 
 mod copies;
 

@@ -1,4 +1,7 @@
 //! Lines and replies, worked out by hand from the rules.
+//!
+//! Most lines of the table are one byte beside one that is read: a space too many, a capital, a digit over the limit.
+//! Each is read as line 7, so that a bad one has to say its number.
 
 use super::*;
 use chart_model::{Key, Octets};

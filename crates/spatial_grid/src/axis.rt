@@ -1,4 +1,7 @@
 //! The two axes, each cut into up to 64 parts of one width.
+//!
+//! What lies outside the axis counts to its first or its last part, so that any area can be asked, also one far from
+//! the chart. How wide parts are says how fast an answer is found, and never which it is.
 
 ghost use Rattle.std.specs.Prelude.{◌≡◌, ◌≤◌, ◌<◌, ◌-ℤ◌, unsigned_abs};
 ghost use Rattle.std.specs.Int.{int_min, int_max};

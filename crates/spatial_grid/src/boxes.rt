@@ -1,4 +1,7 @@
 //! The boxes of the features of a chart.
+//!
+//! A feature without a shape has no box, even where the records that it points to have theirs: no leg can meet it. The
+//! shape isn't made for its box, since it can be far larger than the chart.
 
 ghost use Rattle.std.specs.Prelude.{◌≡◌, T, IfOk};
 ghost use Rattle.std.specs.FinMap as finite;

@@ -1,4 +1,8 @@
 //! Which boxes meet an area.
+//!
+//! A bucket says where to look, and a box whether it is met: a box may stand in a bucket that the area covers and lie
+//! beside the area. One that stands in several of these buckets is found several times, so names are put in order at
+//! the end.
 
 ghost use Rattle.std.specs.Prelude.{◌≡◌, ◌↔◌, OnOk, IfOk, Contains, AllPairs};
 ghost use Rattle.std.specs.declared.cmp.Ordering.TheVariants.{Less};

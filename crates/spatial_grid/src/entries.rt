@@ -1,4 +1,7 @@
 //! How boxes are put into buckets.
+//!
+//! A box that covers more than 64 buckets stands beside them all, where every question looks. So a grid has at most 64
+//! entries for each box, however large the features of a chart are.
 
 ghost use Rattle.std.specs.Prelude.{◌≤◌, ◌<◌, OnOk, IfOk, Contains};
 ghost use Rattle.std.specs.List.Sorted.{IsNonDecreasingBy};

@@ -1,4 +1,7 @@
 //! Entries: boxes in buckets.
+//!
+//! All entries stand in one list in the order of their buckets, and the buckets of a row follow each other. So those of
+//! a row that an area covers are one slice, found by two binary searches, and no bucket has a list of its own.
 
 ghost use Rattle.std.specs.Prelude.{◌≡◌, ◌≤◌, IfOk, Contains, length};
 ghost use Rattle.std.specs.Prelude.{true, false, nat_lt, nat_le};

@@ -1,4 +1,7 @@
 //! The grid of a chart.
+//!
+//! What is answered hangs on the boxes alone; rows and columns only say which of them to look at. So those are cut by
+//! where the boxes reach and how large they are on average, for speed, and contracts see no more than the boxes.
 
 ghost use Rattle.std.specs.Prelude.{IfOk};
 ghost use Rattle.spatial_grid.specs.Box.{IsGridOf};

@@ -1,4 +1,7 @@
 //! Whether the boxes of features stay when their chart changes.
+//!
+//! Most updates change attributes and move nothing. A name of a vector record is never one that both charts have as a
+//! feature, so any change of a node or an edge has the boxes made anew.
 
 ghost use Rattle.std.specs.Prelude.{◌↔◌, IsTrue, All};
 ghost use Rattle.spatial_grid.specs.Kept.{HaveSamePlace, KeepsBox};

@@ -1,4 +1,7 @@
 //! The least box round points, and round two boxes.
+//!
+//! Each box that is there has a point on every side. Where there is no point there is no box, and not an empty one, so
+//! that a grid has no entry for a feature that nothing can meet.
 
 ghost use Rattle.std.specs.Prelude.{◌≡◌, map};
 ghost use Rattle.area_rings.specs.Edge.{point_of};

@@ -1,4 +1,8 @@
 //! The boxes of the vector records of a chart, each made once.
+//!
+//! Features share edges and nodes. So the box of each record is made once, and then found by its name for every feature
+//! that points to it. An edge's coordinates leave out those of its nodes (S-57 Part 3), so its box goes by the whole
+//! line.
 
 ghost use Rattle.std.specs.Prelude.{◌≡◌, T, false, IfOk};
 ghost use Rattle.std.specs.FinMap as finite;

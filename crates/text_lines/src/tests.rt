@@ -1,4 +1,7 @@
 //! Lines worked out by hand.
+//!
+//! Lines end as files of different systems have it, or don't end; a carriage return counts as an end only before a line
+//! feed. A space at an end of a line makes a word that is empty.
 
 use super::*;
 

@@ -1,4 +1,7 @@
 //! Numbers in text, read and written.
+//!
+//! Charts, routes, catalogues and scripts all have numbers in digits. What is a number, and how many digits it may
+//! have, is said here for all of them.
 #![tactic(auto)]
 
 mod depth;

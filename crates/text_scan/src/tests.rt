@@ -1,4 +1,7 @@
 //! Texts worked out by hand from the grammars.
+//!
+//! Depths stand on both sides of 0, where rounding down and rounding towards 0 differ, and at the most digits that are
+//! read. Most texts that are no number are one byte beside one that is.
 
 use super::*;
 use chart_model::Octets;

@@ -1,4 +1,7 @@
 //! Names in a row, of which a few stand in place.
+//!
+//! Each edge that features point to has a row, and most rows hold a name or two: a vector for each would take more
+//! memory than what is in it. A third name makes one, which stays when names go again.
 
 ghost use Rattle.std.specs.Prelude.{◌≡◌, ◌<◌, ◌≤◌, [], ◌∷◌, IfOk, OnOk, OnErr, length};
 ghost use Rattle.std.specs.List.{insert, remove};

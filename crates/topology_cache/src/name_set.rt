@@ -1,4 +1,7 @@
 //! Names in order, each once.
+//!
+//! An update brings names in any order, and names that are there already, so each is searched for before it is put in.
+//! Contracts see a map, so that two sets are equal where their names are, however they came in.
 
 ghost use Rattle.std.specs.Prelude.{◌≡◌, ◌==◌, IfOk, IfErr, OnOk, OnErr, length};
 ghost use Rattle.std.specs.List.{HoldsAt};

@@ -1,4 +1,6 @@
 //! Two names.
+//!
+//! That there are two is kept beside them, so that either can be taken out without a test.
 
 ghost use Rattle.std.specs.Prelude.{◌≡◌, ◌≤◌, [], ◌∷◌, length};
 ghost use Rattle.std.specs.List.{insert};

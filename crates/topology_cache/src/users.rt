@@ -1,4 +1,7 @@
 //! The users of a chart's vector records.
+//!
+//! An update changes few features of a chart, and only what these point to, before and afterwards, has other users
+//! then. Features are counted as steps when they are looked at, so that contracts can say how many it takes.
 
 ghost use Rattle.std.specs.Prelude.{◌≡◌, ◌+◌, ◌≤◌, ◌&&◌, ◌||◌, not, List, [], ◌∷◌, ◌++◌};
 ghost use Rattle.std.specs.Prelude.{OnOk, IfOk, length};

@@ -1,4 +1,8 @@
 //! Why a change was not made.
+//!
+//! A change may be wrong in several ways. The first in the order of the variants is told, and of one variant that of
+//! the first list: pointers, then coordinates, then related objects. Each names the record; only want of memory, which
+//! is no fault of the change, names none.
 
 use chart_model::{Foid, Name};
 use thiserror::Error;

@@ -1,4 +1,7 @@
 //! One change of a record, made to a cell (S-57 Part 3, section 8).
+//!
+//! A base file is a list of insertions, so cells are built and updated by the same rules. A change that doesn't fit
+//! leaves its cell as it was.
 #![tactic(auto)]
 
 mod apply;

@@ -1,4 +1,8 @@
 //! Why a file is not taken.
+//!
+//! Reading, sequence and building each have a type of their own, since each is asked by itself. The layers below all
+//! have a want of memory; it becomes one variant here, so that the other variants always name what is wrong with the
+//! file.
 
 ghost use Rattle.std.specs.Prelude.{◌≡◌};
 ghost use Rattle.update_sequence.specs.declared.fault.BuildFault.TheVariants.{NoMemory as NoMemoryForChart};

@@ -1,4 +1,7 @@
 //! What is drawn of depth contours.
+//!
+//! The line along an edge goes by the edge's own quality of position, so one contour has edges of each. A pointer is an
+//! item, so an edge that a contour points to twice is drawn twice.
 
 use crate::tests::users::find_users;
 use chart_model::{Settings, Target};

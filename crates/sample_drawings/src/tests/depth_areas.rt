@@ -1,4 +1,7 @@
 //! What is drawn of depth areas.
+//!
+//! Colours go by both ends of an area's range, so each contour has cases at it and one centimetre on either side.
+//! Whether a border is a safety contour goes by the areas beyond it, so areas of several kinds share edges.
 
 use crate::tests::users::find_users;
 use chart_model::{Settings, Shades, Target};

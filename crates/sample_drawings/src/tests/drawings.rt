@@ -1,4 +1,7 @@
 //! Drawings of features by tables.
+//!
+//! Rows of the chart don't stand in the order in which they are drawn, so that the order has to come from priorities,
+//! geometries and names. Drawings are compared as the lines that are said of them.
 
 use crate::tests::users::find_users;
 use chart_model::{Block, Geom, Item, ItemList, Octets, Settings, Shades, Target};

@@ -1,4 +1,7 @@
 //! What is drawn of soundings.
+//!
+//! One feature has several soundings, each drawn at its own place, and a place without a depth, which isn't drawn. A
+//! feature without a shape draws nothing, also where one of its nodes is there.
 
 use crate::tests::users::find_users;
 use chart_model::{Settings, Target};

@@ -1,4 +1,7 @@
 //! The features that point to edges.
+//!
+//! A feature that points to an edge twice is one user of it, and users stand in the order of their names, not in that
+//! of the rows. Other modules take their users from here.
 
 ghost use Rattle.std.specs.Prelude.{◌≡◌, ◌<◌, IfOk};
 ghost use Rattle.topology_cache.specs.Users.{AreUsersOf};

@@ -1,4 +1,7 @@
 //! What a fault of a file, and what a fault of a field says.
+//!
+//! These lines are read beside the bytes of a file, so each says a byte, a record, a tag or a label. A tag of a file
+//! may have any bytes, and those that can't be shown are escaped.
 
 use iso8211_records::FileFault;
 use s57_subfields::FieldFault;

@@ -1,4 +1,7 @@
 //! Small files of one field, whose values are worked out by hand.
+//!
+//! The tables of S-57 Part 3 have a row for each field, and a file here has one such field alone, so that a wrong value
+//! can be told from its neighbours'. Whole cells are the matter of other crates of tests.
 
 ghost use Rattle.std.specs.Prelude.{◌≡◌, ◌<◌};
 

@@ -1,4 +1,7 @@
 //! Records whose entries all name the same bytes, so that a file is shorter than its fields in all.
+//!
+//! What is read of a file is bounded by the bytes of its fields and not by its own, or a small file could take any
+//! memory. The bound is 8,388,608 bytes: 128 fields of 65,536 are just as many, and one more is refused.
 
 use crate::tests::records::read;
 use crate::tests::small::{MORE, TEST, file_of, push_number};

@@ -1,4 +1,7 @@
 //! Records of files, worked out by hand.
+//!
+//! One cell is cut off at many places, and has one byte changed at many others. Each has one first fault, with its
+//! offset in the file, or none: some bytes of leaders and descriptors are not looked at.
 
 ghost use Rattle.std.specs.Prelude.{◌≡◌, ◌<◌};
 

@@ -1,4 +1,7 @@
 //! Small files, whose reading is worked out by hand.
+//!
+//! Most files have one field under one descriptor, so a row of a table is those and what they are to give. Numbers and
+//! texts stand at the ends of what their formats hold, and widths of entries go through all from 1 to 9.
 
 use crate::tests::records::Want::{Bits, Number, Text};
 use crate::tests::records::{Field, Want, has_values, read};

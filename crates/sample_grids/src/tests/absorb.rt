@@ -1,4 +1,7 @@
 //! Grids that are brought up to date, against areas that were worked out by hand, and against grids made anew.
+//!
+//! A case has a chart after a change, and an area in which the change would show. Where nothing or an attribute alone
+//! changes the boxes stay; after any other change they are made anew.
 
 use super::answers::{Area, are_answered, is_answer};
 use chart_difference::changed_names;

@@ -1,4 +1,6 @@
 //! What a grid answers of an area.
+//!
+//! Answers are compared in their order and to the last, so that neither a name too many nor one twice goes unseen.
 
 use chart_model::{Cell, Name};
 use plane_bounds::Bounds;

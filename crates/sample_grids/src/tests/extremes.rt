@@ -1,4 +1,7 @@
 //! Grids at their ends: of one place, of nothing, and with a box over all.
+//!
+//! The axes are cut by the boxes of a chart. Where all boxes are one place they have no length, where there is no box
+//! they have no place, and a box over all buckets stands beside them.
 
 use super::answers::{Area, Case, are_answered};
 use sample_rows::{Row, chart, feature, vector};

@@ -1,4 +1,7 @@
 //! Boxes of an area that points to one edge many times, and of many areas with an edge of their own.
+//!
+//! The first area has a shape far larger than its chart, so its box has to come from the boxes of its edges. The others
+//! lie side by side: a strip over ten of them meets these boxes and no more.
 
 use super::answers::{Case, are_answered};
 use cell_bytes::make_cell;

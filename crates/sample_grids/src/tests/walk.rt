@@ -1,4 +1,7 @@
 //! What a grid answers of areas here and there, against a walk over all boxes.
+//!
+//! Whether a name is missed hangs on which buckets a box and an area share, so boxes of many sizes meet 400 areas that
+//! look like chance and are the same in every run.
 
 use chart_model::Name;
 use plane_bounds::Bounds;

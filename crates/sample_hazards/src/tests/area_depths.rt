@@ -1,4 +1,7 @@
 //! The depths of areas.
+//!
+//! Depths are rounded down, also below 0, and a text that is no depth counts as none. What stands for a depth that is
+//! unknown differs between the two attributes, so each is missing once while the other is there.
 
 use depth_values::area_depths;
 use sample_rows::{Row, Setting, chart, feature, name};

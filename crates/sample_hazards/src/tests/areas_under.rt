@@ -1,4 +1,7 @@
 //! The areas under objects.
+//!
+//! Places stand on borders, at corners and one unit beside them, since that is where the even-odd rule may go wrong.
+//! Each is asked as a point, as a line and as an area, of which the points alone count.
 
 use crate::tests::squares::SQUARES;
 use area_rings::Shape;

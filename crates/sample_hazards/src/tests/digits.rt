@@ -1,4 +1,7 @@
 //! The digits of depths.
+//!
+//! The cells change their places at 10, 31, 100, 1,000 and 10,000 metres, so depths stand on both sides of each. Many
+//! have tenths or centimetres that are not drawn.
 
 use depth_values::{Digits, digit_cells, digits_write_depths};
 use std::test::Fail;

@@ -1,4 +1,7 @@
 //! The depths of hazards.
+//!
+//! The rules stand in an order, so many cases have attributes for two of them, and the depth tells which one was taken.
+//! Both ways of asking, with depth areas and without, have to answer the same.
 
 use crate::tests::squares::{BETWEEN, DEEP, NOWHERE, OUTSIDE, SHALLOW, SQUARES, object};
 use depth_values::codes::{OBSTRN, UWTROC, WRECKS};

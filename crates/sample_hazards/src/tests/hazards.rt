@@ -1,4 +1,8 @@
 //! What is drawn of wrecks, rocks and obstructions.
+//!
+//! Both procedures are asked for each object, since they draw by the same rules. What is drawn goes by the depth over
+//! the hazard, by the areas around it and by the settings, so cases stand at these limits and one centimetre beside
+//! them.
 
 use crate::tests::squares::{BETWEEN, DEEP, NOWHERE, OUTSIDE, SHALLOW, SQUARES, object};
 use chart_model::{Settings, Target};

@@ -1,4 +1,7 @@
 //! Which areas are safe.
+//!
+//! Each is asked both ways, since safe and unsafe are not each other's opposite: two of these areas are neither, and
+//! what is no area isn't either.
 
 use depth_values::{is_safe_area, is_unsafe_area};
 use sample_rows::{Row, SETTINGS, Setting, chart, feature, name};

@@ -1,4 +1,7 @@
 //! Depth areas side by side, and places for objects.
+//!
+//! One chart serves all cases, so that a depth by itself tells which area it is from. What looks like a depth area and
+//! is none lies in the same place.
 
 use sample_rows::{Item, Row, Setting, feature, name, vector};
 

@@ -1,4 +1,7 @@
 //! Charts that are held, their grids, and routes, from which reports are made.
+//!
+//! A report asks what is held and not files, so charts are put into a state without a store. Grids are handed in beside
+//! it, so that one can be left out.
 
 ghost use Rattle.std.specs.Prelude.{◌≡◌, ◌↔◌, ◌≤◌, None, true, length, All, IfOk, IfSome};
 ghost use Rattle.chart_model.specs.State.{IsHeld, IsChartOf, IsFileLength};

@@ -1,4 +1,7 @@
 //! Routes worked out by hand from the grammar of their files.
+//!
+//! A line is a box or a point by its place in the file, so some faulty lines are good ones in the wrong place, and most
+//! are one byte beside a good one. A file with several faults has to be answered with the first.
 
 use plane_geometry::Pt;
 use route_check::RouteFault::{BadLine, Few, Many};

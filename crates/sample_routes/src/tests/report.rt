@@ -1,4 +1,7 @@
 //! Reports worked out by hand over small charts.
+//!
+//! Many cases come in pairs, one unit or one centimetre apart: whether a leg meets an object is exact, and so is
+//! whether its depth is a danger. Charts of one object each show in which order rows of several charts stand.
 
 use crate::tests::charts::{
     chart_under, grids_over, hold, hold_chart, nothing_held, rows_along, whole,

@@ -1,4 +1,7 @@
 //! Reports over ten squares in a row, with their grid and without.
+//!
+//! With its grid a report looks at few features of a chart, and must not miss one for it: legs along many squares and
+//! between two show that. A chart without a grid, or with one under another's key, gives no row.
 
 use crate::tests::charts::{chart_under, grids_over, hold_chart, nothing_held, rows_along, whole};
 use cell_bytes::make_cell;

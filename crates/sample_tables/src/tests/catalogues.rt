@@ -1,4 +1,7 @@
 //! Catalogues worked out by hand from the grammar.
+//!
+//! Classes and attributes are numbered and named apart, so an acronym may stand once for each; a second time is a
+//! fault. Most faults are one byte beside a good line.
 
 use object_catalogue::CatalogueFault::{BadLine, Twice};
 use object_catalogue::{

@@ -1,4 +1,7 @@
 //! Tables and selections worked out by hand.
+//!
+//! A line is bad by its grammar before its names are looked up, so some lines have both faults. Of the lines for an
+//! object the first whose conditions hold is taken, so selections have several that might be.
 
 use chart_model::{AttrMap, Geom, Octets};
 use lookup_table::TableFault::{BadLine, UnknownName, UnknownProcedure};

@@ -1,4 +1,7 @@
 //! What is kept of a chart, made and brought up to date.
+//!
+//! What is kept is compared by what it answers, since how a grid is cut and how users are held may differ. Users are
+//! given more names than differ, as they may be; the grid those alone.
 
 ghost use Rattle.std.specs.Prelude.{◌≡◌, ◌<◌, IfOk, OnOk};
 ghost use Rattle.spatial_grid.specs.Box.{IsGridOf};

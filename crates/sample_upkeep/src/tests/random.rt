@@ -1,4 +1,7 @@
 //! Updates at random.
+//!
+//! Updates that follow one another bring up what no single one does, such as the last user of an edge that goes and
+//! comes again. Numbers begin at 1 in every run, so that a fault is found again.
 
 ghost use Rattle.std.specs.Prelude.{IfOk};
 ghost use Rattle.spatial_grid.specs.Box.{IsGridOf};

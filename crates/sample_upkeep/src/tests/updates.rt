@@ -1,4 +1,7 @@
 //! Updates that add, replace, move and delete.
+//!
+//! Each update changes something that is kept in another way: pointers, an attribute alone, a node that features share.
+//! The answers are compared after each, so that a fault is told where it comes in.
 
 use super::kept::{is_as_anew, kept_of, updated};
 use sample_rows::{BARE, Row, chart, feature, name, vector};

@@ -1,4 +1,7 @@
 //! Copies of values that hold something of each kind.
+//!
+//! A copy that left out a part would show in what is counted: a cell with a node and a feature, a state with that cell,
+//! and a block with an item.
 
 ghost use Rattle.std.specs.Prelude.{◌≡◌, IfOk};
 ghost use Rattle.chart_model.specs.Cell.{IsCell, IsChartHeader};

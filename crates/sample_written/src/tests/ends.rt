@@ -1,4 +1,7 @@
 //! Records at the ends of what their values may be.
+//!
+//! A number that is too wide or has its bytes in another order shows at the greatest and the least value. A text may
+//! have any byte but the two that end a field or a subfield.
 
 ghost use Rattle.std.specs.Prelude.{IfOk};
 ghost use Rattle.chart_model.specs.Record.{AreCoords};

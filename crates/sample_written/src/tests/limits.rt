@@ -1,4 +1,7 @@
 //! Records and files at their limits.
+//!
+//! The length of a record has five digits (ISO/IEC 8211), and a file is loaded up to 8,388,608 bytes. Records here are
+//! as long as they may be and one sounding longer, and a file has as many of them as fit and one more.
 
 ghost use Rattle.std.specs.Prelude.{IfOk, IsSome};
 ghost use Rattle.chart_model.specs.Record.{AreCoords, IsCoord};

@@ -1,4 +1,7 @@
 //! Records.
+//!
+//! Each record is written alone in its file, so that its bytes stand at one place and can be compared to the last.
+//! Which fields it has, and where its directory says that they are, goes by which of its lists are empty.
 
 use cell_writer::write_cell;
 use sample_rows::{Foid, Row, chart, feature, vector};

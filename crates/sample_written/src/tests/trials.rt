@@ -1,4 +1,7 @@
 //! Cells and updates that are made for trials.
+//!
+//! Benches and other tests count on what these cells hold, so their bytes are settled here. An update changes every
+//! thirtieth area: of 32 areas two.
 
 use cell_writer::{make_cell, make_update, write_cell};
 use std::test::Fail;

@@ -1,4 +1,7 @@
 //! A whole file.
+//!
+//! Every byte of the file stands here, its data descriptive record too, so that what other programs are given doesn't
+//! change unseen. The chart has a record of each kind.
 
 use cell_writer::write_cell;
 use chart_model::Cell;

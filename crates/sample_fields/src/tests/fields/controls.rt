@@ -1,4 +1,7 @@
 //! The control fields of lists.
+//!
+//! The four rows differ in their labels alone, so a reader that went by another's would find none of them here. In the
+//! last a place of two bytes tells the least significant from the most.
 
 use super::read;
 use chart_model::Control;

@@ -1,4 +1,7 @@
 //! Fields that are not read.
+//!
+//! Which fault of a list is told goes by the order of the standard's row, whatever order the file has. So labels stand
+//! in other orders here, and some files have two faults, of which the first of the row has to be told.
 
 use super::read;
 use iso8211_records::{FileFault, RecordFile};

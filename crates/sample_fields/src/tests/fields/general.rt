@@ -1,4 +1,7 @@
 //! What a file says of its data set.
+//!
+//! Only some subfields of each row are asked for, and these files describe no others: what isn't asked for may be
+//! missing.
 
 use super::read;
 use s57_fields::{read_dsid, read_dspm, read_dssi};

@@ -1,4 +1,7 @@
 //! The identifiers of records and objects.
+//!
+//! The update instruction (RUIN) is read where it is asked for, and else not looked at; one record here is read with it
+//! and one without. Some numbers have bytes that differ, so that one read the wrong way round shows.
 
 use super::read;
 use chart_model::Foid;

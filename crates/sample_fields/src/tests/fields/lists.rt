@@ -1,5 +1,8 @@
 //! Attributes, pointers, coordinates and related objects: fields of three groups each, with the
 //! labels as the standard has them, and turned round.
+//!
+//! A file says by its descriptor in which order subfields stand, and a reader that went by the standard's order would
+//! read the second file wrong. The second group shows where the first one ends, and the third that none is left out.
 
 use super::read;
 use chart_model::{Coord, Foid, Name, Pointer, Related};
