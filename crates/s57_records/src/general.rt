@@ -2,17 +2,16 @@
 //!
 //! It comes first, since it says how the other records are read: those of a base file insert.
 
-ghost use Rattle.std.specs.Prelude.{◌≡◌, IfOk};
+ghost use Rattle.std.specs.Prelude.{IfOk};
 ghost use Rattle.chart_model.specs.Key.{IsKey};
-ghost use Rattle.s57_subfields.specs.Texts.{key_in};
 ghost use Rattle.s57_records.specs.Answers.{Gives};
 ghost use Rattle.s57_records.specs.Rows.{checked_edition, general_of, checked_structure, scale_of};
 ghost use Rattle.s57_records.specs.RecordReading.{subfields_in};
 
 use crate::fault::DatasetFault;
 use crate::reader::{DataRecord, reads_as};
-use chart_model::{Key, Octets};
-use s57_subfields::key_in;
+use chart_model::Key;
+use s57_subfields::key_of;
 use s57_subfields::labels::{AALL, COMF, COUN, DUNI, EDTN, PROF, SOMF};
 use s57_subfields::tags::{DSID, DSPM, DSSI};
 use std::alloc::Global;
@@ -26,17 +25,6 @@ pub(crate) struct General {
     pub issued: [u8; 8],
     pub base: bool,
     pub agency: u16,
-}
-
-/// The key in the name of a data set's file.
-fn key_of(name: &Octets) -> Key
-    requires { IsKey (key_in name.now) }
-    ensures { result ≡ key_in name.now }
-{
-    match Key::from_bytes(key_in(name.as_slice())) {
-        Some(key) => key,
-        None => unreachable!(),
-    }
 }
 
 /// Refuses an edition of 0 in a base file.
@@ -62,7 +50,7 @@ pub(crate) fn read_general(alloc: Global, fields: &DataRecord<'_>) -> Result<Gen
     let row = &fields.rows.general().dsid;
     let values = fields.values(DSID);
     let name = row.dsnm.read(alloc, &values)?;
-    let key = key_of(&name);
+    let key = key_of(name.as_slice());
     let edition = row.edtn.read(alloc, &values)?;
     check_edition(alloc, fields, edition)?;
     let update = row.updn.read(alloc, &values)?;

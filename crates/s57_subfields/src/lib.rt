@@ -30,4 +30,4 @@ pub use row_fields::RowFields;
 pub use signed::{Depth, Within};
 pub use single::Single;
 pub use subfield::{Place, Subfield};
-pub use text::{DataSetName, EightBytes, NineDigits, PlainText, key_in};
+pub use text::{DataSetName, EightBytes, NineDigits, PlainText, key_in, key_of};

@@ -118,6 +118,17 @@ pub fn key_in(name: &[u8]) -> &[u8]
     name
 }
 
+/// The key in the name of a data set's file, which has one. It takes no memory.
+pub fn key_of(name: &[u8]) -> Key
+    requires { IsKey (key_in name.now) }
+    ensures { result ≡ key_in name.now }
+{
+    match Key::from_bytes(key_in(name)) {
+        Some(key) => key,
+        None => unreachable!(),
+    }
+}
+
 /// A copy of the text.
 fn copied(alloc: Global, text: &[u8]) -> Result<Octets, AllocError>
     ensures { IfOk result (λ copy. copy ≡ text.now) }

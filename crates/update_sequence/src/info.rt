@@ -16,7 +16,7 @@ use chart_ports::Steps;
 use iso8211_records::{RawField, RecordFile, read_file};
 use s57_fields::{Dsid, read_dsid};
 use s57_records::DatasetFault;
-use s57_subfields::{key_in, tags};
+use s57_subfields::{key_of, tags};
 use std::alloc::Global;
 use std::sync::ledger::Ledger;
 
@@ -47,17 +47,6 @@ fn names_itself(file: &RecordFile) -> bool
     match file.records.as_slice() {
         [] => false,
         [first, ..] => has_dsid(first.as_slice()),
-    }
-}
-
-/// The key in the name of a data set's file.
-fn key_of(name: &[u8]) -> Key
-    requires { IsKey (key_in name.now) }
-    ensures { result ≡ key_in name.now }
-{
-    match Key::from_bytes(key_in(name)) {
-        Some(key) => key,
-        None => unreachable!(),
     }
 }
 
