@@ -4,6 +4,7 @@ pub mod Leasts
 pub mod Named
 pub mod Grids
 pub mod RecordBoxes
+pub mod NodePlaces
 pub mod ShapePoints
 pub mod FeatureBoxes
 pub mod Pointers

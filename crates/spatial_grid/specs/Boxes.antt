@@ -48,9 +48,10 @@ abbrev pub box_in : Option Shape → Option Bounds
 box_in None = None
 box_in (Some shape) = box_of (points_in shape)
 
-abbrev pub under_name : Name → Option Bounds → Option (Name × Bounds)
+-- a value under a name
+abbrev pub under_name : {X : Type 0} → Name → Option X → Option (Name × X)
 under_name name None = None
-under_name name (Some box) = Some (name, box)
+under_name name (Some x) = Some (name, x)
 
 -- the name of a feature and its box
 abbrev pub entry_at : CellValue → Name × Feature → Option (Name × Bounds)

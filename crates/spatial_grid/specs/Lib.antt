@@ -1,6 +1,7 @@
 pub mod Box
 pub mod Candidates
 pub mod Boxes
+pub mod Edges
 pub mod Buckets
 pub mod Kept
 pub mod Met

@@ -9,8 +9,10 @@ ghost use Rattle.chart_model.specs.Names.{name_cmp};
 ghost use Rattle.area_rings.specs.Shape.{shape_of};
 ghost use Rattle.spatial_grid.specs.Boxes.{box_in, box_round, boxes_in, record_boxes};
 
+use crate::edges::node_table;
 use crate::point_box::around_both;
-use crate::record_boxes::{box_under, record_boxes};
+use crate::record_boxes::record_boxes;
+use crate::table::find;
 use area_rings::{has_shape, rings_are_shortest};
 use chart_model::codes::NO_PRIMITIVE;
 use chart_model::{Cell, Feature, Name, Pointer};
@@ -25,7 +27,7 @@ fn box_round(boxes: &[(Name, Bounds)], pointers: &[Pointer]) -> Option<Bounds>
 {
     let mut found: Option<Bounds> = None;
     for pointer in pointers {
-        found = around_both(found, box_under(boxes, pointer.target));
+        found = around_both(found, find(boxes, pointer.target));
     }
     found
 }
@@ -51,7 +53,8 @@ fn feature_box(cell: &Cell, boxes: &[(Name, Bounds)], feature: &Feature) -> Opti
 pub(crate) fn boxes_of(alloc: Global, cell: &Cell) -> Result<Vec<(Name, Bounds)>, AllocError>
     ensures { IfOk result (λ boxes. boxes.items ≡ boxes_in cell.now) }
 {
-    let records = record_boxes(alloc, cell)?;
+    let nodes = node_table(alloc, cell)?;
+    let records = record_boxes(alloc, cell, nodes.as_slice())?;
     let mut boxes = Vec::new(alloc);
     for (name, feature) in cell.features.iter() {
         if let Some(bounds) = feature_box(cell, records.as_slice(), feature) {

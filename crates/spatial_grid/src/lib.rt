@@ -11,11 +11,13 @@
 mod axis;
 mod boxes;
 mod candidates;
+mod edges;
 mod entries;
 mod entry;
 mod grid;
 mod kept;
 mod point_box;
 mod record_boxes;
+mod table;
 
 pub use grid::{Grid, GridMap, grid_of};

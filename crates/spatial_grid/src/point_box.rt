@@ -4,8 +4,9 @@
 //! that a grid has no entry for a feature that nothing can meet.
 
 ghost use Rattle.std.specs.Prelude.{◌≡◌, map};
+ghost use Rattle.std.specs.List.{fold};
 ghost use Rattle.area_rings.specs.Edge.{point_of};
-ghost use Rattle.spatial_grid.specs.Boxes.{around, around_both, box_at, box_of, box_with};
+ghost use Rattle.spatial_grid.specs.Boxes.{around, around_both, box_at, box_with};
 
 use area_rings::point;
 use chart_model::Coord;
@@ -27,7 +28,7 @@ fn box_at(p: Pt) -> Bounds
 }
 
 /// The box with one more point; without a box, that of the point.
-fn box_with(found: Option<Bounds>, p: Pt) -> Option<Bounds>
+pub(crate) fn box_with(found: Option<Bounds>, p: Pt) -> Option<Bounds>
     ensures { result ≡ box_with found p }
 {
     match found {
@@ -36,22 +37,11 @@ fn box_with(found: Option<Bounds>, p: Pt) -> Option<Bounds>
     }
 }
 
-/// The least box round points; `None` where there is none. It takes no memory.
-pub(crate) fn box_of_points(points: &[Pt]) -> Option<Bounds>
-    ensures { result ≡ box_of points.now }
+/// The least box round another box and the points of coordinates; `None` where there is neither. It takes no memory.
+pub(crate) fn with_coords(found: Option<Bounds>, coords: &[Coord]) -> Option<Bounds>
+    ensures { result ≡ fold box_with found (map point_of coords.now) }
 {
-    let mut bounds: Option<Bounds> = None;
-    for p in points {
-        bounds = box_with(bounds, *p);
-    }
-    bounds
-}
-
-/// The least box round the points of coordinates; `None` where there is none. It takes no memory.
-pub(crate) fn box_of_coords(coords: &[Coord]) -> Option<Bounds>
-    ensures { result ≡ box_of (map point_of coords.now) }
-{
-    let mut bounds: Option<Bounds> = None;
+    let mut bounds = found;
     for coord in coords {
         bounds = box_with(bounds, point(coord));
     }

@@ -4,67 +4,70 @@
 //! that points to it. An edge's coordinates leave out those of its nodes (S-57 Part 3), so its box goes by the whole
 //! line.
 
-ghost use Rattle.std.specs.Prelude.{◌≡◌, T, false, IfOk};
+ghost use Rattle.std.specs.Prelude.{◌≡◌, ◌∷◌, ◌++◌, [], T, map, IfOk};
 ghost use Rattle.std.specs.FinMap as finite;
 ghost use Rattle.chart_model.specs.Names.{name_cmp};
-ghost use Rattle.area_rings.specs.Shape.{line_of};
-ghost use Rattle.spatial_grid.specs.Boxes.{box_of, points_along, points_under, record_boxes};
+ghost use Rattle.area_rings.specs.Edge.{point_of};
+ghost use Rattle.spatial_grid.specs.Boxes.{box_of, record_boxes};
+ghost use Rattle.spatial_grid.specs.Edges.{line_between, node_table, record_box, record_table};
 
-use crate::point_box::{box_of_coords, box_of_points};
-use area_rings::edge_line;
+use crate::edges::{Ends, ends_at};
+use crate::point_box::{box_with, with_coords};
 use chart_model::codes::{CONNECTED_NODE, ISOLATED_NODE};
-use chart_model::{Cell, Name, Vector};
+use chart_model::{Cell, Coord, Name, Vector};
 use plane_bounds::Bounds;
+use plane_geometry::Pt;
 use std::alloc::{AllocError, Global};
 
-/// The least box round the line of an edge; `None` where it has none.
-fn edge_box(alloc: Global, cell: &Cell, name: Name) -> Result<Option<Bounds>, AllocError>
-    ensures { IfOk result (λ found. found ≡ box_of (points_along (line_of cell.now name false))) }
+/// The least box round the line of an edge: round its nodes and the points between them. It takes no memory.
+fn line_box(ends: Ends, inner: &[Coord]) -> Option<Bounds>
+    ensures { result ≡ box_of (line_between ends inner.now) }
 {
-    match edge_line(alloc, cell, name, false)? {
-        Some(line) => Ok(box_of_points(line.as_slice())),
-        None => Ok(None),
-    }
+    let begun = box_with(None, ends.start);
+    let widened = with_coords(begun, inner);
+    box_with(widened, ends.end)
 }
 
 /// The least box round the coordinates of a node, or round the line of an edge; `None` where it has none.
-fn record_box(
-    alloc: Global,
-    cell: &Cell,
-    name: Name,
-    vector: &Vector,
-) -> Result<Option<Bounds>, AllocError>
-    ensures { IfOk result (λ found. found ≡ box_of (points_under cell.now name vector.now)) }
+fn record_box(nodes: &[(Name, Pt)], name: Name, vector: &Vector) -> Option<Bounds>
+    requires { T (finite.is_sorted name_cmp nodes.now) }
+    ensures { result ≡ record_box nodes.now name vector.now }
 {
+    let coords = vector.coords.as_slice();
     match name.rcnm {
-        ISOLATED_NODE | CONNECTED_NODE => Ok(box_of_coords(vector.coords.as_slice())),
-        _ => edge_box(alloc, cell, name),
+        ISOLATED_NODE | CONNECTED_NODE => with_coords(None, coords),
+        _ => line_box(ends_at(nodes, name, vector)?, coords),
     }
 }
 
-/// The boxes of the vector records of a chart, in the order of their names: of nodes with a coordinate, and of edges
-/// with a line. It costs the points of all records, each of them once for itself and, of a node, once for each of its
-/// edges.
-pub(crate) fn record_boxes(alloc: Global, cell: &Cell) -> Result<Vec<(Name, Bounds)>, AllocError>
-    ensures { IfOk result (λ boxes. boxes.items ≡ record_boxes cell.now) }
+/// The boxes of vector records, by the places of nodes.
+fn record_table(
+    alloc: Global,
+    cell: &Cell,
+    nodes: &[(Name, Pt)],
+) -> Result<Vec<(Name, Bounds)>, AllocError>
+    requires { T (finite.is_sorted name_cmp nodes.now) }
+    ensures { IfOk result (λ boxes. boxes.items ≡ record_table nodes.now cell.now) }
 {
     let mut boxes = Vec::new(alloc);
     for (name, vector) in cell.vectors.iter() {
-        if let Some(bounds) = record_box(alloc, cell, *name, vector)? {
+        if let Some(bounds) = record_box(nodes, *name, vector) {
             boxes.push((*name, bounds))?;
         }
     }
     Ok(boxes)
 }
 
-/// The box under a name, of boxes in the order of their names; `None` where there is none. It costs a binary search,
-/// and takes no memory.
-pub(crate) fn box_under(boxes: &[(Name, Bounds)], name: Name) -> Option<Bounds>
-    requires { T (finite.is_sorted name_cmp boxes.now) }
-    ensures { result ≡ finite.find name_cmp name boxes.now }
+/// The boxes of the vector records of a chart, in the order of their names: of nodes with a coordinate, and of edges
+/// with a line. It costs the points of all records, each of them once for itself and, of a node, once for each of its
+/// edges.
+pub(crate) fn record_boxes(
+    alloc: Global,
+    cell: &Cell,
+    nodes: &[(Name, Pt)],
+) -> Result<Vec<(Name, Bounds)>, AllocError>
+    requires { nodes.now ≡ node_table cell.now }
+    ensures { IfOk result (λ boxes. boxes.items ≡ record_boxes cell.now) }
 {
-    match boxes.binary_search_by_key(&name, |boxed| boxed.0) {
-        Ok(place) => Some(boxes[place].1),
-        Err(_) => None,
-    }
+    record_table(alloc, cell, nodes)
 }
