@@ -3,4 +3,6 @@ pub mod NameSets
 pub mod Uses
 pub mod Cells
 pub mod Walks
+pub mod UseLists
+pub mod Rows
 pub mod Changes

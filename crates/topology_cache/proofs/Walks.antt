@@ -3,8 +3,6 @@ use Rattle.std.proofs.Common.{◌≡◌, Bool, true, false, cond, ◌&&◌, ◌|
 use Rattle.std.proofs.Common.{refl, sym, ap, ◌∙◌, subst, append-nil, append_assoc}
 use Rattle.std.specs.declared.cmp.Ordering.TheVariants.{Less}
 use Rattle.std.specs.Ordering.{eq_by_cmp, is_eq, ordering_reverse}
-use Rattle.std.specs.Prelude.{is_some}
-use Rattle.std.specs.Option.{unwrap_or}
 use Rattle.std.specs.FinMap as finite
 use Rattle.std.specs.FinMap.{find, is_sorted}
 use Rattle.std.specs.FinMap.Entries.{below_all, find-append}
@@ -15,31 +13,24 @@ use Rattle.chart_model.specs.Names.{name_cmp}
 use Rattle.chart_model.proofs.Names.{name_cmp-total, name_cmp-IsAntisymmetric}
 use Rattle.chart_model.proofs.Maps.{tied}
 use Rattle.chart_model.proofs.SortedEntries.{first, second, less}
-use Rattle.topology_cache.specs.Users.{Names, UsersValue, AreUsersOf, same_name, points_to_any}
-use Rattle.topology_cache.specs.Sets.{is_user, pointers_in}
+use Rattle.topology_cache.specs.Users.{same_name, points_to_any}
+use Rattle.topology_cache.specs.Sets.{pointers_in, pointers_at}
 use Rattle.topology_cache.proofs.Same.{ties-same}
-use Rattle.topology_cache.proofs.Cells.{are-users}
 
--- of the features that were seen, the users of each record are kept
-pub record Walked (cell : CellValue) (users : UsersValue) (left : List (Name × Feature)) : Type 0 where
+-- whether a record is used by the feature with a name
+abbrev pub Usage : Type 0
+Usage = Name → Name → Bool
+
+-- of the features that were seen, it is told what they use
+pub record Walked (cell : CellValue) (used : Usage) (left : List (Name × Feature)) : Type 0 where
   pub seen : List (Name × Feature)
   pub parts : finite.entries cell.features ≡ seen ++ left
-  pub kept : (edge name : Name) → is_user users edge name ≡ points_to_any edge (pointers_in (find name_cmp name seen))
-
-nobody : (users : UsersValue) (edge name : Name) → users ≡ finite.empty → is_user users edge name ≡ false
-nobody users edge name none =
-    ap (λ (u : UsersValue). is_user u edge name) none
-    ∙ ap (λ (o : Option Names). finite.contains_key (unwrap_or o finite.empty) name) (finite.get-empty name_cmp edge)
-    ∙ ap (λ (o : Option (Unit {0})). is_some o) (finite.get-empty name_cmp name)
+  pub kept : (edge name : Name) → used edge name ≡ points_to_any edge (pointers_in (find name_cmp name seen))
 
 -- before the first feature
-pub walk-begins : (cell : CellValue) (users : UsersValue) (all : List (Name × Feature)) → users ≡ finite.empty
-    → all ≡ finite.entries cell.features → Walked cell users all
-walk-begins cell users all none e = record {
-  seen = [];
-  parts = sym e;
-  kept = λ edge name. nobody users edge name none;
-}
+pub walk-begins : (cell : CellValue) (used : Usage) (all : List (Name × Feature))
+    → ((edge name : Name) → used edge name ≡ false) → all ≡ finite.entries cell.features → Walked cell used all
+walk-begins cell used all none e = record { seen = []; parts = sym e; kept = none }
 
 below_next : (x : Name) (seen rest : List (Name × Feature)) (next : Name × Feature)
     → T (below_all name_cmp x (seen ++ next ∷ rest)) → name_cmp x next.0 ≡ Less
@@ -67,11 +58,11 @@ chosen : (tie : Bool) (edge : Name) (feature : Feature) (rest : Option Feature)
 chosen true edge feature rest = refl
 chosen false edge feature rest = refl
 
-pub walk-goes : (cell : CellValue) (before after : UsersValue) (name : Name) (feature : Feature)
+pub walk-goes : (cell : CellValue) (before after : Usage) (name : Name) (feature : Feature)
     (all left : List (Name × Feature))
     → Walked cell before all → all ≡ (name, feature) ∷ left
-    → ((edge other : Name) → is_user after edge other ≡ ((points_to_any edge feature.pointers && same_name name other)
-    || is_user before edge other))
+    → ((edge other : Name) → after edge other ≡ ((points_to_any edge feature.pointers && same_name name other)
+    || before edge other))
     → Walked cell after left
 walk-goes cell before after name feature all left w next more =
     let sorted : T (is_sorted name_cmp (w.seen ++ (name, feature) ∷ left)) =
@@ -84,7 +75,7 @@ walk-goes cell before after name feature all left w next more =
           ∙ sym (append_assoc w.seen ((name, feature) ∷ []) left);
       kept = λ edge other.
           more edge other
-          ∙ ap (λ b. (points_to_any edge feature.pointers && b) || is_user before edge other)
+          ∙ ap (λ b. (points_to_any edge feature.pointers && b) || before edge other)
           (sym (ties-same other name))
           ∙ ap (λ b. (points_to_any edge feature.pointers && eq_by_cmp name_cmp other name) || b) (w.kept edge other)
           ∙ one_more (eq_by_cmp name_cmp other name) (points_to_any edge feature.pointers) _
@@ -96,10 +87,10 @@ walk-goes cell before after name feature all left w next more =
           (find-append name_cmp name_cmp-total w.seen name feature other new));
     }
 
-pub walk-ends : (cell : CellValue) (users : UsersValue) → Walked cell users [] → AreUsersOf cell users
-walk-ends cell users w =
-    are-users cell users (λ edge name.
+pub walk-ends : (cell : CellValue) (used : Usage) → Walked cell used []
+    → (edge name : Name) → used edge name ≡ points_to_any edge (pointers_at cell name)
+walk-ends cell used w edge name =
     w.kept edge name
     ∙ ap (λ (es : List (Name × Feature)). points_to_any edge (pointers_in (find name_cmp name es)))
     (sym (append-nil w.seen) ∙ sym w.parts)
-    ∙ ap (λ o. points_to_any edge (pointers_in o)) (sym (finite.get-entries cell.features name)))
+    ∙ ap (λ o. points_to_any edge (pointers_in o)) (sym (finite.get-entries cell.features name))

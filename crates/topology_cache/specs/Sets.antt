@@ -1,5 +1,5 @@
 -- Names in order, each once.
-use Rattle.std.specs.Prelude.{◌≡◌, Bool, if◌then◌else◌, T, List, [], map, Option, Some, None}
+use Rattle.std.specs.Prelude.{◌≡◌, Bool, ◌&&◌, if◌then◌else◌, T, List, [], map, Option, Some, None}
 use Rattle.std.specs.List.{list_any}
 use Rattle.std.specs.Ordering.{eq_by_cmp}
 use Rattle.std.specs.FinMap as finite
@@ -8,7 +8,8 @@ use Rattle.chart_model.specs.Names.{name_cmp}
 use Rattle.chart_model.specs.Cell.{CellValue}
 use Rattle.chart_model.specs.declared.record.Pointer.{Pointer}
 use Rattle.chart_model.specs.declared.cell.Feature.{Feature}
-use Rattle.topology_cache.specs.Users.{Names, UsersValue, set_at, points_to_any}
+use Rattle.topology_cache.specs.declared.usage.Use.{Use}
+use Rattle.topology_cache.specs.Users.{Names, UsersValue, HasNoEmpty, set_at, same_name, points_to_any}
 
 -- each of the names, with nothing
 abbrev pub marked : List Name → List (Name × Unit {0})
@@ -24,6 +25,15 @@ set_of names = finite.from_sorted (marked names)
 -- the feature with that name is a user of the edge
 abbrev pub is_user : UsersValue → Name → Name → Bool
 is_user users edge name = finite.contains_key (set_at users edge) name
+
+-- rows in the order of their records, none of which is without a user
+pub record AreUserRows (rows : List (Name × Names)) : Type 0 where
+  pub sorted : T (finite.is_sorted name_cmp rows)
+  pub filled : HasNoEmpty (finite.from_sorted rows)
+
+-- one of the uses is that of the edge by the feature with that name
+abbrev pub is_use : List Use → Name → Name → Bool
+is_use uses edge name = list_any (λ one. same_name one.target edge && same_name one.user name) uses
 
 -- ---- a cell, feature by feature
 

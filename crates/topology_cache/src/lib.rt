@@ -9,6 +9,8 @@
 mod name_row;
 mod name_set;
 mod pair;
+mod usage;
+mod user_rows;
 mod users;
 
 pub use users::{Users, UsersMap, users_of};

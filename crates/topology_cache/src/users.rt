@@ -13,6 +13,8 @@ ghost use Rattle.topology_cache.specs.Users.{same_name, points_to_any};
 ghost use Rattle.topology_cache.specs.Sets.{is_user, pointers_at, AreBetween};
 
 use crate::name_set::NameSet;
+use crate::usage::{in_order, uses_of};
+use crate::user_rows::{UserRows, rows_of};
 use chart_model::codes::FEATURE;
 use chart_model::{Cell, KeyMap, Name, NameList, Pointer};
 use chart_ports::Steps;
@@ -73,13 +75,13 @@ fn count<C: Ledger>(name: Name, steps: &mut Steps<C>)
 }
 
 impl Users {
-    /// No users. It takes no memory.
-    fn new(alloc: Global) -> Users
-        ensures { result ≡ finite.empty }
+    /// The users that stand in rows.
+    fn from_rows(alloc: Global, rows: UserRows) -> Result<Users, AllocError>
+        ensures { IfOk result (λ users. users ≡ rows) }
     {
-        Users {
-            sets: BTreeMap::new(alloc),
-        }
+        Ok(Users {
+            sets: rows.into_tree(alloc)?,
+        })
     }
 
     /// The features that point to an edge, or to a node, in the order of their names, each once. It costs one look-up,
@@ -186,7 +188,8 @@ impl Users {
 }
 
 /// The users of a chart's vector records. It looks at each feature once, and counts it as a step before it does so;
-/// where there is no memory it may have counted fewer.
+/// where there is no memory it may have counted fewer. It costs a sort of the features' pointers by what they point to,
+/// which is one pass over them where features in the order of their names point to records in the order of theirs.
 pub fn users_of<C: Ledger>(
     alloc: Global,
     cell: &Cell,
@@ -196,10 +199,7 @@ pub fn users_of<C: Ledger>(
     ensures counted { OnOk result (steps.new ≡ steps.old + finite.len cell.now.features) }
     ensures at_most { steps.new ≤ steps.old + finite.len cell.now.features }
 {
-    let mut users = Users::new(alloc);
-    for (name, feature) in cell.features.iter() {
-        steps.tick();
-        users.insert_all(alloc, *name, feature.pointers.as_slice())?;
-    }
-    Ok(users)
+    let uses = in_order(uses_of(alloc, cell, steps)?)?;
+    let rows = rows_of(alloc, uses.as_slice())?;
+    Users::from_rows(alloc, rows)
 }
