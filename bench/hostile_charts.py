@@ -101,7 +101,7 @@ def wrecks_at_one_place():
 
 
 def contour_of_many_edges():
-    """50 safe areas of the same 12,000 edges: each asks for its neighbours along each of them."""
+    """50 safe areas of the same 12,000 edges: each has the others for neighbours along each of them."""
     count = 12_000
     places = list(round_points(count))
     records = [corner(number, x, y) for number, (x, y) in enumerate(places, 1)]
@@ -219,12 +219,14 @@ def wrecks_in_long_areas_passed():
 
 
 CASES = [
-    ("50,000 safe areas of one edge, drawn", areas_of_one_edge, DRAWN),
+    ("50,000 safe areas of one edge, drawn", areas_of_one_edge, DRAWN,
+     b"item 1 A 50000 whole AC(DEPDW)"),
     ("20,000 wrecks in 2,000 long areas, drawn", wrecks_in_long_areas, DRAWN),
     ("the same, passed by a leg", wrecks_in_long_areas_passed, PASSED),
     ("a wreck in 20,000 long areas, drawn", many_long_areas, DRAWN),
     ("30,000 wrecks at one place, drawn", wrecks_at_one_place, DRAWN),
-    ("50 safe areas of 12,000 edges, drawn", contour_of_many_edges, DRAWN),
+    ("50 safe areas of 12,000 edges, drawn", contour_of_many_edges, DRAWN,
+     b"item 1 A 50 whole AC(DEPDW)"),
     ("999 legs through 990,000 points", long_ring_passed, PASSED),
     ("999 legs past 30,000 wrecks", wrecks_passed, PASSED),
     ("2,500,000 soundings, drawn", soundings_of_three_bytes, DRAWN),

@@ -1,3 +1,4 @@
 pub mod Coords
 pub mod Found
+pub mod Kept
 pub mod Unsafe

@@ -1,5 +1,6 @@
 pub mod Text
 pub mod Colour
 pub mod DepthArea
+pub mod EdgeAnswers
 pub mod Contours
 pub mod Soundings

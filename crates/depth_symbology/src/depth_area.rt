@@ -2,6 +2,9 @@
 //!
 //! A chart needn't have a contour at the mariner's safety contour. So that is also drawn where a safe area meets an
 //! unsafe one.
+//!
+//! Whether an unsafe area lies beyond an edge is the same for all areas of a chart. So the answer for an edge of many
+//! users is kept for the others of a drawing, which would each ask all of them again.
 
 ghost use Rattle.std.specs.Prelude.{◌≡◌, ◌++◌, OnOk, IfOk};
 ghost use Rattle.std.specs.List.{list_any};
@@ -9,8 +12,10 @@ ghost use Rattle.topology_cache.specs.Users.{AreUsersOf};
 ghost use Rattle.depth_values.specs.Area.{depths_of};
 ghost use Rattle.depth_symbology.specs.DepthArea.{is_unsafe_at, borders_unsafe, pattern_items, dredged_items};
 ghost use Rattle.depth_symbology.specs.DepthArea.{contours_on, contour_items, depare01_of, depare01_at};
+ghost use Rattle.depth_symbology.specs.EdgeAnswers.{AreAnswers};
 
 use crate::colour::{colour, is_deeper};
+use crate::edge_answers::EdgeAnswers;
 use crate::text::safety_contour;
 use chart_model::codes::AREA;
 use chart_model::{Cell, Feature, ItemList, Name, Pointer, Settings, Target};
@@ -22,6 +27,14 @@ use topology_cache::Users;
 
 /// What it costs to look at a user of an edge, in tests of a point against a segment.
 const COST_OF_USER: usize = 20;
+
+/// What it costs to take an answer that is kept. No edge without two users has a safety contour, so each contour of a
+/// drawing costs as much at least: all of them have to fit in memory.
+const COST_OF_ANSWER: usize = 2 * COST_OF_USER;
+
+/// The most users of an edge that are asked each time. An edge of a chart bounds one area or two, and a few lines may
+/// run along it: to ask these takes no longer than to look for an answer, and no memory.
+const FEW_USERS: usize = 8;
 
 /// Whether the feature with a name is an unsafe area.
 fn is_unsafe_at(cell: &Cell, contour: i32, name: Name) -> bool
@@ -40,37 +53,83 @@ fn are_any_unsafe(cell: &Cell, contour: i32, names: &[Name]) -> bool
     names.iter().any(|name| is_unsafe_at(cell, contour, *name))
 }
 
-/// Whether an unsafe area points to the edge.
+/// Whether one of the users of an edge, which have these names, is an unsafe area. It takes of the effort what it looks
+/// at.
+fn ask_users(
+    effort: &mut Effort,
+    cell: &Cell,
+    contour: i32,
+    names: &[Name],
+) -> Result<bool, AllocError>
+    ensures { IfOk result (λ any. any ≡ list_any (is_unsafe_at cell.now contour) names.now) }
+{
+    effort.spend(names.len().saturating_mul(COST_OF_USER))?;
+    Ok(are_any_unsafe(cell, contour, names))
+}
+
+/// Whether an unsafe area points to the edge, as it is kept; or as the users of the edge, which have these names, tell,
+/// and then that is kept.
+fn known_answer(
+    effort: &mut Effort,
+    answers: &mut EdgeAnswers,
+    cell: &Cell,
+    contour: i32,
+    edge: Name,
+    names: &[Name],
+) -> Result<bool, AllocError>
+    requires names { list_any (is_unsafe_at cell.now contour) names.now ≡ borders_unsafe cell.now contour edge }
+    requires answers { AreAnswers cell.now contour answers.old }
+    ensures borders { IfOk result (λ borders. borders ≡ borders_unsafe cell.now contour edge) }
+    ensures answers { AreAnswers cell.now contour answers.new }
+{
+    if let Some(borders) = answers.get(edge) {
+        effort.spend(COST_OF_ANSWER)?;
+        return Ok(borders);
+    }
+    let borders = ask_users(effort, cell, contour, names)?;
+    answers.keep(edge, borders)?;
+    Ok(borders)
+}
+
+/// Whether an unsafe area points to the edge. The answer for an edge of many users is kept.
 fn borders_unsafe(
     effort: &mut Effort,
+    answers: &mut EdgeAnswers,
     cell: &Cell,
     users: &Users,
     contour: i32,
     edge: Name,
 ) -> Result<bool, AllocError>
-    requires { AreUsersOf cell.now users.now }
-    ensures { IfOk result (λ borders. borders ≡ borders_unsafe cell.now contour edge) }
+    requires users { AreUsersOf cell.now users.now }
+    requires answers { AreAnswers cell.now contour answers.old }
+    ensures borders { IfOk result (λ borders. borders ≡ borders_unsafe cell.now contour edge) }
+    ensures answers { AreAnswers cell.now contour answers.new }
 {
     let names = users.edge_users(edge);
-    effort.spend(names.len().saturating_mul(COST_OF_USER))?;
-    Ok(are_any_unsafe(cell, contour, names))
+    if names.len() <= FEW_USERS {
+        return ask_users(effort, cell, contour, names);
+    }
+    known_answer(effort, answers, cell, contour, edge, names)
 }
 
 /// Adds a safety contour on an edge that is drawn, where an unsafe area lies beyond it.
 fn push_contour(
     alloc: Global,
     effort: &mut Effort,
+    answers: &mut EdgeAnswers,
     items: &mut ItemList,
     cell: &Cell,
     users: &Users,
     contour: i32,
     pointer: &Pointer,
 ) -> Result<(), AllocError>
-    requires { AreUsersOf cell.now users.now }
-    ensures { OnOk result (items.new ≡ items.old ++ contours_on cell.now contour pointer.now) }
+    requires users { AreUsersOf cell.now users.now }
+    requires answers { AreAnswers cell.now contour answers.old }
+    ensures items { OnOk result (items.new ≡ items.old ++ contours_on cell.now contour pointer.now) }
+    ensures answers { AreAnswers cell.now contour answers.new }
 {
     let edge = pointer.target;
-    if is_drawn(pointer) && borders_unsafe(effort, cell, users, contour, edge)? {
+    if is_drawn(pointer) && borders_unsafe(effort, answers, cell, users, contour, edge)? {
         push_item(
             alloc,
             items,
@@ -85,6 +144,7 @@ fn push_contour(
 fn push_contours(
     alloc: Global,
     effort: &mut Effort,
+    answers: &mut EdgeAnswers,
     items: &mut ItemList,
     cell: &Cell,
     users: &Users,
@@ -93,14 +153,16 @@ fn push_contours(
     depths: Depths,
 ) -> Result<(), AllocError>
     requires users { AreUsersOf cell.now users.now }
+    requires answers { AreAnswers cell.now contour answers.old }
     requires depths { depths ≡ depths_of feature.now }
-    ensures { OnOk result (items.new ≡ items.old ++ contour_items cell.now contour feature.now) }
+    ensures items { OnOk result (items.new ≡ items.old ++ contour_items cell.now contour feature.now) }
+    ensures answers { AreAnswers cell.now contour answers.new }
 {
     if !is_safe_area_with(feature, depths, contour) {
         return Ok(());
     }
     for pointer in feature.pointers.as_slice() {
-        push_contour(alloc, effort, items, cell, users, contour, pointer)?;
+        push_contour(alloc, effort, answers, items, cell, users, contour, pointer)?;
     }
     Ok(())
 }
@@ -133,18 +195,24 @@ fn push_dredged(alloc: Global, items: &mut ItemList, feature: &Feature) -> Resul
 
 /// Adds what is drawn of a depth area: its colour; a pattern, where it is asked for and the area isn't deeper than the
 /// safety contour; the pattern and the outline of a dredged area; and on the edges of a safe area beyond which an
-/// unsafe area lies, the safety contour. Nothing is drawn of what is no area. It takes of the effort what it looks at.
+/// unsafe area lies, the safety contour. Nothing is drawn of what is no area.
+///
+/// It takes of the effort what it looks at. The answers are those of the cell at its safety contour, and so they stay,
+/// also where there is no memory: those for edges of many users are kept among them.
 pub fn push_depare01(
     alloc: Global,
     effort: &mut Effort,
+    answers: &mut EdgeAnswers,
     items: &mut ItemList,
     cell: &Cell,
     users: &Users,
     settings: &Settings,
     feature: &Feature,
 ) -> Result<(), AllocError>
-    requires { AreUsersOf cell.now users.now }
-    ensures { OnOk result (items.new ≡ items.old ++ depare01_of cell.now settings.now feature.now) }
+    requires users { AreUsersOf cell.now users.now }
+    requires answers { AreAnswers cell.now settings.now.safety_contour answers.old }
+    ensures items { OnOk result (items.new ≡ items.old ++ depare01_of cell.now settings.now feature.now) }
+    ensures answers { AreAnswers cell.now settings.now.safety_contour answers.new }
 {
     if feature.prim != AREA {
         return Ok(());
@@ -154,7 +222,9 @@ pub fn push_depare01(
     push_pattern(alloc, items, settings, depths)?;
     push_dredged(alloc, items, feature)?;
     let contour = settings.safety_contour;
-    push_contours(alloc, effort, items, cell, users, contour, feature, depths)
+    push_contours(
+        alloc, effort, answers, items, cell, users, contour, feature, depths,
+    )
 }
 
 /// What is drawn of the depth area with a name, as `push_depare01` has it. Nothing is drawn where the cell has no such
@@ -174,6 +244,7 @@ pub fn depare01(
         push_depare01(
             alloc,
             &mut Effort::whole(),
+            &mut EdgeAnswers::new(alloc),
             &mut items,
             cell,
             users,

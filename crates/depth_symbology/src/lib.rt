@@ -10,9 +10,11 @@
 mod colour;
 mod contours;
 mod depth_area;
+mod edge_answers;
 mod soundings;
 mod text;
 
 pub use contours::{depcnt02, push_depcnt02};
 pub use depth_area::{depare01, push_depare01};
+pub use edge_answers::EdgeAnswers;
 pub use soundings::{push_soundg02, soundg02};

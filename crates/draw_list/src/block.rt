@@ -73,10 +73,10 @@ fn block_with(
     geom: Geom,
     line: Option<&TableLine>,
 ) -> Result<Block, AllocError>
-    requires { AreKnown from.now.cell.now known.old.areas }
+    requires { AreKnown from.now.cell.now from.now.settings.now known.old }
     ensures block { IfOk result (λ block. block
         ≡ block_with from.now.cell.now from.now.settings.now feature.now geom (option_copied line.entry)) }
-    ensures known { AreKnown from.now.cell.now known.new.areas }
+    ensures known { AreKnown from.now.cell.now from.now.settings.now known.new }
 {
     match line {
         Some(line) => Ok(Block {
@@ -107,10 +107,10 @@ pub fn block_in(
     from: &Sources,
     feature: &Feature,
 ) -> Result<Option<Block>, AllocError>
-    requires { AreKnown from.now.cell.now known.old.areas }
+    requires { AreKnown from.now.cell.now from.now.settings.now known.old }
     ensures block { IfOk result (λ block. block
         ≡ block_in from.now.cell.now from.now.table.now from.now.settings.now feature.now) }
-    ensures known { AreKnown from.now.cell.now known.new.areas }
+    ensures known { AreKnown from.now.cell.now from.now.settings.now known.new }
 {
     let Some(geom) = geom_of(feature.prim) else {
         return Ok(None);
@@ -147,7 +147,7 @@ pub fn block_of(
         settings,
     };
     match cell.features.get(name) {
-        Some(feature) => block_in(alloc, &mut Known::nothing(), &from, feature),
+        Some(feature) => block_in(alloc, &mut Known::nothing(alloc), &from, feature),
         None => Ok(None),
     }
 }

@@ -65,7 +65,7 @@ fn blocks_of(alloc: Global, from: &Sources) -> Result<Vec<Drawn>, AllocError>
         blocks.items ≡ blocks_in from.now.cell.now from.now.table.now from.now.settings.now) }
 {
     let cell = from.cell;
-    let mut known = Known::nothing();
+    let mut known = Known::nothing(alloc);
     let mut blocks = Vec::new(alloc);
     for (name, feature) in cell.features.iter() {
         let block = block_in(alloc, &mut known, from, feature)?;

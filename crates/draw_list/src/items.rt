@@ -1,17 +1,18 @@
 //! What the instructions of a table draw of a feature.
 //!
 //! The depth areas of the cell are made for the first hazard and kept for the others: they take a walk over all areas.
+//! So are the answers for edges that many areas share.
 
 ghost use Rattle.std.specs.Prelude.{◌≡◌, ◌++◌, OnOk, IfOk};
 ghost use Rattle.std.specs.List.{flat_map};
 ghost use Rattle.depth_values.specs.Under.{areas_of};
 ghost use Rattle.hazard_symbology.specs.Hazard.{hazard_items};
 ghost use Rattle.draw_list.specs.Items.{procedure_items, items_by};
-ghost use Rattle.draw_list.specs.Known.{AreKnown};
+ghost use Rattle.draw_list.specs.Known.{AreAreas, AreKnown};
 
 use crate::sources::Sources;
 use chart_model::{Cell, Feature, ItemList, Target};
-use depth_symbology::{push_depare01, push_depcnt02, push_soundg02};
+use depth_symbology::{EdgeAnswers, push_depare01, push_depcnt02, push_soundg02};
 use depth_values::{DepthAreas, Effort, depth_areas};
 use draw_items::push_item;
 use hazard_symbology::push_hazard;
@@ -22,23 +23,31 @@ use std::alloc::{AllocError, Global};
 /// have to fit in memory.
 const COST_OF_ITEM: usize = 75;
 
+/// What it costs to call a procedure: beside items along edges and at places it draws a handful.
+const COST_OF_CALL: usize = 4 * COST_OF_ITEM;
+
 /// What a drawing has made already, and how much more it may ask for.
 #[derive(Debug, Drop)]
 pub struct Known {
     /// The depth areas of the cell that is drawn, where they were made: only hazards ask for them.
     pub areas: Option<DepthAreas>,
+    /// Whether an unsafe area lies beyond an edge, for the edges of many users that were asked for.
+    pub answers: EdgeAnswers,
     pub effort: Effort,
 }
 
 impl Known {
-    ghost use Rattle.std.specs.Prelude.{◌≡◌, None};
+    ghost use Rattle.chart_model.specs.Cell.{CellValue};
+    ghost use Rattle.chart_model.specs.declared.settings.Settings.{Settings};
+    ghost use Rattle.draw_list.specs.Known.{AreKnown};
 
-    /// That of a drawing that begins.
-    pub fn nothing() -> Known
-        ensures { result.areas ≡ None }
+    /// That of any drawing that begins. It takes no memory.
+    pub fn nothing(alloc: Global) -> Known
+        ensures { (cell : CellValue) (settings : Settings) → AreKnown cell settings result }
     {
         Known {
             areas: None,
+            answers: EdgeAnswers::new(alloc),
             effort: Effort::whole(),
         }
     }
@@ -50,7 +59,7 @@ fn known_areas(
     cell: &Cell,
     known: Option<DepthAreas>,
 ) -> Result<DepthAreas, AllocError>
-    requires { AreKnown cell.now known }
+    requires { AreAreas cell.now known }
     ensures { IfOk result (λ areas. areas ≡ areas_of cell.now) }
 {
     match known {
@@ -67,10 +76,10 @@ fn push_hazard_items(
     from: &Sources,
     feature: &Feature,
 ) -> Result<(), AllocError>
-    requires { AreKnown from.now.cell.now known.old.areas }
+    requires { AreKnown from.now.cell.now from.now.settings.now known.old }
     ensures items { OnOk result
         (items.new ≡ items.old ++ hazard_items from.now.cell.now from.now.settings.now feature.now) }
-    ensures known { AreKnown from.now.cell.now known.new.areas }
+    ensures known { AreKnown from.now.cell.now from.now.settings.now known.new }
 {
     let areas = known_areas(alloc, from.cell, known.areas.take())?;
     push_hazard(
@@ -95,10 +104,10 @@ fn push_called(
     feature: &Feature,
     procedure: Procedure,
 ) -> Result<(), AllocError>
-    requires { AreKnown from.now.cell.now known.old.areas }
+    requires { AreKnown from.now.cell.now from.now.settings.now known.old }
     ensures items { OnOk result
         (items.new ≡ items.old ++ procedure_items from.now.cell.now from.now.settings.now feature.now procedure) }
-    ensures known { AreKnown from.now.cell.now known.new.areas }
+    ensures known { AreKnown from.now.cell.now from.now.settings.now known.new }
 {
     let Sources {
         cell,
@@ -106,17 +115,23 @@ fn push_called(
         settings,
         ..
     } = *from;
+    known.effort.spend(COST_OF_CALL)?;
     match procedure {
         Procedure::Depare01 => push_depare01(
             alloc,
             &mut known.effort,
+            &mut known.answers,
             items,
             cell,
             users,
             settings,
             feature,
         ),
-        Procedure::Depcnt02 => push_depcnt02(alloc, items, cell, settings, feature),
+        Procedure::Depcnt02 => {
+            let edges = feature.pointers.as_slice().len();
+            known.effort.spend(edges.saturating_mul(COST_OF_ITEM))?;
+            push_depcnt02(alloc, items, cell, settings, feature)
+        }
         Procedure::Soundg02 => push_soundg02(
             alloc,
             &mut known.effort,
@@ -140,10 +155,10 @@ fn push_instruction(
     feature: &Feature,
     instruction: &Instruction,
 ) -> Result<(), AllocError>
-    requires { AreKnown from.now.cell.now known.old.areas }
+    requires { AreKnown from.now.cell.now from.now.settings.now known.old }
     ensures items { OnOk result
         (items.new ≡ items.old ++ items_by from.now.cell.now from.now.settings.now feature.now instruction.now) }
-    ensures known { AreKnown from.now.cell.now known.new.areas }
+    ensures known { AreKnown from.now.cell.now from.now.settings.now known.new }
 {
     match instruction {
         Instruction::Draw(text) => {
@@ -162,10 +177,10 @@ pub fn items_of(
     feature: &Feature,
     instructions: &InstructionList,
 ) -> Result<ItemList, AllocError>
-    requires { AreKnown from.now.cell.now known.old.areas }
+    requires { AreKnown from.now.cell.now from.now.settings.now known.old }
     ensures items { IfOk result (λ items.
         items ≡ flat_map (items_by from.now.cell.now from.now.settings.now feature.now) instructions.now) }
-    ensures known { AreKnown from.now.cell.now known.new.areas }
+    ensures known { AreKnown from.now.cell.now from.now.settings.now known.new }
 {
     let mut items = ItemList::new(alloc);
     for instruction in instructions.as_slice() {

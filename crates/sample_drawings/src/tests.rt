@@ -1,5 +1,6 @@
 mod contours;
 mod depth_areas;
 mod drawings;
+mod shared_edges;
 mod soundings;
 mod users;

@@ -8,4 +8,4 @@ abbrev pub invariant-loop-name : goal.invariant-loop-name
 invariant-loop-name l =
     (l.blocks.items ++ flat_map (drawn_of l.from.cell.now l.from.table.now l.from.settings.now) l.name-iterator
     ≡ blocks_in l.from.cell.now l.from.table.now l.from.settings.now)
-    × AreKnown l.from.cell.now l.known.areas
+    × AreKnown l.from.cell.now l.from.settings.now l.known

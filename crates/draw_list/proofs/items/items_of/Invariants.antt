@@ -8,4 +8,4 @@ abbrev pub invariant-loop-instruction : goal.invariant-loop-instruction
 invariant-loop-instruction l =
     (l.items ++ flat_map (items_by l.from.cell.now l.from.settings.now l.feature) (drop l.instruction-index l.instruction-items)
     ≡ flat_map (items_by l.from.cell.now l.from.settings.now l.feature) l.instructions)
-    × AreKnown l.from.cell.now l.known.areas
+    × AreKnown l.from.cell.now l.from.settings.now l.known
