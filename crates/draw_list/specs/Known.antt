@@ -1,5 +1,5 @@
 -- What a drawing has made already.
-use Rattle.std.specs.Prelude.{◌≡◌, List, ⊤, ◌×◌, Option, Some, None}
+use Rattle.std.specs.Prelude.{◌≡◌, List, ⊤, Option, Some, None}
 use Rattle.chart_model.specs.Cell.{CellValue}
 use Rattle.chart_model.specs.declared.settings.Settings.{Settings}
 use Rattle.depth_values.specs.DepthArea.{AreaValue}
