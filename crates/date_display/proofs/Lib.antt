@@ -1,0 +1,5 @@
+pub mod Calendars
+pub mod Spelled
+pub mod Named
+pub mod Kept
+pub mod Bounds
