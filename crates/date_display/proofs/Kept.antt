@@ -121,3 +121,20 @@ chart_on_is cell day = record {
         ∙ again_at day (map.get cell.features name) feature is.0 ((Decides-is_shown_on day feature.attrs).1 is.1),
   );
 }
+
+same_option : {A : Type 0} (o p : Option A) → ((x : A) → (o ≡ Some x) ↔ (p ≡ Some x)) → o ≡ p
+same_option None None h = refl
+same_option None (Some y) h = absurd (let e = (h y).1 refl in cc)
+same_option (Some x) p h = sym ((h x).0 refl)
+
+pub chart_on_only : (cell : CellValue) (day : Date) (shown : CellValue) → IsChartOn cell day shown → shown ≡ chart_on day cell
+chart_on_only cell day shown is =
+    let same : shown.features ≡ features_on day cell.features =
+    map.same_map name_cmp-total name_cmp-IsAntisymmetric _ _ (λ q.
+    same_option (map.get shown.features q) (map.get (features_on day cell.features) q) (λ feature.
+    let one = is.features q feature in
+    let other = (chart_on_is cell day).features q feature in
+    (λ e. other.1 (one.0 e), λ e. one.1 (other.0 e)))) in
+    ap (λ header. record { header = header; vectors = shown.vectors; features = shown.features }) is.header
+    ∙ ap (λ vectors. record { header = cell.header; vectors = vectors; features = shown.features }) is.vectors
+    ∙ ap (λ features. record { header = cell.header; vectors = cell.vectors; features = features }) same

@@ -7,12 +7,12 @@ mod dates;
 mod day;
 mod digits;
 mod feature;
+mod laws;
 mod month_day;
 mod reader;
-#[cfg(test)]
-mod tests;
 
 pub use chart::visible;
 pub use day::Day;
 pub use feature::shown_on;
-pub use reader::{dates_are_spelled, read_day};
+pub use laws::{calendars_agree, charts_of_days_are_one, dates_are_spelled, features_are_shown};
+pub use reader::read_day;

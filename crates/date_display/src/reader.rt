@@ -1,10 +1,9 @@
 //! Texts of dates (S-57 Appendix A, attributes DATSTA, DATEND, PERSTA and PEREND).
 
-ghost use Rattle.std.specs.Prelude.{◌≡◌, ◌↔◌, List, ℕ, IfSome, Some, option_map};
+ghost use Rattle.std.specs.Prelude.{◌≡◌, IfSome, Some, option_map};
 ghost use Rattle.date_display.specs.declared.date.Date.{Date};
-ghost use Rattle.date_display.specs.declared.dates.Dates.{Dates};
 ghost use Rattle.date_display.specs.Days.{date_of};
-ghost use Rattle.date_display.specs.Texts.{SpellsDay, SpellsDates, date_in, first_of_month_in, dated_in, yearly_in, dates_in};
+ghost use Rattle.date_display.specs.Texts.{SpellsDay, date_in, first_of_month_in, dated_in, yearly_in, dates_in};
 
 use crate::date::Date;
 use crate::dates::Dates;
@@ -113,8 +112,3 @@ pub(crate) fn read_dates(text: &[u8]) -> Option<Dates>
         _ => read_dated(text),
     }
 }
-
-/// The function that definitions cite gives what a text spells.
-pub fn dates_are_spelled()
-    ensures { (text : List ℕ) (dates : Dates) → (dates_in text ≡ Some dates) ↔ SpellsDates text dates }
-{}

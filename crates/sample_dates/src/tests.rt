@@ -1,0 +1,4 @@
+mod charts;
+mod days;
+mod features;
+mod texts;
