@@ -1,9 +1,10 @@
 -- Days by their test.
-use Rattle.std.proofs.Common.{◌≡◌, ℕ, Bool, true, false, cond, eqb, ◌||◌, Option, Some, None, refl, subst, sym, ap, ◌∙◌, arith}
+use Rattle.std.proofs.Common.{◌≡◌, ℕ, Bool, true, false, cond, eqb, ◌&&◌, ◌||◌, Option, Some, None, refl, subst, sym, ap, ◌∙◌, arith, w8, w16, of_z, to_z}
+use mir.Val.{SFits}
 use Rattle.std.specs.Prelude.{ℤ, pos, ◌≤ℤ◌, int_le, unsigned_abs}
 use Rattle.std.proofs.lemmas.Bool.{false_from_ne_true}
 use Rattle.std.specs.Bool.{Decides}
-use Rattle.std.proofs.lemmas.Int.{ints}
+use Rattle.std.proofs.lemmas.Int.{ints, to_z-of_z}
 use Rattle.std.proofs.lemmas.Bool.Decides.{Decides-and, Decides-like}
 use Rattle.jiff.specs.Words.{IsDate, days_in_month}
 use Rattle.date_display.specs.Days.{date_if}
@@ -71,3 +72,38 @@ month_days year month y m same_year same_month =
     ap (λ (z : ℤ). pos (days_in_month z m)) same_year
     ∙ ap (λ (z : ℤ). pos (days_in_month year (unsigned_abs z))) same_month
     ∙ same_days year month
+
+-- ---- days of the calendar fit the fields of a date
+
+most_days : (a b c : Bool) → cond a (cond b (pos 29) (pos 28)) (cond c (pos 30) (pos 31)) ≤ℤ pos 31
+most_days true true c = omega (arith, ints)
+most_days true false c = omega (arith, ints)
+most_days false b true = omega (arith, ints)
+most_days false b false = omega (arith, ints)
+
+at_most_31 : (year month : ℤ) → days_of_month year month ≤ℤ pos 31
+at_most_31 year month =
+    let m = unsigned_abs month in
+    most_days (eqb m 2) (is_leap_year year) (eqb m 4 || eqb m 6 || eqb m 9 || eqb m 11)
+
+pub year_fits : (year month day : ℤ) → IsDay year month day → to_z w16 (of_z w16 year) ≡ year
+year_fits year month day is =
+    let low = is.year_in.0 in
+    let high = is.year_in.1 in
+    let fits : SFits w16 year = omega (arith, ints, low, high) in
+    to_z-of_z w16 year fits
+
+pub month_fits : (year month day : ℤ) → IsDay year month day → to_z w8 (of_z w8 month) ≡ month
+month_fits year month day is =
+    let low = is.month_in.0 in
+    let high = is.month_in.1 in
+    let fits : SFits w8 month = omega (arith, ints, low, high) in
+    to_z-of_z w8 month fits
+
+pub day_fits : (year month day : ℤ) → IsDay year month day → to_z w8 (of_z w8 day) ≡ day
+day_fits year month day is =
+    let low = is.day_in.0 in
+    let high = is.day_in.1 in
+    let most = at_most_31 year month in
+    let fits : SFits w8 day = omega (arith, ints, low, high, most) in
+    to_z-of_z w8 day fits

@@ -5,7 +5,7 @@ use Rattle.std.specs.Ordering.{eq_by_cmp}
 use Rattle.std.specs.FinMap as map
 use Rattle.std.specs.FinMap.{find}
 use Rattle.common_lemmas.proofs.Choices.{some_is}
-use Rattle.chart_model.specs.Cell.{CellValue}
+use Rattle.chart_model.specs.Cell.{CellValue, IsCell, IsFeature}
 use Rattle.chart_model.specs.Names.{name_cmp}
 use Rattle.chart_model.specs.declared.cell.Feature.{Feature}
 use Rattle.chart_model.specs.declared.name.Name.{Name}
@@ -138,3 +138,20 @@ chart_on_only cell day shown is =
     ap (λ header. record { header = header; vectors = shown.vectors; features = shown.features }) is.header
     ∙ ap (λ vectors. record { header = cell.header; vectors = vectors; features = shown.features }) is.vectors
     ∙ ap (λ features. record { header = cell.header; vectors = cell.vectors; features = features }) same
+
+still : {A : Type 0} (P : A → Type 0) (chosen : Bool) (o : Option A) → IfSome o P → IfSome (cond chosen o None) P
+still P true o is = is
+still P false o is = tt
+
+-- a part of the features of a cell makes a cell
+pub cell_on : (day : Date) (cell shown : CellValue) → IsCell cell → shown ≡ chart_on day cell → IsCell shown
+cell_on day cell shown is same =
+    subst (λ (x : CellValue). IsCell x) (sym same) (record {
+      header = is.header;
+      vectors = is.vectors;
+      features = λ name. subst (λ (o : Option Feature). IfSome o (IsFeature name)) (sym (get-features_on day cell.features name))
+          (still (IsFeature name) (is_some_shown day (map.get cell.features name)) (map.get cell.features name) (is.features name));
+    })
+
+pub chart_on_like : (day : Date) (cell shown : CellValue) → shown ≡ chart_on day cell → IsChartOn cell day shown
+chart_on_like day cell shown same = subst (λ (x : CellValue). IsChartOn cell day x) (sym same) (chart_on_is cell day)

@@ -68,7 +68,7 @@ day_found year month day date e =
 -- ---- dates
 
 six : (text : List ℕ) → drop 2 (drop 4 text) ≡ drop 6 text
-six text = drop-drop 4 2 text
+six text = drop-drop 2 4 text
 
 -- the three parts of a text
 pub parts_of : (text : List ℕ) → text ≡ take 4 text ++ (take 2 (drop 4 text) ++ drop 6 text)
@@ -100,6 +100,12 @@ with_parts year month day date text y m d is e =
       day = d;
       exists = is;
     })
+
+pub date_in_with : (text : List ℕ) (year month day : ℤ) → digits_in 4 (take 4 text) ≡ Some year
+    → digits_in 2 (take 2 (drop 4 text)) ≡ Some month → digits_in 2 (drop 6 text) ≡ Some day
+    → date_in text ≡ date_if year month day
+unfolding date_in
+date_in_with text year month day y m d = rw (y, m, d) refl
 
 pub date_in_found : (text : List ℕ) (date : Date) → date_in text ≡ Some date → SpellsDay text date
 unfolding date_in

@@ -62,14 +62,11 @@ fn is_in_period(start: Option<Dates>, end: Option<Dates>, day: Date) -> bool
     }
 }
 
-/// Whether a feature is shown on a day, by its attributes DATSTA, DATEND, PERSTA and PEREND. It takes no memory.
+/// Whether a feature with these attributes is shown.
 #[tactic(auto, unfolding(crate::specs::Shown::is_shown_on))]
-pub fn shown_on(feature: &Feature, day: Day) -> bool
-    ensures exact { IsTrue result ↔ IsShownOn (date_of day) feature.now.attrs }
-    ensures function { result ≡ is_shown_on (date_of day) feature.now.attrs }
+fn is_shown_on(attrs: &AttrMap, day: Date) -> bool
+    ensures { result ≡ is_shown_on day attrs.now }
 {
-    let attrs = &feature.attrs;
-    let day = day.date();
     let start = dates_at(attrs, PERSTA);
     let end = dates_at(attrs, PEREND);
     is_begun(dates_at(attrs, DATSTA), day)
@@ -77,4 +74,12 @@ pub fn shown_on(feature: &Feature, day: Day) -> bool
         && is_begun(start, day)
         && is_not_over(end, day)
         && is_in_period(start, end, day)
+}
+
+/// Whether a feature is shown on a day, by its attributes DATSTA, DATEND, PERSTA and PEREND. It takes no memory.
+pub fn shown_on(feature: &Feature, day: Day) -> bool
+    ensures exact { IsTrue result ↔ IsShownOn (date_of day) feature.now.attrs }
+    ensures function { result ≡ is_shown_on (date_of day) feature.now.attrs }
+{
+    is_shown_on(&feature.attrs, day.date())
 }
