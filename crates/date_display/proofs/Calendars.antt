@@ -73,37 +73,52 @@ month_days year month y m same_year same_month =
     ∙ ap (λ (z : ℤ). pos (days_in_month year (unsigned_abs z))) same_month
     ∙ same_days year month
 
--- ---- days of the calendar fit the fields of a date
+-- ---- the numbers of a date are kept in its fields
 
-most_days : (a b c : Bool) → cond a (cond b (pos 29) (pos 28)) (cond c (pos 30) (pos 31)) ≤ℤ pos 31
-most_days true true c = omega (arith, ints)
-most_days true false c = omega (arith, ints)
-most_days false b true = omega (arith, ints)
-most_days false b false = omega (arith, ints)
+some_length : (a b c : Bool) → IsFromTo (pos 28) (pos 31) (cond a (cond b (pos 29) (pos 28)) (cond c (pos 30) (pos 31)))
+some_length true true c = (omega (arith, ints), omega (arith, ints))
+some_length true false c = (omega (arith, ints), omega (arith, ints))
+some_length false b true = (omega (arith, ints), omega (arith, ints))
+some_length false b false = (omega (arith, ints), omega (arith, ints))
 
-at_most_31 : (year month : ℤ) → days_of_month year month ≤ℤ pos 31
-at_most_31 year month =
+lengths : (year month : ℤ) → IsFromTo (pos 28) (pos 31) (days_of_month year month)
+lengths year month =
     let m = unsigned_abs month in
-    most_days (eqb m 2) (is_leap_year year) (eqb m 4 || eqb m 6 || eqb m 9 || eqb m 11)
+    some_length (eqb m 2) (is_leap_year year) (eqb m 4 || eqb m 6 || eqb m 9 || eqb m 11)
 
-pub year_fits : (year month day : ℤ) → IsDay year month day → to_z w16 (of_z w16 year) ≡ year
+pub length_fits : (year month : ℤ) → SFits w8 (days_of_month year month)
+length_fits year month =
+    let both = lengths year month in
+    let low = both.0 in
+    let high = both.1 in
+    omega (arith, ints, low, high)
+
+pub year_fits : (year month day : ℤ) → IsDay year month day → SFits w16 year
 year_fits year month day is =
     let low = is.year_in.0 in
     let high = is.year_in.1 in
-    let fits : SFits w16 year = omega (arith, ints, low, high) in
-    to_z-of_z w16 year fits
+    omega (arith, ints, low, high)
 
-pub month_fits : (year month day : ℤ) → IsDay year month day → to_z w8 (of_z w8 month) ≡ month
+pub month_fits : (year month day : ℤ) → IsDay year month day → SFits w8 month
 month_fits year month day is =
     let low = is.month_in.0 in
     let high = is.month_in.1 in
-    let fits : SFits w8 month = omega (arith, ints, low, high) in
-    to_z-of_z w8 month fits
+    omega (arith, ints, low, high)
 
-pub day_fits : (year month day : ℤ) → IsDay year month day → to_z w8 (of_z w8 day) ≡ day
+pub day_fits : (year month day : ℤ) → IsDay year month day → SFits w8 day
 day_fits year month day is =
     let low = is.day_in.0 in
     let high = is.day_in.1 in
-    let most = at_most_31 year month in
-    let fits : SFits w8 day = omega (arith, ints, low, high, most) in
-    to_z-of_z w8 day fits
+    let most = (lengths year month).1 in
+    omega (arith, ints, low, high, most)
+
+pub kept_date : (year month day : ℤ) → SFits w16 year → SFits w8 month → SFits w8 day → ◌≡◌ {A = Date}
+    (record { year = to_z w16 (of_z w16 year); month = to_z w8 (of_z w8 month); day = to_z w8 (of_z w8 day) })
+    (record { year = year; month = month; day = day })
+kept_date year month day y m d = rw (to_z-of_z w16 year y, to_z-of_z w8 month m, to_z-of_z w8 day d) refl
+
+pub kept_day : (date : Date) → IsDay date.year date.month date.day → ◌≡◌ {A = Date}
+    (record { year = to_z w16 (of_z w16 date.year); month = to_z w8 (of_z w8 date.month); day = to_z w8 (of_z w8 date.day) }) date
+kept_day date is =
+    kept_date date.year date.month date.day (year_fits date.year date.month date.day is)
+    (month_fits date.year date.month date.day is) (day_fits date.year date.month date.day is)
