@@ -26,10 +26,7 @@ const AREA: Row = Row {
 };
 
 /// The rows of a chart, the days, and the names that aren't shown then.
-type Case = (
-    &'static [Row],
-    &'static [(&'static [u8], &'static [Name])],
-);
+type Case = (&'static [Row], &'static [(&'static [u8], &'static [Name])]);
 
 static CASES: [Case; 4] = [
     (&[], &[(b"20240101", &[])]),
@@ -49,7 +46,13 @@ static CASES: [Case; 4] = [
 ];
 
 /// The chart of a day has the header and the records of its cell, but for these.
-fn hold(rt: &impl Abort, alloc: Global, cell: &Cell, day: &[u8], hidden: &[Name]) -> Result<(), Fail> {
+fn hold(
+    rt: &impl Abort,
+    alloc: Global,
+    cell: &Cell,
+    day: &[u8],
+    hidden: &[Name],
+) -> Result<(), Fail> {
     let day = read_day(day).ok_or("a day")?;
     let shown = visible(alloc, cell, day)?;
     let missing = changed_names(alloc, Some(cell), Some(&shown))?;
@@ -58,7 +61,9 @@ fn hold(rt: &impl Abort, alloc: Global, cell: &Cell, day: &[u8], hidden: &[Name]
         assert!(rt; cell.features.contains(*name) && !shown.features.contains(*name));
     }
     assert_eq!(rt; shown.vectors.len(), cell.vectors.len());
-    assert!(rt; shown.header.update == cell.header.update && shown.header.scale == cell.header.scale);
+    assert!(rt;
+        shown.header.update == cell.header.update && shown.header.scale == cell.header.scale
+    );
     Ok(())
 }
 

@@ -50,9 +50,11 @@ fn text_of(year: &[u8; 4], month: u8, day: u8) -> [u8; 8] {
 }
 
 /// Whether the text is read as the day with these last numbers.
-fn is_day(text: &[u8], month: i8, day: i8) -> bool {
+fn is_day(text: &[u8], month: u8, day: u8) -> bool {
     match read_day(text) {
-        Some(read) => read.month == month && read.day == day,
+        Some(read) => {
+            i16::from(read.month) == i16::from(month) && i16::from(read.day) == i16::from(day)
+        }
         None => false,
     }
 }
@@ -63,7 +65,7 @@ fn last_days(rt: HostRuntime) -> Result<(), Fail> {
         for (month, listed) in (1..13u8).zip(LAST_DAYS.iter()) {
             let last = if month == 2 { *of_february } else { *listed };
             let text = text_of(year, month, last);
-            assert!(rt; is_day(&text, month as i8, last as i8), "the last of {month}");
+            assert!(rt; is_day(&text, month, last), "the last of {month}");
             let behind = text_of(year, month, last + 1);
             assert!(rt; read_day(&behind).is_none(), "behind the last of {month}");
         }

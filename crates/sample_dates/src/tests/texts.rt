@@ -48,7 +48,15 @@ static TEXTS: [&[u8]; 36] = [
 fn texts_that_bound_nothing(rt: HostRuntime) -> Result<(), Fail> {
     let alloc = rt.alloc();
     for (at, text) in TEXTS.iter().enumerate() {
-        let all = dated(alloc, &[(DATSTA, text), (DATEND, text), (PERSTA, text), (PEREND, text)])?;
+        let all = dated(
+            alloc,
+            &[
+                (DATSTA, text),
+                (DATEND, text),
+                (PERSTA, text),
+                (PEREND, text),
+            ],
+        )?;
         expect(&rt, &all, b"00010101", true, at);
         expect(&rt, &all, b"99991231", true, at);
         let end = dated(alloc, &[(PERSTA, b"--1231"), (PEREND, text)])?;
