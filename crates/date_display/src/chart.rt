@@ -1,4 +1,7 @@
 //! The chart of a day.
+//!
+//! Features alone have dates. All vector records stay, and the features that stay are shared with the chart, so that a
+//! chart of a day costs a pass over the features and the removal of those that are hidden.
 
 ghost use Rattle.std.specs.Prelude.{◌≡◌, IfOk};
 ghost use Rattle.date_display.specs.Days.{date_of};

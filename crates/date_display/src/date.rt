@@ -1,4 +1,6 @@
 //! Dates by their numbers.
+//!
+//! Which days a month has is `jiff`'s to say, and that these are those of the calendar's rule is a law of this crate.
 
 ghost use Rattle.std.specs.Prelude.{◌≡◌};
 ghost use Rattle.date_display.specs.Calendar.{IsDay};

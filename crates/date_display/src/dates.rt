@@ -1,4 +1,7 @@
 //! What a text of dates bounds.
+//!
+//! A date may leave out its day, or its month too, and then stands for a whole month or year: as a start it is the
+//! first of these days, and as an end the last.
 
 use crate::date::Date;
 use crate::month_day::MonthDay;

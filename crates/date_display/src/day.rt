@@ -1,4 +1,6 @@
 //! Days of the calendar.
+//!
+//! Days are compared and never counted, so year, month and day in this order are all that a day is.
 
 ghost use Rattle.date_display.specs.Calendar.{IsDay};
 

@@ -1,4 +1,6 @@
 //! Numbers of so many digits.
+//!
+//! A date's numbers have a fixed length each and no sign, so what is a number elsewhere, as `+1`, is none here.
 
 ghost use Rattle.std.specs.Prelude.{◌≡◌, ◌^◌, IfSome, pos, ◌≤ℤ◌, ◌<ℤ◌};
 ghost use Rattle.std.specs.Int.{IsInRange};

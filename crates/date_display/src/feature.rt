@@ -1,4 +1,7 @@
 //! The days on which a feature is shown.
+//!
+//! A feature may have a period of years and one that returns each year, and has to be within both. What can't be read
+//! bounds nothing: a feature is rather shown too long than hidden.
 
 ghost use Rattle.std.specs.Prelude.{◌≡◌, ◌↔◌, IsTrue};
 ghost use Rattle.date_display.specs.Days.{date_of};

@@ -1,4 +1,7 @@
 //! Days of every year.
+//!
+//! A period that returns each year may go over the turn of the year, and 29 February is a day of every year in it, also
+//! where the year at hand has none.
 
 /// A month and a day of it, in whatever year.
 #[derive(Clone, Copy, Debug)]

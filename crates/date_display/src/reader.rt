@@ -1,4 +1,7 @@
 //! Texts of dates (S-57 Appendix A, attributes DATSTA, DATEND, PERSTA and PEREND).
+//!
+//! One attribute may have a date with a year or one of every year, which two hyphens in the place of the year tell
+//! apart.
 
 ghost use Rattle.std.specs.Prelude.{◌≡◌, IfSome, Some, option_map};
 ghost use Rattle.date_display.specs.declared.date.Date.{Date};

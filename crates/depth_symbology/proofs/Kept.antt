@@ -17,10 +17,6 @@ module _ (cell : CellValue) (contour : ℤ) where
   pub none-kept : AreAnswers cell contour finite.empty
   none-kept = each-empty name_cmp IsAnswer
 
-  pub answer-kept : (answers : AnswersValue) (edge : Name) (borders : Bool) → AreAnswers cell contour answers
-      → finite.get answers edge ≡ Some borders → borders ≡ borders_unsafe cell contour edge
-  answer-kept answers edge borders are found = subst (λ (o : Option Bool). IfSome o (IsAnswer edge)) found (are edge)
-
   pub one-more-kept : (answers : AnswersValue) (edge : Name) (borders : Bool) → AreAnswers cell contour answers
       → borders ≡ borders_unsafe cell contour edge → AreAnswers cell contour (finite.insert answers edge borders)
   one-more-kept answers edge borders are is =

@@ -28,8 +28,8 @@ fn write_symbol(text: &mut Vec<u8>, prefix: &[u8], cell: &[u8]) -> Result<(), Al
     Ok(())
 }
 
-/// Adds the symbols of the digits of a depth, each at the target: one for each cell of `digit_cells`. They are
-/// written over each other, since a chart has thousands of them.
+/// Adds the symbols of the digits of a depth, each at the target: one for each cell of `digit_cells`. Their
+/// texts are written into one place, one after the other, since a chart has thousands of them.
 pub fn push_digits(
     alloc: Global,
     items: &mut ItemList,

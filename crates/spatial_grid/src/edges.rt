@@ -1,4 +1,7 @@
 //! Where the nodes of a chart are, and by them where its edges begin and end.
+//!
+//! An edge's own coordinates leave out those of its nodes (S-57 Part 3), and most nodes belong to several edges. So the
+//! places of all nodes are gathered in one pass, and an edge looks up two of them, without its line being made.
 
 ghost use Rattle.std.specs.Prelude.{◌≡◌, T, IfOk};
 ghost use Rattle.std.specs.FinMap as finite;

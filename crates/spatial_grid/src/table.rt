@@ -1,4 +1,7 @@
 //! Values under the names of records, in one block in the order of the names.
+//!
+//! They are made in the order of the chart's own records and never changed, so a block that is searched takes less time
+//! and memory than a tree.
 
 ghost use Rattle.std.specs.Prelude.{◌≡◌, ◌<◌, T, IfOk, IfErr, IfSome, length};
 ghost use Rattle.std.specs.List.{HoldsAt};

@@ -1,4 +1,7 @@
 //! Uses: which feature points to which record, one by one.
+//!
+//! Features come in the order of their own names. Put in the order of what they point to, the uses of one record stand
+//! together, so that its users are made at once and not one by one in a tree.
 
 ghost use Rattle.std.specs.Prelude.{◌≡◌, ◌+◌, ◌≤◌, ◌&&◌, ◌||◌, OnOk, IfOk};
 ghost use Rattle.std.specs.FinMap as finite;

@@ -1,4 +1,7 @@
 //! The users of records, record by record.
+//!
+//! Uses mostly come in the order of their records, so that a user goes to the last row or begins a new one. The tree,
+//! in which single records are changed later, is made of the rows at the end.
 
 ghost use Rattle.std.specs.Prelude.{◌≡◌, T, IfOk, IfErr, OnOk, length};
 ghost use Rattle.std.specs.List.{HoldsAt};
