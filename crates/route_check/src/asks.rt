@@ -20,6 +20,10 @@ use std::alloc::{AllocError, Global};
 /// What an ask costs, which is kept and put in order, in tests of a point against a segment.
 const COST_OF_ASK: usize = 30;
 
+/// What it costs to look at a box in a bucket, whose name is put in order then, in the same tests: a box may stand in 64
+/// buckets, and is looked at in each of them.
+const COST_OF_BOX: usize = 8;
+
 /// A feature whose objects a leg may meet. Asks stand by the features' names, so that each shape is made once.
 #[derive(Clone, Copy, Debug, PartialEq, Eq, PartialOrd, Ord)]
 pub(crate) struct Ask {
@@ -49,6 +53,13 @@ fn push_names(
     Ok(())
 }
 
+/// Takes of the effort what it costs to ask the grid for a leg. Nothing that is answered hangs on it, but whether there
+/// is an answer.
+fn spend_on_boxes(effort: &mut Effort, grid: &Grid, leg: Leg) -> Result<(), AllocError> {
+    let boxes = grid.looked_at(&reach_of(leg));
+    effort.spend(boxes.saturating_mul(COST_OF_BOX))
+}
+
 /// Adds the asks of a leg: for the features that may be dangerous and whose boxes meet the box that it reaches.
 fn push_leg(
     alloc: Global,
@@ -62,6 +73,7 @@ fn push_leg(
     ensures { OnOk result (Gains
         (IsAskOf grid.now from.now.settings.now from.now.cell.now leg before) asks.old.items asks.new.items) }
 {
+    spend_on_boxes(effort, grid, leg)?;
     let names = grid.candidates(alloc, &reach_of(leg))?;
     let names = names.as_slice();
     effort.spend(names.len().saturating_mul(COST_OF_ASK))?;

@@ -110,6 +110,21 @@ pub(crate) fn names_met(
     Ok(names)
 }
 
+/// How many entries are looked at for the names of the boxes that meet the area. Nothing that is answered hangs on it,
+/// but whether there is an answer. It costs a search for each row of buckets, and takes no memory.
+pub(crate) fn looked_at(area: Bounds, entries: &[Entry], rows: Axis, columns: Axis) -> usize
+    requires { IsNonDecreasingBy bucket_of entries.now }
+{
+    let rows = rows.span(area.y0, area.y1);
+    let columns = columns.span(area.x0, area.x1);
+    let mut count = between(entries, BESIDE, BESIDE).len();
+    for row in rows.first..rows.last + 1 {
+        let met = between(entries, row * 64 + columns.first, row * 64 + columns.last);
+        count = count.saturating_add(met.len());
+    }
+    count
+}
+
 /// The names in order, each once.
 pub(crate) fn each_once(mut names: Vec<Name>) -> Result<Vec<Name>, AllocError>
     ensures same { IfOk result (λ sorted. (name : Name) → Contains sorted.items name ↔ Contains names.items name) }

@@ -8,7 +8,7 @@ ghost use Rattle.spatial_grid.specs.Box.{IsGridOf};
 
 use crate::axis::{Axis, distance};
 use crate::boxes::boxes_of;
-use crate::candidates::{each_once, names_met};
+use crate::candidates::{each_once, looked_at, names_met};
 use crate::entries::entries_of;
 use crate::entry::Entry;
 use crate::kept::keeps_boxes;
@@ -107,6 +107,12 @@ impl Grid {
         let entries = self.entries.as_slice();
         let names = names_met(alloc, boxes, *area, entries, self.rows, self.columns)?;
         Ok(NameList::from_vec(each_once(names)?))
+    }
+
+    /// How many boxes `candidates` looks at for an area, one that stands in several buckets once for each. Nothing that
+    /// is answered hangs on it, but whether there is an answer. It takes no memory.
+    pub fn looked_at(&self, area: &Bounds) -> usize {
+        looked_at(*area, self.entries.as_slice(), self.rows, self.columns)
     }
 
     /// Brings the grid of a chart up to date: it was the grid of the old chart and becomes that of the new one, where
