@@ -1,14 +1,13 @@
 -- The days on which a feature is shown, by their test.
 use Rattle.std.proofs.Common.{◌≡◌, ℕ, Bool, true, false, cond, ◌&&◌, ◌||◌, ◌⊎◌, Option, Some, None, refl, sym, subst, ◌∙◌, ◌↔◌, arith}
-use Rattle.std.specs.Prelude.{ℤ, ◌≤ℤ◌, ◌<ℤ◌, int_le, int_lt, IsTrue, option_and_then}
+use Rattle.std.specs.Prelude.{ℤ, ◌<ℤ◌, int_le, int_lt, IsTrue}
 use Rattle.std.specs.Bool.{Decides}
 use Rattle.std.specs.Ordering.{int_eq}
 use Rattle.std.specs.FinMap as map
 use Rattle.std.proofs.lemmas.Bool.{true≢false}
-use Rattle.std.proofs.lemmas.Bool.Decides.{Decides-and, Decides-or, Decides-int_eq, Decides-like, not_from_Decides}
+use Rattle.std.proofs.lemmas.Bool.Decides.{Decides-and, Decides-or, Decides-int_eq, Decides-like}
 use Rattle.std.proofs.lemmas.Int.{ints}
 use Rattle.std.proofs.lemmas.Option.{option_and_then_some}
-use Rattle.common_lemmas.proofs.Choices.{some_is}
 use Rattle.chart_model.specs.Attrs.{Attrs}
 use Rattle.date_display.specs.Days.{IsMonthDayUpTo, IsUpTo, IsInSeason, is_month_day_up_to, is_up_to, is_in_season, month_day_of}
 use Rattle.date_display.specs.Shown.{IsNamed, IsBegun, IsNotOver, IsInPeriod, IsShownOn, dates_at, is_begun, is_not_over}

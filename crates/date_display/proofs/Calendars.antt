@@ -1,11 +1,11 @@
 -- Days by their test.
-use Rattle.std.proofs.Common.{◌≡◌, ℕ, Bool, true, false, cond, eqb, ◌&&◌, ◌||◌, Option, Some, None, refl, subst, sym, ap, ◌∙◌, arith, w8, w16, of_z, to_z}
+use Rattle.std.proofs.Common.{◌≡◌, ℕ, Bool, true, false, cond, eqb, ◌&&◌, ◌||◌, Some, None, refl, subst, sym, ap, ◌∙◌, arith, w8, w16, of_z, to_z}
 use mir.Val.{SFits}
 use Rattle.std.specs.Prelude.{ℤ, pos, ◌≤ℤ◌, int_le, unsigned_abs}
 use Rattle.std.proofs.lemmas.Bool.{false_from_ne_true}
 use Rattle.std.specs.Bool.{Decides}
 use Rattle.std.proofs.lemmas.Int.{ints, to_z-of_z}
-use Rattle.std.proofs.lemmas.Bool.Decides.{Decides-and, Decides-like}
+use Rattle.std.proofs.lemmas.Bool.Decides.{Decides-and}
 use Rattle.jiff.specs.Words.{IsDate, days_in_month}
 use Rattle.date_display.specs.Days.{date_if}
 use Rattle.date_display.specs.declared.date.Date.{Date}

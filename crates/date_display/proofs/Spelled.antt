@@ -1,25 +1,21 @@
 -- Texts of dates are read as they are spelled.
-use Rattle.std.proofs.Common.{◌≡◌, ℕ, ◌+◌, ◌<◌, ◌≤◌, ◌^◌, Bool, true, false, cond, eqb, ◌&&◌, List, [], ◌∷◌, ◌++◌, length, take, drop}
-use Rattle.std.proofs.Common.{Option, Some, None, refl, sym, ap, ◌∙◌, subst, inl, inr, arith, length-append}
-use Rattle.std.specs.Prelude.{ℤ, pos, option_map, option_and_then, IfSome}
+use Rattle.std.proofs.Common.{◌≡◌, ℕ, ◌+◌, ◌<◌, ◌≤◌, ◌^◌, true, eqb, ◌&&◌, List, ◌++◌, length, take, drop}
+use Rattle.std.proofs.Common.{Some, None, refl, sym, ap, ◌∙◌, subst, inl, inr, arith, length-append}
+use Rattle.std.specs.Prelude.{ℤ, pos, option_and_then}
 use Rattle.std.specs.Str.{all_ascii_digits}
 use Rattle.std.specs.Str.Parse.{AllDigits, digits_value}
 use Rattle.std.proofs.Math.Seq.{drop-append_seam, take-append_seam}
 use Rattle.std.proofs.lemmas.Bool.Decides.{Decides-eqb}
-use Rattle.std.proofs.lemmas.Bool.{eqb-true, and_parts, and_from}
+use Rattle.std.proofs.lemmas.Bool.{eqb-true, and_parts}
 use Rattle.std.proofs.lemmas.List.{take-append-drop, drop-drop}
 use Rattle.std.proofs.lemmas.Option.{option_and_then_some}
-use Rattle.common_lemmas.proofs.Choices.{chosen, map_some, none_unless, some_is}
+use Rattle.common_lemmas.proofs.Choices.{chosen, none_unless, some_is}
 use Rattle.common_lemmas.proofs.Digits.{AllDigits-from_test, test_from_AllDigits, value_short}
-use Rattle.date_display.specs.Calendar.{IsDay, is_day, days_of_month}
-use Rattle.date_display.specs.Days.{date_if, last_of_month, month_day_of}
+use Rattle.date_display.specs.Calendar.{IsDay, is_day}
+use Rattle.date_display.specs.Days.{date_if, last_of_month}
 use Rattle.date_display.specs.declared.date.Date.{Date}
-use Rattle.date_display.specs.declared.month_day.MonthDay.{MonthDay}
-use Rattle.date_display.specs.declared.dates.Dates.{Dates}
-use Rattle.date_display.specs.declared.dates.Dates.TheVariants.{Dated, Yearly}
-use Rattle.date_display.specs.Texts.{SpellsNumber, SpellsDay, SpellsMonth, SpellsYear, SpellsDated, SpellsYearlyDay}
-use Rattle.date_display.specs.Texts.{SpellsYearlyMonth, SpellsYearly, SpellsDates, digits_in, date_in, first_of_month_in}
-use Rattle.date_display.specs.Texts.{whole_year, dated_in, yearly_in, dates_in}
+use Rattle.date_display.specs.Texts.{SpellsNumber, SpellsDay, SpellsMonth}
+use Rattle.date_display.specs.Texts.{digits_in, date_in, first_of_month_in}
 use Rattle.date_display.proofs.Calendars.{Decides-is_day, date_there}
 
 -- ---- digits

@@ -1,5 +1,5 @@
 -- The Gregorian calendar, from the year 1 to the year 9999.
-use Rattle.std.specs.Prelude.{ℕ, ◌%◌, Bool, not, ◌&&◌, ◌||◌, ◌==◌, if◌then◌else◌, ℤ, pos, ◌≤ℤ◌, int_le, unsigned_abs}
+use Rattle.std.specs.Prelude.{◌%◌, Bool, not, ◌&&◌, ◌||◌, ◌==◌, if◌then◌else◌, ℤ, pos, ◌≤ℤ◌, int_le, unsigned_abs}
 
 -- z lies from low to high, both included
 abbrev pub IsFromTo : ℤ → ℤ → ℤ → Type 0

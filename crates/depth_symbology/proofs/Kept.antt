@@ -1,5 +1,5 @@
 -- Answers that are kept for edges.
-use Rattle.std.proofs.Common.{◌≡◌, ℤ, Bool, Option, Some, IfSome, subst, sym}
+use Rattle.std.proofs.Common.{◌≡◌, ℤ, Bool, subst, sym}
 use Rattle.std.specs.Prelude.{Result, Ok, Err, OnOk, OnErr}
 use Rattle.std.specs.FinMap as finite
 use Rattle.chart_model.specs.Cell.{CellValue}

@@ -1,4 +1,4 @@
-use Rattle.std.proofs.Common.{◌≡◌, Some, arith, ap, refl, sym, subst, ◌∙◌}
+use Rattle.std.proofs.Common.{Some, arith, ap, refl, sym, subst, ◌∙◌}
 use Rattle.std.proofs.lemmas.Int.{ints}
 use Rattle.jiff.specs.Words.{IsDate}
 use Rattle.date_display.specs.declared.date.Date.{Date}
