@@ -1,7 +1,6 @@
 -- What contracts see of a session, and what a turn of it does.
-use Rattle.std.specs.Prelude.{◌≡◌, ◌≢◌, ◌⊎◌, ℕ, ◌+◌, ◌≤◌, Bool, IsTrue, List, Result, Ok, Err}
+use Rattle.std.specs.Prelude.{◌≡◌, ◌⊎◌, ℕ, ◌+◌, ◌≤◌, Bool, IsTrue, List, Result, Ok, Err}
 use Rattle.std.specs.FinMap as finite
-use Rattle.bank_journal.specs.Fault.{HasDeskCause}
 use Rattle.chart_model.specs.Keys.{key_cmp}
 use Rattle.chart_model.specs.Names.{name_cmp}
 use Rattle.chart_ports.specs.Disk.{LeavesNoMoreOfOthers, SameOthers}
@@ -94,16 +93,14 @@ pub record TakesTurn (AreAnswers : Fetches → Type 0) (Leaves : (Images → Lis
   pub steps : IsWithin (most_steps_at fetches before event)
   pub leaves : Leaves (StandsForEither said before.state (turn_of fetches before event).model.state)
 
--- What every turn keeps, whatever comes of it. One command at most is accepted, and none where the desk failed; where
--- none is, the desk is as it was, unless it failed, which has its cause. Nothing is said, and of the desk's files all
--- but the bank's stay, at a crash too.
-pub record KeepsDesk {D E : Type 0} (tells : Bool) (said : D → List ℕ) (contents : D → ℕ → List ℕ)
-    (may_leave : D → ℕ → List ℕ → Type 0) (faults : D → ℕ) (failed : E) (result : Result Reply E)
-    (before now : Session) (desk desk' : D) : Type 0 where
+-- Whatever comes of a turn, one command at most is accepted, and none where the desk failed.
+pub record AcceptsOne {E : Type 0} (failed : E) (result : Result Reply E) (before now : Session) : Type 0 where
   pub one_command : count_of (store_of now) ≤ count_of (store_of before) + 1
   pub unaccepted : result ≡ Err failed → count_of (store_of now) ≡ count_of (store_of before)
-  pub untouched : result ≢ Err failed → count_of (store_of now) ≡ count_of (store_of before) → desk' ≡ desk
-  pub cause : HasDeskCause failed (faults desk) (faults desk') result
+
+-- Nothing is said, and of the desk's files all but the bank's stay, at a crash too.
+pub record KeepsOthers {D : Type 0} (tells : Bool) (said : D → List ℕ) (contents : D → ℕ → List ℕ)
+    (may_leave : D → ℕ → List ℕ → Type 0) (desk desk' : D) : Type 0 where
   pub silent : IsTrue tells → said desk' ≡ said desk
   pub others : IsTrue tells → SameOthers 1 (contents desk) (contents desk')
   pub crash_others : IsTrue tells → LeavesNoMoreOfOthers 1 (may_leave desk) (may_leave desk')

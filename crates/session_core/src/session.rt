@@ -36,6 +36,7 @@ pub struct Session {
 impl Session {
     ghost use Rattle.std.specs.Prelude.{◌≡◌, ◌≢◌, ◌+◌, ◌<◌, ◌≤◌, ◌^◌, ℕ, List, length, Ok, Err, IfOk, IsTrue, OnOk};
     ghost use Rattle.std.specs.FinMap as finite;
+    ghost use Rattle.bank_journal.specs.Fault.{HasDeskCause};
     ghost use Rattle.chart_difference.specs.Difference.{AreChanged};
     ghost use Rattle.chart_ports.specs.Moments.{LeavesOnly};
     ghost use Rattle.chart_store.specs.Outcome.{most_steps};
@@ -50,7 +51,8 @@ impl Session {
     ghost use Rattle.session_core.specs.Kept.{IsKeptOf, IsRenewed, feature_count};
     ghost use Rattle.session_core.specs.Model.{portrayal_with};
     ghost use Rattle.session_core.specs.Reissue.{ReissueKeepsChart};
-    ghost use Rattle.session_core.specs.Session.{GivesEvent, GivesTurn, IsReady, KeepsCharts, KeepsDesk, TakesTurn};
+    ghost use Rattle.session_core.specs.Session.{AcceptsOne, GivesEvent, GivesTurn, IsReady, KeepsCharts};
+    ghost use Rattle.session_core.specs.Session.{KeepsOthers, TakesTurn};
     ghost use Rattle.session_core.specs.Session.{grids_in, model_of, portrayal_of, store_of, users_in};
     ghost use Rattle.session_core.specs.Steps.{TakesAtMost};
     ghost use Rattle.session_core.specs.Turn.{order_turn};
@@ -140,8 +142,11 @@ impl Session {
             (StandsForEither (D.said desk.old) (model_of self.old).state
             (order_turn (model_of self.old) (Ok order)).model.state) }
         ensures accepted { OnOk result (count_of (store_of self.new) ≡ count_of (store_of self.old) + 1) }
-        ensures keeps { KeepsDesk D.tells D.said D.contents D.may_leave D.faults EventFailed result self.old self.new
-            desk.old desk.new }
+        ensures accepts { AcceptsOne EventFailed result self.old self.new }
+        ensures untouched { result ≢ Err EventFailed →
+            count_of (store_of self.new) ≡ count_of (store_of self.old) → desk.new ≡ desk.old }
+        ensures cause { HasDeskCause EventFailed (D.faults desk.old) (D.faults desk.new) result }
+        ensures others { KeepsOthers D.tells D.said D.contents D.may_leave desk.old desk.new }
         ensures ready { result ≢ Err EventFailed → result ≢ Err NoMemoryForEvent →
             IsReady D.tells (D.contents desk.new) (D.may_leave desk.new) self.new }
         ensures steps { TakesAtMost (most_steps (model_of self.old).state order.command) (model_of self.old).state
@@ -173,8 +178,11 @@ impl Session {
             (GivesEvent result (model_of self.old) (model_of self.new)) }
         ensures reissue { result ≢ Err NoMemoryForEvent → (key : List ℕ) → event ≡ Reissue key →
             ReissueKeepsChart (model_of self.old) key }
-        ensures keeps { KeepsDesk D.tells D.said D.contents D.may_leave D.faults EventFailed result self.old self.new
-            desk.old desk.new }
+        ensures accepts { AcceptsOne EventFailed result self.old self.new }
+        ensures untouched { result ≢ Err EventFailed →
+            count_of (store_of self.new) ≡ count_of (store_of self.old) → desk.new ≡ desk.old }
+        ensures cause { HasDeskCause EventFailed (D.faults desk.old) (D.faults desk.new) result }
+        ensures others { KeepsOthers D.tells D.said D.contents D.may_leave desk.old desk.new }
         ensures ready { result ≢ Err EventFailed → result ≢ Err NoMemoryForEvent →
             IsReady D.tells (D.contents desk.new) (D.may_leave desk.new) self.new }
         ensures shelf { KeepsShelf L.tells L.files L.faults shelf.old shelf.new }
@@ -244,10 +252,13 @@ impl Session {
         ensures reissue { OnOk result ((key : List ℕ) → event ≡ Reissue key →
             ReissueKeepsChart (model_of self.old) key) }
 
-        // One command at most is accepted, and none where the desk fails. Where none is, the disk is left as it is,
-        // unless it fails. Nothing is said.
-        ensures keeps { KeepsDesk D.tells D.said D.contents D.may_leave D.faults DeskFault result self.old self.new
-            desk.old desk.new }
+        // One command at most is accepted, and none where the desk fails. Where none is, the desk is left as it is,
+        // unless it fails, and that has its cause. Nothing is said, and files that aren't the bank's stay.
+        ensures accepts { AcceptsOne DeskFault result self.old self.new }
+        ensures untouched { result ≢ Err DeskFault →
+            count_of (store_of self.new) ≡ count_of (store_of self.old) → desk.new ≡ desk.old }
+        ensures cause { HasDeskCause DeskFault (D.faults desk.old) (D.faults desk.new) result }
+        ensures others { KeepsOthers D.tells D.said D.contents D.may_leave desk.old desk.new }
 
         // The next turn may follow: the session keeps the users and the grid of each chart that is held now.
         ensures ready { OnOk result (IsReady D.tells (D.contents desk.new) (D.may_leave desk.new) self.new) }
