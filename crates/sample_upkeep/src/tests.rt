@@ -1,3 +1,4 @@
 mod kept;
 mod random;
+mod shared;
 mod updates;

@@ -34,6 +34,8 @@ macro_rules! gone {
     };
 }
 
+pub(super) use gone;
+
 /// Updates one after the other: an area on two edges comes, and a point before the one at the node; an attribute; a
 /// node moves; one area goes, and another has other edges, one of which isn't there; of two edges no user is left.
 static UPDATES: [&[Row]; 5] = [
