@@ -10,6 +10,7 @@ use Rattle.chart_model.specs.Codes.{EDGE}
 use Rattle.chart_model.specs.Names.{name_cmp}
 use Rattle.chart_model.specs.Cell.{CellValue}
 use Rattle.plane_geometry.specs.declared.point.Pt.{Pt}
+use Rattle.area_rings.specs.Choice.{◌>>=◌}
 use Rattle.area_rings.specs.Edge.{ends_of, is_node, point_of}
 use Rattle.spatial_grid.specs.declared.edges.Ends.{Ends}
 use Rattle.plane_bounds.specs.declared.bounds.Bounds.{Bounds}
