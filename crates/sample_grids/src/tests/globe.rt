@@ -23,7 +23,12 @@ const SOUTH: i64 = -900_000_000;
 const NORTH: i64 = 900_000_000;
 
 /// The connected nodes at the corners of the globe, round it.
-static CORNERS: [(i64, i64); 4] = [(WEST, SOUTH), (EAST, SOUTH), (EAST, NORTH), (WEST, NORTH)];
+static CORNERS: [(u32, (i64, i64)); 4] = [
+    (1, (WEST, SOUTH)),
+    (2, (EAST, SOUTH)),
+    (3, (EAST, NORTH)),
+    (4, (WEST, NORTH)),
+];
 
 /// The edges between the corners, an area within them, a point at each corner, two of the edges as lines, and a point
 /// in the middle.
@@ -112,10 +117,8 @@ fn node(alloc: Global, rcid: u32, corner: (i64, i64)) -> Result<UpdateRecord, Al
 /// The chart of the corners and the rows.
 fn globe(alloc: Global) -> Result<Cell, Fail> {
     let mut cell = chart(alloc, &[])?;
-    let mut rcid = 1;
-    for corner in &CORNERS {
-        apply_record(alloc, &mut cell, &node(alloc, rcid, *corner)?)?;
-        rcid += 1;
+    for (rcid, corner) in &CORNERS {
+        apply_record(alloc, &mut cell, &node(alloc, *rcid, *corner)?)?;
     }
     add_rows(alloc, &mut cell, &ROWS)?;
     Ok(cell)

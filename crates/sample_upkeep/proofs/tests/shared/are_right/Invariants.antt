@@ -4,4 +4,4 @@ use Rattle.topology_cache.specs.Users.{AreUsersOf}
 use Rattle.sample_upkeep.proofs.tests.shared.are_right.Given as goal
 
 abbrev pub invariant-loop-step : goal.invariant-loop-step
-invariant-loop-step g l = AreUsersOf l.cell l.kept.users × IsGridOf l.cell l.kept.grid
+invariant-loop-step l = AreUsersOf l.cell l.kept.users × IsGridOf l.cell l.kept.grid
