@@ -3,7 +3,6 @@ mod EntriesSoFar
 mod Failing
 mod Limits
 mod Listed
-mod Members
 mod Names
 mod Noted
 mod Putting

@@ -5,7 +5,7 @@ use Rattle.std.proofs.lemmas.Bool.{lt-ltb, le-ltb}
 use Rattle.std.proofs.lemmas.Bool.Decides.{eqb_tells}
 use Rattle.std.proofs.lemmas.List.{length-map}
 use Rattle.chart_model.specs.Answers.{first_of, when, unless}
-use Rattle.exchange_catalogue.specs.Firsts.{checked}
+use Rattle.exchange_catalogue.specs.Firsts.{paths_check}
 use Rattle.exchange_catalogue.specs.Orders.{paths_fault, count_fault, load_order_of, load_order_in, IsLoadOrder}
 use Rattle.exchange_catalogue.specs.declared.cell_file.CellFile.{CellFile}
 use Rattle.exchange_catalogue.specs.declared.entry.Entry.{Entry}
@@ -33,7 +33,7 @@ count-fine count under some =
     (λ i. first_of (when (le-ltb 1000 count under i) (Many count) ∷ when (other count some i) Empty ∷ []))
 
 module _ (entries : List Entry) (files : List CellFile) (order : IsLoadOrder entries (map path_in files))
-    (fine : checked entries ≡ Ok tt) (count : ℕ)
+    (fine : paths_check entries ≡ Ok tt) (count : ℕ)
     (counted : count ≡ length files) where
   paths_count : length (load_order_of entries) ≡ count
   paths_count = ap length (sym (order-one entries (map path_in files) order)) ∙ length-map files path_in ∙ sym counted

@@ -18,7 +18,7 @@ use Rattle.chart_model.specs.Keys.{key_cmp}
 use Rattle.exchange_catalogue.specs.Paths.{cell_path_of}
 use Rattle.exchange_catalogue.specs.Orders.{cell_paths, stem_of, number_of, has_path, place_of, load_cmp}
 use Rattle.exchange_catalogue.specs.declared.entry.Entry.{Entry}
-use Rattle.exchange_catalogue.proofs.Members.{Has}
+use Rattle.common_lemmas.proofs.Members.{Has}
 use Rattle.exchange_catalogue.proofs.Noted.{same_path}
 
 -- ---- the order

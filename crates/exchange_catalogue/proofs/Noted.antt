@@ -18,7 +18,7 @@ use Rattle.chart_model.proofs.Maps.{tied}
 use Rattle.exchange_catalogue.specs.Answers.{told_of_order}
 use Rattle.exchange_catalogue.specs.Paths.{cell_path_of}
 use Rattle.exchange_catalogue.specs.Orders.{has_path, path_fault, paths_fault}
-use Rattle.exchange_catalogue.specs.Firsts.{rank_at, file_at, first_rank, checked}
+use Rattle.exchange_catalogue.specs.Firsts.{rank_at, file_at, first_rank, paths_check}
 use Rattle.exchange_catalogue.specs.declared.cell_file.CellFile.{CellFile}
 use Rattle.exchange_catalogue.specs.declared.cell_file.Rank.{Rank}
 use Rattle.exchange_catalogue.specs.declared.entry.Entry.{Entry}
@@ -163,7 +163,7 @@ AreFaultless place entries = paths_fault (drop place entries) ≡ paths_fault en
 
 pub faultless-next : (entries : List Entry) (place : ℕ) (entry : Entry) → place < length entries
     → entry ≡ get_or entries place entry
-    → checked (entry ∷ []) ≡ Ok tt → AreFaultless place entries → AreFaultless (place + 1) entries
+    → paths_check (entry ∷ []) ≡ Ok tt → AreFaultless place entries → AreFaultless (place + 1) entries
 faultless-next entries place entry here at fine so_far =
     ap (λ (o : Option OrderFault). first_of (o ∷ rest)) (sym (alone-none (path_fault entry) fine))
     ∙ ap paths_fault (sym (behind_it entries place entry here at)) ∙ so_far
@@ -172,14 +172,14 @@ faultless-next entries place entry here at fine so_far =
     rest = map path_fault (drop (place + 1) entries)
 
 pub faultless-all : (entries : List Entry) (place : ℕ) → length entries ≤ place → AreFaultless place entries
-    → checked entries ≡ Ok tt
+    → paths_check entries ≡ Ok tt
 faultless-all entries place done so_far =
     ap (λ (o : Option OrderFault). unless o tt)
     (sym so_far ∙ ap paths_fault (drop_of_length-le entries {i = place} done))
 
 first_fault : (entries : List Entry) (place : ℕ) (entry : Entry) (fault : OrderFault) → place < length entries
     → entry ≡ get_or entries place entry
-    → checked (entry ∷ []) ≡ Err fault → AreFaultless place entries → checked entries ≡ Err fault
+    → paths_check (entry ∷ []) ≡ Err fault → AreFaultless place entries → paths_check entries ≡ Err fault
 first_fault entries place entry fault here at e so_far =
     ap (λ (o : Option OrderFault). unless o tt) (sym so_far ∙ ap paths_fault (behind_it entries place entry here at))
     ∙ ap (λ (o : Option OrderFault). unless (first_of (o ∷ map path_fault (drop (place + 1) entries))) tt)
@@ -187,8 +187,8 @@ first_fault entries place entry fault here at e so_far =
 
 pub fault-here : (entries : List Entry) (place : ℕ) (entry : Entry) (fault : OrderFault) → place < length entries
     → entry ≡ get_or entries place entry
-    → AreFaultless place entries → FailsBy told_of_order fault (checked (entry ∷ []))
-    → FailsBy told_of_order fault (checked entries)
+    → AreFaultless place entries → FailsBy told_of_order fault (paths_check (entry ∷ []))
+    → FailsBy told_of_order fault (paths_check entries)
 fault-here entries place entry (BadPath number) here at so_far h =
     first_fault entries place entry (BadPath number) here at h so_far
 fault-here entries place entry (Many count) here at so_far h =

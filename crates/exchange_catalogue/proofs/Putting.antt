@@ -7,8 +7,8 @@ use Rattle.std.specs.declared.cmp.Ordering.{Ordering}
 use Rattle.std.specs.declared.cmp.Ordering.TheVariants.{Less, Equal, Greater}
 use Rattle.exchange_catalogue.specs.Orders.{cell_paths, load_cmp, put_by, put_among, load_order_of, IsLoadOrder}
 use Rattle.exchange_catalogue.specs.declared.entry.Entry.{Entry}
-use Rattle.exchange_catalogue.proofs.Members.{Has, has_in, has_out, IsBefore, Rises, before_each, before_all, all_pairs}
-use Rattle.exchange_catalogue.proofs.Members.{rises_from, one_list}
+use Rattle.common_lemmas.proofs.Members.{Has, has_in, has_out, IsBefore, Rises, before_each, before_all, all_pairs}
+use Rattle.common_lemmas.proofs.Members.{rises_from, one_list}
 use Rattle.exchange_catalogue.proofs.Listed.{load_total, tied-path}
 
 -- ---- one path, by how it stands to the first of the others

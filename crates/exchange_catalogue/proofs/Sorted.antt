@@ -27,7 +27,7 @@ use Rattle.exchange_catalogue.specs.Orders.{cell_paths, has_path, place_of, load
 use Rattle.exchange_catalogue.specs.declared.cell_file.CellFile.{CellFile}
 use Rattle.exchange_catalogue.specs.declared.cell_file.Rank.{Rank}
 use Rattle.exchange_catalogue.specs.declared.entry.Entry.{Entry}
-use Rattle.exchange_catalogue.proofs.Members.{Has, has_in, has_out}
+use Rattle.common_lemmas.proofs.Members.{Has, has_in, has_out}
 use Rattle.exchange_catalogue.proofs.Listed.{load_total, listed-found, found-listed, place-is, tied-path}
 
 -- the order of files: by rank, and then by path

@@ -22,8 +22,8 @@ abbrev pub first_rank : ℕ → List Entry → List ℕ → Option Rank
 first_rank place entries path = option_map (rank_at path) (position_from (has_path path) place entries)
 
 -- nothing, or the first bad path
-abbrev pub checked : List Entry → Result (Unit {0}) OrderFault
-checked entries = unless (paths_fault entries) tt
+abbrev pub paths_check : List Entry → Result (Unit {0}) OrderFault
+paths_check entries = unless (paths_fault entries) tt
 
 -- the files of a map from paths to ranks
 abbrev pub file_of : List ℕ × Rank → CellFile

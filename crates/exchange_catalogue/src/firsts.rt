@@ -7,7 +7,7 @@ ghost use Rattle.std.specs.BTreeMap.{get, IsOrdered};
 ghost use Rattle.std.specs.Option.{option_or};
 ghost use Rattle.chart_model.specs.Keys.{key_cmp};
 ghost use Rattle.exchange_catalogue.specs.Answers.{GivesOrderBy};
-ghost use Rattle.exchange_catalogue.specs.Firsts.{first_rank, checked, file_of, AreFirst};
+ghost use Rattle.exchange_catalogue.specs.Firsts.{first_rank, paths_check, file_of, AreFirst};
 
 use crate::bytes::Bytes;
 use crate::cell_file::{CellFile, Rank, cell_file};
@@ -27,7 +27,7 @@ fn note_entry(
 ) -> Result<(), OrderFault>
     ensures noted { OnOk result ((path : List ℕ) → get key_cmp files.new path
         ≡ option_or (get key_cmp files.old path) (first_rank place (entry.now ∷ []) path)) }
-    ensures fault { GivesOrderBy (λ _. tt) result (checked (entry.now ∷ [])) }
+    ensures fault { GivesOrderBy (λ _. tt) result (paths_check (entry.now ∷ [])) }
 {
     let Some(file) = cell_file(alloc, entry, place)? else {
         return Ok(());
@@ -45,7 +45,7 @@ fn note_entry(
 fn first_ranks(alloc: Global, entries: &[Entry]) -> Result<BTreeMap<Bytes, Rank>, OrderFault>
     ensures ranks { IfOk result (λ files. (path : List ℕ) →
         get key_cmp files path ≡ first_rank 0 entries.now path) }
-    ensures fault { GivesOrderBy (λ _. tt) result (checked entries.now) }
+    ensures fault { GivesOrderBy (λ _. tt) result (paths_check entries.now) }
 {
     let mut files = BTreeMap::new(alloc);
     for (place, entry) in entries.iter().enumerate() {
@@ -69,7 +69,7 @@ fn files_of(alloc: Global, ranks: BTreeMap<Bytes, Rank>) -> Result<Vec<CellFile>
 /// The cell files that entries list, each once, in the order of their paths.
 pub(crate) fn first_files(alloc: Global, entries: &[Entry]) -> Result<Vec<CellFile>, OrderFault>
     ensures files { IfOk result (λ files. AreFirst entries.now files.items) }
-    ensures fault { GivesOrderBy (λ _. tt) result (checked entries.now) }
+    ensures fault { GivesOrderBy (λ _. tt) result (paths_check entries.now) }
 {
     let ranks = first_ranks(alloc, entries)?;
     Ok(files_of(alloc, ranks)?)

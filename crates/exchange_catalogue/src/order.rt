@@ -7,7 +7,7 @@
 ghost use Rattle.std.specs.Prelude.{◌≡◌, IfOk, map};
 ghost use Rattle.exchange_catalogue.specs.Answers.{GivesOrder, GivesOrderBy};
 ghost use Rattle.exchange_catalogue.specs.Orders.{IsLoadOrder, load_order_in};
-ghost use Rattle.exchange_catalogue.specs.Firsts.{checked};
+ghost use Rattle.exchange_catalogue.specs.Firsts.{paths_check};
 
 use crate::cell_file::CellFile;
 use crate::entry::{Entry, EntryList};
@@ -25,7 +25,7 @@ pub type PathList = Sequence<Octets>;
 /// The cell files that entries list, each once and in their order.
 fn files_in_order(alloc: Global, entries: &[Entry]) -> Result<Vec<CellFile>, OrderFault>
     ensures order { IfOk result (λ files. IsLoadOrder entries.now (map (λ file. file.path) files.items)) }
-    ensures fault { GivesOrderBy (λ _. tt) result (checked entries.now) }
+    ensures fault { GivesOrderBy (λ _. tt) result (paths_check entries.now) }
 {
     let mut files = first_files(alloc, entries)?;
     files.sort()?;

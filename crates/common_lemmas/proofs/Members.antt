@@ -1,5 +1,5 @@
 -- Elements of lists, and lists in a strict order: two of them with the same elements are one.
-use Rattle.std.proofs.Common.{◌≡◌, ◌⊎◌, inl, inr, ℕ, zero, suc, ◌<◌, List, [], ◌∷◌, length, get_or, refl, sym, ◌∙◌}
+use Rattle.std.proofs.Common.{◌≡◌, ◌⊎◌, inl, inr, ℕ, zero, suc, ◌<◌, List, [], ◌∷◌, ◌++◌, length, get_or, refl, sym, ◌∙◌}
 use Rattle.std.proofs.Common.{subst, arith}
 use Rattle.std.specs.List.{Contains, AllPairs}
 
@@ -19,6 +19,20 @@ has_in (y ∷ ys) x (inl e) = (0, omega arith, e)
 has_in (y ∷ ys) x (inr h) =
     let w = has_in ys x h in
     (suc w.0, omega (arith, w.1), w.2)
+
+pub has_left : {X : Type 0} (xs ys : List X) (x : X) → Has x xs → Has x (xs ++ ys)
+has_left [] ys x h = absurd h
+has_left (z ∷ zs) ys x (inl e) = inl e
+has_left (z ∷ zs) ys x (inr h) = inr (has_left zs ys x h)
+
+pub has_right : {X : Type 0} (xs ys : List X) (x : X) → Has x ys → Has x (xs ++ ys)
+has_right [] ys x h = h
+has_right (z ∷ zs) ys x h = inr (has_right zs ys x h)
+
+pub has_either : {X : Type 0} (xs ys : List X) (x : X) → Has x (xs ++ ys) → Has x xs ⊎ Has x ys
+has_either [] ys x h = inr h
+has_either (z ∷ zs) ys x (inl e) = inl (inl e)
+has_either (z ∷ zs) ys x (inr h) = elim (has_either zs ys x h) [ inl a ↦ inl (inr a) | inr b ↦ inr b ]
 
 module _ {X : Type 0} (R : X → X → Type 0) where
   abbrev pub IsBefore : X → List X → Type 0
