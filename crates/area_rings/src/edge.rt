@@ -64,7 +64,7 @@ fn begins_and_ends(begin: &Pointer, end: &Pointer) -> bool
 }
 
 /// The begin node and the end node that an edge's pointers name.
-fn ends(pointers: &[Pointer]) -> Option<(Name, Name)>
+pub fn end_names(pointers: &[Pointer]) -> Option<(Name, Name)>
     ensures { result ≡ ends_of pointers.now }
 {
     let [first, second] = pointers else {
@@ -87,7 +87,7 @@ fn recorded(cell: &Cell, name: Name) -> Option<DirectedEdge<'_>>
         return None;
     }
     let vector = cell.vectors.get(name)?;
-    let (from, to) = ends(vector.pointers.as_slice())?;
+    let (from, to) = end_names(vector.pointers.as_slice())?;
     let start = place(cell, from)?;
     let end = place(cell, to)?;
     let inner = vector.coords.as_slice();

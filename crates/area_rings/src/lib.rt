@@ -13,7 +13,7 @@ mod ring;
 mod shape;
 mod trace;
 
-pub use edge::point;
+pub use edge::{end_names, point};
 pub use laws::{rings_are_shortest, shapes_are_kept};
 pub use line::{Line, LineList, edge_line};
 pub use presence::{has_line, has_shape};

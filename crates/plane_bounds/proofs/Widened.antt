@@ -1,9 +1,9 @@
--- A box with one more point.
+-- A box with one more point, and a box round two.
 use Rattle.std.proofs.Common.{arith}
 use Rattle.std.proofs.lemmas.Int.{ints, clamps}
 use Rattle.plane_geometry.specs.declared.point.Pt.{Pt}
 use Rattle.plane_bounds.specs.declared.bounds.Bounds.{Bounds}
-use Rattle.plane_bounds.specs.Bounds.{Holds, IsIn, with_point}
+use Rattle.plane_bounds.specs.Bounds.{Holds, IsIn, around, with_point}
 
 -- it holds the old box
 pub holds_old : (old : Bounds) (p : Pt) → Holds (with_point old p) old
@@ -30,4 +30,31 @@ held_by old p other h q = record {
   east = omega (arith, ints, clamps, h.east, q.east);
   south = omega (arith, ints, clamps, h.south, q.south);
   north = omega (arith, ints, clamps, h.north, q.north);
+}
+
+-- ---- two boxes
+
+pub holds_one : (one other : Bounds) → Holds (around one other) one
+holds_one one other = record {
+  west = omega (arith, ints, clamps);
+  east = omega (arith, ints, clamps);
+  south = omega (arith, ints, clamps);
+  north = omega (arith, ints, clamps);
+}
+
+pub holds_other : (one other : Bounds) → Holds (around one other) other
+holds_other one other = record {
+  west = omega (arith, ints, clamps);
+  east = omega (arith, ints, clamps);
+  south = omega (arith, ints, clamps);
+  north = omega (arith, ints, clamps);
+}
+
+-- each box that holds both holds the box round them
+pub holds_both : (one other box : Bounds) → Holds box one → Holds box other → Holds box (around one other)
+holds_both one other box h k = record {
+  west = omega (arith, ints, clamps, h.west, k.west);
+  east = omega (arith, ints, clamps, h.east, k.east);
+  south = omega (arith, ints, clamps, h.south, k.south);
+  north = omega (arith, ints, clamps, h.north, k.north);
 }

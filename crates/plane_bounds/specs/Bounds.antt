@@ -20,6 +20,19 @@ with_point bounds p = record {
   y1 = int_max bounds.y1 p.y;
 }
 
+-- the box of a point alone
+abbrev pub box_at : Pt → Bounds
+box_at p = record { x0 = p.x; y0 = p.y; x1 = p.x; y1 = p.y }
+
+-- the least box round two
+abbrev pub around : Bounds → Bounds → Bounds
+around one other = record {
+  x0 = int_min one.x0 other.x0;
+  y0 = int_min one.y0 other.y0;
+  x1 = int_max one.x1 other.x1;
+  y1 = int_max one.y1 other.y1;
+}
+
 -- from low to high and from the third number to the fourth there are numbers, and one is common to both
 pub record HaveCommon (low high from to : ℤ) : Type 0 where
   pub some : low ≤ℤ high

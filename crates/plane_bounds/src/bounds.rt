@@ -61,7 +61,7 @@ fn greater(border: i64, n: i32) -> i64
 
 impl Bounds {
     ghost use Rattle.std.specs.Prelude.{◌≡◌, ◌↔◌, IsTrue};
-    ghost use Rattle.plane_bounds.specs.Bounds.{IsIn, Holds, Meets, RingsIn, with_point};
+    ghost use Rattle.plane_bounds.specs.Bounds.{IsIn, Holds, Meets, RingsIn, around, box_at, with_point};
     ghost use Rattle.plane_bounds.specs.Inside.{is_inside};
 
     /// The bounds of no point.
@@ -71,6 +71,20 @@ impl Bounds {
         x1: i64::MIN,
         y1: i64::MIN,
     };
+
+    /// The box of a point alone. It takes no memory.
+    pub fn at(p: Pt) -> Bounds
+        ensures { result ≡ box_at p }
+    {
+        let x = i64::from(p.x);
+        let y = i64::from(p.y);
+        Bounds {
+            x0: x,
+            y0: y,
+            x1: x,
+            y1: y,
+        }
+    }
 
     /// Whether a point is in the box. It takes no memory.
     pub fn holds(self, p: Pt) -> bool
@@ -108,6 +122,21 @@ impl Bounds {
             y0: lesser(self.y0, p.y),
             x1: greater(self.x1, p.x),
             y1: greater(self.y1, p.y),
+        }
+    }
+
+    /// The least box round this one and another. It takes no memory.
+    pub fn around(self, other: Bounds) -> Bounds
+        ensures value { result ≡ around self other }
+        ensures one { Holds result self }
+        ensures other { Holds result other }
+        ensures least { (grown : Bounds) → Holds grown self → Holds grown other → Holds grown result }
+    {
+        Bounds {
+            x0: self.x0.min(other.x0),
+            y0: self.y0.min(other.y0),
+            x1: self.x1.max(other.x1),
+            y1: self.y1.max(other.y1),
         }
     }
 }

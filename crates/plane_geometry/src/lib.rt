@@ -17,4 +17,5 @@ pub use even_odd::inside_even_odd;
 pub use laws::crossing_is_a_place;
 pub use orientation::orient;
 pub use point::{Pt, Ring};
+pub use ray::crosses_ray;
 pub use segment::on_segment;

@@ -12,8 +12,8 @@ use crate::point::Pt;
 
 /// Whether the segment from `a` to `b` crosses the ray from `p` to greater x. An end at the height of
 /// `p` counts as below it, so that a ray through a corner of a ring crosses one of its two segments or
-/// both or none, as the ring goes on.
-pub(crate) fn crosses_ray(p: Pt, a: Pt, b: Pt) -> bool
+/// both or none, as the ring goes on. It takes no memory.
+pub fn crosses_ray(p: Pt, a: Pt, b: Pt) -> bool
     ensures { result ≡ crosses p (a, b) }
 {
     if a.y <= p.y {

@@ -19,14 +19,14 @@ pub returns-in_err-from : goal.returns-in_err-from
 returns-in_err-from c =
     let vectors = ap (λ (cell : CellValue). finite.get cell.vectors c.args.name) c.cell.view_is in
     let found = sym vectors ∙ sym c.get.ensures ∙ ap option_copied c.in_ok-vector.was in
-    let ends = ap ends_of (sym c.as_slice.ensures) ∙ sym c.ends.ensures ∙ c.in_err-from.was in
+    let ends = ap ends_of (sym c.as_slice.ensures) ∙ sym c.end_names.ensures ∙ c.in_err-from.was in
     rw c.from_residual-in_err-from.ensures (sym (no_ends c.args.cell.now c.args.name _ c.if-name-ne-EDGE.false found ends))
 
 pub returns-in_err-start : goal.returns-in_err-start
 returns-in_err-start c =
     let vectors = ap (λ (cell : CellValue). finite.get cell.vectors c.args.name) c.cell.view_is in
     let found = sym vectors ∙ sym c.get.ensures ∙ ap option_copied c.in_ok-vector.was in
-    let ends = ap ends_of (sym c.as_slice.ensures) ∙ sym c.ends.ensures ∙ c.in_ok-from.was in
+    let ends = ap ends_of (sym c.as_slice.ensures) ∙ sym c.end_names.ensures ∙ c.in_ok-from.was in
     let start = sym c.place.ensures ∙ c.in_err-start.was in
     rw c.from_residual-in_err-start.ensures (sym (no_begin c.args.cell.now c.args.name _ _ _ c.if-name-ne-EDGE.false found ends start))
 
@@ -34,7 +34,7 @@ pub returns-in_err-end : goal.returns-in_err-end
 returns-in_err-end c =
     let vectors = ap (λ (cell : CellValue). finite.get cell.vectors c.args.name) c.cell.view_is in
     let found = sym vectors ∙ sym c.get.ensures ∙ ap option_copied c.in_ok-vector.was in
-    let ends = ap ends_of (sym c.as_slice.ensures) ∙ sym c.ends.ensures ∙ c.in_ok-from.was in
+    let ends = ap ends_of (sym c.as_slice.ensures) ∙ sym c.end_names.ensures ∙ c.in_ok-from.was in
     let start = sym c.place.ensures ∙ c.in_ok-start.was in
     let end = sym c.place-2.ensures ∙ c.in_err-end.was in
     rw c.from_residual-in_err-end.ensures (sym (no_end c.args.cell.now c.args.name _ _ _ _ c.if-name-ne-EDGE.false found ends start end))
@@ -43,7 +43,7 @@ pub returns : goal.returns
 returns c =
     let vectors = ap (λ (cell : CellValue). finite.get cell.vectors c.args.name) c.cell.view_is in
     let found = sym vectors ∙ sym c.get.ensures ∙ ap option_copied c.in_ok-vector.was in
-    let ends = ap ends_of (sym c.as_slice.ensures) ∙ sym c.ends.ensures ∙ c.in_ok-from.was in
+    let ends = ap ends_of (sym c.as_slice.ensures) ∙ sym c.end_names.ensures ∙ c.in_ok-from.was in
     let start = sym c.place.ensures ∙ c.in_ok-start.was in
     let end = sym c.place-2.ensures ∙ c.in_ok-end.was in
     rw c.as_slice-inner.ensures (sym (whole_edge c.args.cell.now c.args.name _ _ _ _ _ c.if-name-ne-EDGE.false found ends start end))

@@ -1,6 +1,6 @@
 use Rattle.std.proofs.Common.{sym, ◌∙◌}
 use Rattle.area_rings.proofs.Edges.{blank, too_few, too_many, two_pointers, in_order, exchanged, neither}
-use Rattle.area_rings.proofs.edge.ends.Goals as goal
+use Rattle.area_rings.proofs.edge.end_names.Goals as goal
 
 pub returns-in_default : goal.returns-in_default
 returns-in_default c = sym (too_few c.args.pointers.now c.in_default.len_below)
