@@ -4,8 +4,8 @@
 //!
 //! - the layout, one byte, 0;
 //! - the length of the checkpoint in seven bytes, the most significant first, and the checkpoint;
-//! - of each record: an open gate, which is a byte whose lowest bit is 1, the length of the body in four bytes, the most
-//!   significant first, and the body;
+//! - of each record: an open gate, which is a byte whose lowest bit is 1, the length of the body in four bytes, the
+//!   most significant first, and the body;
 //! - a closed gate, which is a byte whose lowest bit is 0. What stands behind it doesn't count.
 //!
 //! A file of at most nine bytes is the empty bank, whatever they are. A record is written behind the closed gate, with

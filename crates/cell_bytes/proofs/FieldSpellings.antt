@@ -21,7 +21,7 @@ use Rattle.iso8211_records.specs.declared.value.Value.TheVariants.{Bits, Number,
 use Rattle.iso8211_records.specs.Spelling.{AreSpelled, IsFieldText, Spells, formats_in, groups}
 use Rattle.cell_bytes.specs.Subfields.{b11, b12, b14, b24, open_text}
 use Rattle.cell_bytes.specs.Vector.{attribute, attributes, name_text, place, point, sounding, vector_identifier, vector_pointer}
-use Rattle.cell_bytes.specs.Feature.{described, feature_identifier, feature_pointer, object_name, related_object}
+use Rattle.cell_bytes.specs.Feature.{object_description, feature_identifier, feature_pointer, object_name, related_object}
 use Rattle.cell_bytes.specs.Layouts as layout
 use Rattle.chart_model.specs.declared.dataset.Header.{Header}
 use Rattle.chart_model.specs.Cell.{CellValue}
@@ -191,7 +191,7 @@ soundings-spelled coords all =
 
 pub feature_identifier-spelled : (name : Name) (feature : Feature) → IsNameInRange name → IsFeatureInRange feature
     → IsFieldText (formats_in layout.FRID) (feature_identifier_values name feature) (feature_identifier name feature)
-unfolding feature_identifier described
+unfolding feature_identifier object_description
 feature_identifier-spelled name feature range small = (
   0,
   (both (both (spelt-name name range)

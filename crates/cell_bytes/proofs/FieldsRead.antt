@@ -10,7 +10,7 @@ use Rattle.cell_bytes.specs.declared.data_set.Purpose.TheVariants.{NewDataSet}
 use Rattle.cell_bytes.specs.Subfields.{b12}
 use Rattle.cell_bytes.specs.Framing.{HasFields}
 use Rattle.cell_bytes.specs.Record.{Field, field, field_area, list_field, of_data, record_of}
-use Rattle.cell_bytes.specs.Vector.{attributes, identified, point, sounding, vector_fields, vector_identifier, vector_pointer}
+use Rattle.cell_bytes.specs.Vector.{attributes, record_identifier, point, sounding, vector_fields, vector_identifier, vector_pointer}
 use Rattle.cell_bytes.specs.Feature.{feature_fields, feature_identifier, feature_pointer, object_name, related_object}
 use Rattle.cell_bytes.specs.DataSet.{data_set_identifier, general_fields, parameter_fields, parameter_text, structure_text}
 use Rattle.cell_bytes.specs.Written.{feature_record, vector_record}
@@ -34,9 +34,9 @@ unfolding list_field
 AreFields-list_field tag [] four = tt
 AreFields-list_field tag (byte ∷ text) four = AreFields-field tag (byte ∷ text) four
 
-AreFields-identified : (number : ℕ) → AreFields (identified number)
-unfolding identified
-AreFields-identified number = AreFields-field (codes "0001") (b12 number) refl
+AreFields-record_identifier : (number : ℕ) → AreFields (record_identifier number)
+unfolding record_identifier
+AreFields-record_identifier number = AreFields-field (codes "0001") (b12 number) refl
 
 ended : (fields : List Field) → AreFields fields → Ended fields
 ended [] are = tt
@@ -61,8 +61,8 @@ pub vector_read : (tags : List (List ℕ)) (number : ℕ) (name : Name) (vector 
     → HasFields tags (vector_record name vector number) (vector_fields number name vector)
 unfolding vector_record vector_fields
 vector_read tags number name vector =
-    let first = AreFields-append (identified number) (field (codes "VRID") (vector_identifier name vector.version))
-    (AreFields-identified number) (AreFields-field (codes "VRID") (vector_identifier name vector.version) refl) in
+    let first = AreFields-append (record_identifier number) (field (codes "VRID") (vector_identifier name vector.version))
+    (AreFields-record_identifier number) (AreFields-field (codes "VRID") (vector_identifier name vector.version) refl) in
     let second = AreFields-append _ (list_field (codes "ATTV") (attributes vector.attrs)) first
     (AreFields-list_field (codes "ATTV") (attributes vector.attrs) refl) in
     let third = AreFields-append _ (list_field (codes "VRPT") (flat_map vector_pointer vector.pointers)) second
@@ -76,8 +76,8 @@ pub feature_read : (tags : List (List ℕ)) (number : ℕ) (name : Name) (featur
     → HasFields tags (feature_record name feature number) (feature_fields number name feature)
 unfolding feature_record feature_fields
 feature_read tags number name feature =
-    let first = AreFields-append (identified number) (field (codes "FRID") (feature_identifier name feature))
-    (AreFields-identified number) (AreFields-field (codes "FRID") (feature_identifier name feature) refl) in
+    let first = AreFields-append (record_identifier number) (field (codes "FRID") (feature_identifier name feature))
+    (AreFields-record_identifier number) (AreFields-field (codes "FRID") (feature_identifier name feature) refl) in
     let second = AreFields-append _ (field (codes "FOID") (object_name feature.foid)) first
     (AreFields-field (codes "FOID") (object_name feature.foid) refl) in
     let third = AreFields-append _ (list_field (codes "ATTF") (attributes feature.attrs)) second
@@ -91,8 +91,8 @@ pub general_read : (tags : List (List ℕ)) (number : ℕ) (cell : CellValue) �
     → HasFields tags (record_of of_data (general_fields number cell)) (general_fields number cell)
 unfolding general_fields
 general_read tags number cell =
-    let first = AreFields-append (identified number) (field (codes "DSID") (data_set_identifier NewDataSet cell.header))
-    (AreFields-identified number) (AreFields-field (codes "DSID") (data_set_identifier NewDataSet cell.header) refl) in
+    let first = AreFields-append (record_identifier number) (field (codes "DSID") (data_set_identifier NewDataSet cell.header))
+    (AreFields-record_identifier number) (AreFields-field (codes "DSID") (data_set_identifier NewDataSet cell.header) refl) in
     read_again tags _ (AreFields-append _ (field (codes "DSSI") (structure_text cell)) first
     (AreFields-field (codes "DSSI") (structure_text cell) refl))
 
@@ -100,5 +100,5 @@ pub parameters_read : (tags : List (List ℕ)) (number scale : ℕ) → length (
     → HasFields tags (record_of of_data (parameter_fields number scale)) (parameter_fields number scale)
 unfolding parameter_fields
 parameters_read tags number scale =
-    read_again tags _ (AreFields-append (identified number) (field (codes "DSPM") (parameter_text scale))
-    (AreFields-identified number) (AreFields-field (codes "DSPM") (parameter_text scale) refl))
+    read_again tags _ (AreFields-append (record_identifier number) (field (codes "DSPM") (parameter_text scale))
+    (AreFields-record_identifier number) (AreFields-field (codes "DSPM") (parameter_text scale) refl))

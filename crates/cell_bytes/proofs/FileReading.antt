@@ -22,7 +22,7 @@ use Rattle.cell_bytes.specs.declared.data_set.Purpose.TheVariants.{NewDataSet}
 use Rattle.cell_bytes.specs.Record.{Field, field, list_field}
 use Rattle.cell_bytes.specs.DataSet.{data_set_identifier, general_fields, parameter_fields, parameter_text, structure_text}
 use Rattle.cell_bytes.specs.Descriptive.{descriptive_record}
-use Rattle.cell_bytes.specs.Vector.{attributes, identified, point, sounding, vector_fields, vector_identifier, vector_pointer}
+use Rattle.cell_bytes.specs.Vector.{attributes, record_identifier, point, sounding, vector_fields, vector_identifier, vector_pointer}
 use Rattle.cell_bytes.specs.Feature.{feature_fields, feature_identifier, feature_pointer, object_name, related_object}
 use Rattle.cell_bytes.specs.Framing.{HasFields}
 use Rattle.cell_bytes.specs.Layouts as layout
@@ -40,7 +40,7 @@ use Rattle.std.proofs.lemmas.Bool.Decides.{nat_tests}
 use Rattle.chart_model.specs.Answers.{first_of, unless, when}
 use Rattle.cell_bytes.specs.declared.fault.WriteFault.{WriteFault}
 use Rattle.cell_bytes.specs.declared.fault.WriteFault.TheVariants.{RecordLong}
-use Rattle.cell_bytes.specs.Written.{feature_faults, length_fault, record_fault, vector_faults, write_fault, written}
+use Rattle.cell_bytes.specs.Written.{feature_faults, length_fault, record_fault, vector_faults, write_fault, base_file_of}
 use Rattle.cell_bytes.proofs.Headers.{general_short, parameters_short}
 use Rattle.cell_bytes.proofs.FieldsRead as again
 use Rattle.cell_bytes.proofs.RecordFaults.{feature_length, vector_length}
@@ -88,8 +88,8 @@ unfolding list_field
 of_list tag [] values l listed at spelled = record { is = tt }
 of_list tag (byte ∷ text) values l listed at spelled = of_field tag (byte ∷ text) values l listed at spelled
 
-of_identifier : (number : ℕ) → Pair (identified number) unread_identifier
-unfolding identified field
+of_identifier : (number : ℕ) → Pair (record_identifier number) unread_identifier
+unfolding record_identifier field
 of_identifier number = record { is = (record { tag_is = refl; values_are = refl }, tt) }
 
 vector_pairs : (number : ℕ) (name : Name) (vector : Vector) → IsVectorInRange (name, vector)
@@ -281,8 +281,8 @@ short_features (entry ∷ entries) none =
     (map (λ (e : Name × Feature). record_fault e.0 (feature_record e.0 e.1)) entries) none in
     (short_record entry.0 (feature_record entry.0 entry.1) parts.0, short_features entries parts.1)
 
-written_whole : (cell : CellValue) (file : List ℕ) → written cell ≡ Ok file → (write_fault cell ≡ None) × (file_of cell ≡ file)
-unfolding written
+written_whole : (cell : CellValue) (file : List ℕ) → base_file_of cell ≡ Ok file → (write_fault cell ≡ None) × (file_of cell ≡ file)
+unfolding base_file_of
 written_whole cell file whole =
     elim (write_fault cell) as (λ (o : Option WriteFault). write_fault cell ≡ o → unless o (file_of cell) ≡ Ok file
     → (write_fault cell ≡ None) × (file_of cell ≡ file)) [
@@ -307,7 +307,7 @@ file_is described cell range none =
 
 -- what is written of a cell, where it is written
 pub file_read : IsDescriptiveRecord layout.tags_read descriptive_record layout.layouts → (cell : CellValue) (file : List ℕ)
-    → IsCellInRange cell → written cell ≡ Ok file
+    → IsCellInRange cell → base_file_of cell ≡ Ok file
     → IsRecordFile layout.tags_read file (record { descriptors = layout.layouts; records = records_read cell })
 file_read described cell file range whole =
     let parts = written_whole cell file whole in

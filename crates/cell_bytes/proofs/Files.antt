@@ -8,7 +8,7 @@ use Rattle.cell_bytes.specs.Descriptive.{descriptive_record}
 use Rattle.cell_bytes.specs.Record.{of_data, record_of}
 use Rattle.cell_bytes.specs.DataSet.{general_fields, parameter_fields}
 use Rattle.cell_bytes.specs.Written.{NumberedRecord, data_records, feature_faults, feature_records, file_of, length_fault}
-use Rattle.cell_bytes.specs.Written.{next_number, number_behind, records_from, vector_faults, vector_records, write_fault, written}
+use Rattle.cell_bytes.specs.Written.{next_number, number_behind, records_from, vector_faults, vector_records, write_fault, base_file_of}
 
 pub records_from-append : (number : ℕ) (xs ys : List NumberedRecord)
     → records_from number (xs ++ ys) ≡ records_from number xs ++ records_from (number_behind number xs) ys
@@ -84,8 +84,8 @@ fault_is cell =
 pub written_by : (cell : CellValue) (b0 b1 b2 b3 b4 : List ℕ) (n0 n1 n2 n3 : ℕ) (of_vectors of_features fault : Option WriteFault)
     → Steps cell b0 b1 b2 b3 b4 n0 n1 n2 n3 → of_vectors ≡ first_of (vector_faults cell)
     → of_features ≡ first_of (feature_faults cell) → fault ≡ option_or of_features of_vectors
-    → unless (option_or fault (length_fault b4)) b4 ≡ written cell
-unfolding written
+    → unless (option_or fault (length_fault b4)) b4 ≡ base_file_of cell
+unfolding base_file_of
 written_by cell b0 b1 b2 b3 b4 n0 n1 n2 n3 of_vectors of_features fault s v f first =
     let faults : fault ≡ option_or (first_of (feature_faults cell)) (first_of (vector_faults cell)) =
     first ∙ ap (λ (o : Option WriteFault). option_or o of_vectors) f ∙ ap (option_or (first_of (feature_faults cell))) v in

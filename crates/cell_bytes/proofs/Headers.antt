@@ -14,7 +14,7 @@ use Rattle.chart_model.specs.Record.{IsPlainText}
 use Rattle.cell_bytes.specs.declared.data_set.Purpose.TheVariants.{NewDataSet}
 use Rattle.cell_bytes.specs.Subfields.{b11, b12, b14, open_text}
 use Rattle.cell_bytes.specs.Record.{digits, entries, entry, field, field_area, record_bytes, leader_of, of_data, record_of}
-use Rattle.cell_bytes.specs.Vector.{identified}
+use Rattle.cell_bytes.specs.Vector.{record_identifier}
 use Rattle.cell_bytes.specs.DataSet.{data_set_identifier, dates_text, datum_text, exchange_text, factor_text, feature_counts}
 use Rattle.cell_bytes.specs.DataSet.{general_fields, name_and_numbers, number_text, parameter_fields, parameter_text}
 use Rattle.cell_bytes.specs.DataSet.{product_text, structure_text, unit_text, vector_counts}
@@ -112,12 +112,12 @@ unfolding structure_text feature_counts vector_counts b11 b14
 structure_short cell = refl
 
 entries_short : (number : ℕ) (cell : CellValue) → length (entries 0 (general_fields number cell)) ≡ 42
-unfolding general_fields identified field entries entry digits
+unfolding general_fields record_identifier field entries entry digits
 entries_short number cell = refl
 
 area_short : (number : ℕ) (cell : CellValue) → IsChartHeader cell.header → length cell.header.issued ≡ 8
     → length (field_area (general_fields number cell)) ≤ 300
-unfolding general_fields identified field field_area b12
+unfolding general_fields record_identifier field field_area b12
 area_short number cell chart issued =
     let dsid : List ℕ = data_set_identifier NewDataSet cell.header ++ 30 ∷ [] in
     let dssi : List ℕ = structure_text cell ++ 30 ∷ [] in
@@ -137,5 +137,5 @@ general_short number cell chart issued =
     omega (arith, length-of_record (general_fields number cell), entries_short number cell, area_short number cell chart issued)
 
 pub parameters_short : (number scale : ℕ) → length (record_of of_data (parameter_fields number scale)) ≤ 99999
-unfolding record_of record_bytes leader_of entries entry field_area field digits parameter_fields identified parameter_text datum_text unit_text factor_text open_text b11 b12 b14
+unfolding record_of record_bytes leader_of entries entry field_area field digits parameter_fields record_identifier parameter_text datum_text unit_text factor_text open_text b11 b12 b14
 parameters_short number scale = lit≤ tt

@@ -10,7 +10,7 @@ use Rattle.cell_bytes.specs.declared.fields.Fields.{Fields}
 use Rattle.cell_bytes.specs.declared.fault.WriteFault.{WriteFault}
 use Rattle.cell_bytes.specs.Subfields.{b12}
 use Rattle.cell_bytes.specs.Record.{Field, only_fields, base_of, digits, entries, entry, field, field_area, of_data, record_of}
-use Rattle.cell_bytes.specs.Vector.{identified, vector_fields}
+use Rattle.cell_bytes.specs.Vector.{record_identifier, vector_fields}
 use Rattle.cell_bytes.specs.Feature.{feature_fields}
 use Rattle.cell_bytes.specs.Written.{feature_record, long_fault, record_fault, vector_record}
 use Rattle.cell_bytes.proofs.Framed.{length-record_bytes, length-record_of}
@@ -37,13 +37,13 @@ length-number m n = refl
 
 pub vector_length : (name : Name) (vector : Vector) (m n : ℕ)
     → length (vector_record name vector m) ≡ length (vector_record name vector n)
-unfolding vector_record vector_fields identified field
+unfolding vector_record vector_fields record_identifier field
 vector_length name vector m n =
     same_length _ (b12 m ++ FIELD_TERMINATOR ∷ []) (b12 n ++ FIELD_TERMINATOR ∷ []) _ (length-number m n)
 
 pub feature_length : (name : Name) (feature : Feature) (m n : ℕ)
     → length (feature_record name feature m) ≡ length (feature_record name feature n)
-unfolding feature_record feature_fields identified field
+unfolding feature_record feature_fields record_identifier field
 feature_length name feature m n =
     same_length _ (b12 m ++ FIELD_TERMINATOR ∷ []) (b12 n ++ FIELD_TERMINATOR ∷ []) _ (length-number m n)
 

@@ -8,7 +8,7 @@ use Rattle.chart_model.specs.Cell.{CellValue}
 use Rattle.chart_model.specs.Codes.{ISOLATED_NODE, CONNECTED_NODE, EDGE}
 use Rattle.cell_bytes.specs.Subfields.{b11, b12, b14, open_text}
 use Rattle.cell_bytes.specs.Record.{Field, digits, field}
-use Rattle.cell_bytes.specs.Vector.{identified}
+use Rattle.cell_bytes.specs.Vector.{record_identifier}
 use Rattle.cell_bytes.specs.declared.data_set.Purpose.{Purpose}
 use Rattle.cell_bytes.specs.declared.data_set.Purpose.TheVariants.{NewDataSet, Revision}
 
@@ -103,13 +103,13 @@ parameter_text scale = datum_text scale ++ unit_text ++ factor_text
 -- the general information of a base file
 unfoldable pub general_fields : ℕ → CellValue → List Field
 general_fields number cell =
-    identified number ++ field (codes "DSID") (data_set_identifier NewDataSet cell.header)
+    record_identifier number ++ field (codes "DSID") (data_set_identifier NewDataSet cell.header)
     ++ field (codes "DSSI") (structure_text cell)
 
 -- the parameters of a base file
 unfoldable pub parameter_fields : ℕ → ℕ → List Field
-parameter_fields number scale = identified number ++ field (codes "DSPM") (parameter_text scale)
+parameter_fields number scale = record_identifier number ++ field (codes "DSPM") (parameter_text scale)
 
 -- the general information of an update
 unfoldable pub revision_fields : ℕ → Header → List Field
-revision_fields number header = identified number ++ field (codes "DSID") (data_set_identifier Revision header)
+revision_fields number header = record_identifier number ++ field (codes "DSID") (data_set_identifier Revision header)

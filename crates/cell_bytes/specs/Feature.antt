@@ -9,7 +9,7 @@ use Rattle.chart_model.specs.declared.cell.Feature.{Feature}
 use Rattle.chart_model.specs.Codes.{INSERT}
 use Rattle.cell_bytes.specs.Subfields.{b11, b12, b14, open_text}
 use Rattle.cell_bytes.specs.Record.{Field, field, list_field}
-use Rattle.cell_bytes.specs.Vector.{attributes, identified, name_text}
+use Rattle.cell_bytes.specs.Vector.{attributes, record_identifier, name_text}
 
 -- AGEN, FIDN and FIDS, as in FOID and in LNAM
 unfoldable pub object_name : Foid → List ℕ
@@ -24,18 +24,18 @@ unfoldable pub feature_pointer : Pointer → List ℕ
 feature_pointer pointer = name_text pointer.target ++ b11 pointer.ornt ++ b11 pointer.usag ++ b11 pointer.mask
 
 -- what FRID says of an object: PRIM, GRUP, OBJL and RVER
-unfoldable pub described : ℕ → ℕ → ℕ → ℕ → List ℕ
-described prim grup class version = b11 prim ++ b11 grup ++ b12 class ++ b12 version
+unfoldable pub object_description : ℕ → ℕ → ℕ → ℕ → List ℕ
+object_description prim grup class version = b11 prim ++ b11 grup ++ b12 class ++ b12 version
 
 -- FRID of a feature that is inserted
 unfoldable pub feature_identifier : Name → Feature → List ℕ
 feature_identifier name feature =
-    name_text name ++ described feature.prim feature.grup feature.class feature.version ++ b11 INSERT
+    name_text name ++ object_description feature.prim feature.grup feature.class feature.version ++ b11 INSERT
 
 -- the fields of the record of a feature
 unfoldable pub feature_fields : ℕ → Name → Feature → List Field
 feature_fields number name feature =
-    identified number ++ field (codes "FRID") (feature_identifier name feature)
+    record_identifier number ++ field (codes "FRID") (feature_identifier name feature)
     ++ field (codes "FOID") (object_name feature.foid)
     ++ list_field (codes "ATTF") (attributes feature.attrs)
     ++ list_field (codes "FFPT") (flat_map related_object feature.related)

@@ -19,8 +19,8 @@ use Rattle.cell_bytes.specs.Subfields.{b11}
 use Rattle.cell_bytes.specs.Record.{Field, digits, field, of_data, record_of}
 use Rattle.cell_bytes.specs.Descriptive.{descriptive_record}
 use Rattle.cell_bytes.specs.DataSet.{revision_fields}
-use Rattle.cell_bytes.specs.Vector.{attribute, identified, name_text}
-use Rattle.cell_bytes.specs.Feature.{described}
+use Rattle.cell_bytes.specs.Vector.{attribute, record_identifier, name_text}
+use Rattle.cell_bytes.specs.Feature.{object_description}
 use Rattle.cell_bytes.specs.Written.{NumberedRecord, records_from}
 
 -- ---- the cell
@@ -140,12 +140,13 @@ made_version update = 2 + (update - 1) / 30
 -- the fields of the record that modifies an area: DRVAL1 alone is set
 unfoldable pub modified_fields : ℕ → ℕ → ℕ → List Field
 modified_fields update area number =
-    identified number
-    ++ field (codes "FRID") (name_text (area_name area) ++ described AREA 1 42 (made_version update) ++ b11 MODIFY)
+    record_identifier number
+    ++ field (codes "FRID")
+    (name_text (area_name area) ++ object_description AREA 1 42 (made_version update) ++ b11 MODIFY)
     ++ field (codes "ATTF") (attribute 87 (decimal_of (pos (update % 50))))
 
-unfoldable pub modified : ℕ → ℕ → NumberedRecord
-modified update area number = record_of of_data (modified_fields update area number)
+unfoldable pub modification : ℕ → ℕ → NumberedRecord
+modification update area number = record_of of_data (modified_fields update area number)
 
 -- whether the update modifies the area: their numbers are equal modulo 30
 abbrev pub is_modified : ℕ → ℕ → Bool
@@ -160,4 +161,4 @@ unfoldable pub made_update : ℕ → ℕ → List ℕ
 made_update count update =
     descriptive_record ++ records_from 1 (
     (λ number. record_of of_data (revision_fields number (made_header count update 0)))
-    ∷ map (modified update) (modified_areas update count))
+    ∷ map (modification update) (modified_areas update count))

@@ -13,8 +13,8 @@ use Rattle.cell_bytes.specs.Subfields.{b11, b12, b14, b24, open_text}
 use Rattle.cell_bytes.specs.Record.{Field, field, list_field}
 
 -- the identifier of a record: its number (ISO/IEC 8211)
-unfoldable pub identified : ℕ → List Field
-identified number = field (codes "0001") (b12 number)
+unfoldable pub record_identifier : ℕ → List Field
+record_identifier number = field (codes "0001") (b12 number)
 
 -- a name: RCNM and RCID
 unfoldable pub name_text : Name → List ℕ
@@ -52,7 +52,7 @@ vector_identifier name version = name_text name ++ b12 version ++ b11 INSERT
 -- the fields of the record of a vector
 unfoldable pub vector_fields : ℕ → Name → Vector → List Field
 vector_fields number name vector =
-    identified number ++ field (codes "VRID") (vector_identifier name vector.version)
+    record_identifier number ++ field (codes "VRID") (vector_identifier name vector.version)
     ++ list_field (codes "ATTV") (attributes vector.attrs)
     ++ list_field (codes "VRPT") (flat_map vector_pointer vector.pointers)
     ++ list_field (codes "SG2D") (flat_map point vector.coords)

@@ -88,5 +88,5 @@ unfoldable pub write_fault : CellValue → Option WriteFault
 write_fault cell = first_of (feature_faults cell ++ vector_faults cell ++ length_fault (file_of cell) ∷ [])
 
 -- the file of a cell, or the first fault
-unfoldable pub written : CellValue → Result (List ℕ) WriteFault
-written cell = unless (write_fault cell) (file_of cell)
+unfoldable pub base_file_of : CellValue → Result (List ℕ) WriteFault
+base_file_of cell = unless (write_fault cell) (file_of cell)

@@ -5,7 +5,7 @@
 
 ghost use Rattle.std.specs.Prelude.{◌≡◌, [], OnOk};
 ghost use Rattle.cell_bytes.specs.Record.{only_fields, field, list_field, no_fields, with_fields};
-ghost use Rattle.cell_bytes.specs.Vector.{identified};
+ghost use Rattle.cell_bytes.specs.Vector.{record_identifier};
 
 use crate::fields::Fields;
 use chart_model::Octets;
@@ -32,7 +32,7 @@ impl RecordDraft {
 
     /// Begins a record anew, with its number.
     pub(crate) fn begin(&mut self, number: u16) -> Result<(), AllocError>
-        ensures fields { OnOk result (self.new.fields ≡ only_fields (identified number)) }
+        ensures fields { OnOk result (self.new.fields ≡ only_fields (record_identifier number)) }
         ensures text { OnOk result (self.new.text ≡ []) }
     {
         self.text.clear();

@@ -6,7 +6,7 @@
 ghost use Rattle.std.specs.Prelude.{◌≡◌, ◌++◌, ◌+◌, ◌<◌, [], length, codes, IfOk, OnOk};
 ghost use Rattle.cell_bytes.specs.Record.{only_fields, base_of, digits, field, record_bytes, leader_of, no_fields};
 ghost use Rattle.cell_bytes.specs.Record.{with_fields};
-ghost use Rattle.cell_bytes.specs.Vector.{identified};
+ghost use Rattle.cell_bytes.specs.Vector.{record_identifier};
 
 use chart_model::Octets;
 use chart_model::codes::FIELD_TERMINATOR;
@@ -113,9 +113,9 @@ impl Fields {
     }
 
     /// Leaves the identifier of a record alone: the field 0001 with its number, which is the first of each record.
-    #[tactic(auto, unfolding(crate::specs::Vector::identified, crate::specs::Record::field, crate::specs::Record::with_field, crate::specs::Record::entry, crate::specs::Record::digits, crate::specs::Subfields::b12))]
+    #[tactic(auto, unfolding(crate::specs::Vector::record_identifier, crate::specs::Record::field, crate::specs::Record::with_field, crate::specs::Record::entry, crate::specs::Record::digits, crate::specs::Subfields::b12))]
     pub(crate) fn begin(&mut self, number: u16) -> Result<(), AllocError>
-        ensures { OnOk result (self.new ≡ only_fields (identified number)) }
+        ensures { OnOk result (self.new ≡ only_fields (record_identifier number)) }
     {
         self.directory.clear();
         self.area.clear();

@@ -39,7 +39,7 @@ ghost use Rattle.cell_bytes.specs.Descriptive.{descriptive_record};
 ghost use Rattle.cell_bytes.specs.Framing.{HasFields};
 ghost use Rattle.cell_bytes.specs.Record.{of_data, record_of};
 ghost use Rattle.cell_bytes.specs.DataSet.{general_fields, parameter_fields};
-ghost use Rattle.cell_bytes.specs.Written.{feature_record, vector_record, written};
+ghost use Rattle.cell_bytes.specs.Written.{feature_record, vector_record, base_file_of};
 
 use iso8211_records::reads_each;
 
@@ -102,9 +102,9 @@ pub fn fields_are_spelled()
 /// The file that is written of a cell is a record file (ISO/IEC 8211), with the layouts of all fields and with the
 /// records that the cell stands for, and reading it gives these.
 pub fn files_are_read()
-    ensures is { (cell : CellValue) (file : List ℕ) → IsCellInRange cell → written cell ≡ Ok file
+    ensures is { (cell : CellValue) (file : List ℕ) → IsCellInRange cell → base_file_of cell ≡ Ok file
         → IsRecordFile tags_read file (record { descriptors = layouts; records = records_read cell }) }
-    ensures given { (cell : CellValue) (file : List ℕ) → IsCellInRange cell → written cell ≡ Ok file
+    ensures given { (cell : CellValue) (file : List ℕ) → IsCellInRange cell → base_file_of cell ≡ Ok file
         → record_file_of tags_read file ≡ Ok (record { descriptors = layouts; records = records_read cell }) }
 {
     the_descriptive_record_is_read();

@@ -71,7 +71,7 @@ pub(crate) fn draft_vector(
 }
 
 /// Adds the identifier of a feature record.
-#[tactic(auto, unfolding(crate::specs::Feature::feature_identifier, crate::specs::Feature::described))]
+#[tactic(auto, unfolding(crate::specs::Feature::feature_identifier, crate::specs::Feature::object_description))]
 fn put_feature_identifier(out: &mut Octets, name: Name, feature: &Feature) -> Result<(), AllocError>
     ensures bytes { OnOk result (out.new ≡ out.old ++ feature_identifier name feature.now) }
     ensures in_range { OnOk result (IsFeatureInRange feature.now) }

@@ -8,10 +8,10 @@ ghost use Rattle.std.specs.Int.{IsInRange};
 ghost use Rattle.chart_model.specs.Codes.{MODIFY as MODIFIES};
 ghost use Rattle.cell_bytes.specs.Record.{only_fields, of_data, record_of};
 ghost use Rattle.cell_bytes.specs.DataSet.{revision_fields};
-ghost use Rattle.cell_bytes.specs.Generator.{modified, modified_areas, modified_fields, made_update, made_version};
+ghost use Rattle.cell_bytes.specs.Generator.{modification, modified_areas, modified_fields, made_update, made_version};
 ghost use Rattle.cell_bytes.specs.Generator.{area_name, is_modified};
 ghost use Rattle.cell_bytes.specs.Vector.{name_text};
-ghost use Rattle.cell_bytes.specs.Feature.{described};
+ghost use Rattle.cell_bytes.specs.Feature.{object_description};
 ghost use Rattle.cell_bytes.specs.Subfields.{b11};
 ghost use Rattle.cell_bytes.specs.Written.{next_number, number_behind, records_from};
 
@@ -30,11 +30,12 @@ use std::alloc::{AllocError, Global};
 const AREA_STRIDE: u32 = 30;
 
 /// Adds the identifier of the record that modifies an area.
-#[tactic(auto, unfolding(crate::specs::Feature::described))]
+#[tactic(auto, unfolding(crate::specs::Feature::object_description))]
 fn put_identifier(out: &mut Octets, update: u32, area: u32) -> Result<(), AllocError>
     requires { IsInRange 1 999 update }
     ensures { OnOk result (out.new
-        ≡ out.old ++ (name_text (area_name area) ++ described AREA 1 42 (made_version update) ++ b11 MODIFIES)) }
+        ≡ out.old
+        ++ (name_text (area_name area) ++ object_description AREA 1 42 (made_version update) ++ b11 MODIFIES)) }
 {
     let name = Name {
         rcnm: FEATURE,
@@ -81,10 +82,10 @@ fn put_general(file: &mut CellFile, alloc: Global, header: &Header) -> Result<()
 }
 
 /// Adds the record that modifies an area.
-#[tactic(auto, using(crate::proofs::Framed::record_bytes_only_fields), unfolding(crate::specs::Generator::modified))]
+#[tactic(auto, using(crate::proofs::Framed::record_bytes_only_fields), unfolding(crate::specs::Generator::modification))]
 fn put_area(file: &mut CellFile, alloc: Global, update: u32, area: u32) -> Result<(), AllocError>
     requires { IsInRange 1 999 update }
-    ensures bytes { OnOk result (file.new.bytes ≡ file.old.bytes ++ modified update area file.old.number) }
+    ensures bytes { OnOk result (file.new.bytes ≡ file.old.bytes ++ modification update area file.old.number) }
     ensures number { OnOk result (file.new.number ≡ next_number file.old.number) }
 {
     draft_area(alloc, &mut file.draft, file.number, update, area)?;
@@ -102,9 +103,9 @@ fn put_where_modified(
 ) -> Result<(), AllocError>
     requires { IsInRange 1 999 update }
     ensures bytes { OnOk result (file.new.bytes ≡ file.old.bytes
-        ++ records_from file.old.number (map (modified update) (filter (is_modified update) (area ∷ [])))) }
+        ++ records_from file.old.number (map (modification update) (filter (is_modified update) (area ∷ [])))) }
     ensures number { OnOk result (file.new.number
-        ≡ number_behind file.old.number (map (modified update) (filter (is_modified update) (area ∷ [])))) }
+        ≡ number_behind file.old.number (map (modification update) (filter (is_modified update) (area ∷ [])))) }
 {
     if area % AREA_STRIDE == update % AREA_STRIDE {
         put_area(file, alloc, update, area)
@@ -119,7 +120,7 @@ fn put_areas(file: &mut CellFile, alloc: Global, update: u32, count: u32) -> Res
     requires update { IsInRange 1 999 update }
     requires count { count ≤ 20000 }
     ensures { OnOk result (file.new.bytes
-        ≡ file.old.bytes ++ records_from file.old.number (map (modified update) (modified_areas update count))) }
+        ≡ file.old.bytes ++ records_from file.old.number (map (modification update) (modified_areas update count))) }
 {
     for before in 0..count {
         put_where_modified(file, alloc, update, before + 1)?;

@@ -7,7 +7,7 @@ ghost use Rattle.chart_model.specs.Answers.{unless};
 ghost use Rattle.std.specs.Prelude.{IfOk};
 ghost use Rattle.std.specs.Option.{option_or};
 ghost use Rattle.cell_bytes.specs.Answers.{GivesWritten};
-ghost use Rattle.cell_bytes.specs.Written.{length_fault, written};
+ghost use Rattle.cell_bytes.specs.Written.{length_fault, base_file_of};
 ghost use Rattle.cell_bytes.specs.RecordsRead.{IsCellInRange};
 
 use crate::descriptive::put_descriptive_record;
@@ -44,7 +44,7 @@ fn finish(bytes: Octets, fault: Option<WriteFault>) -> Result<Octets, WriteFault
 ///
 /// `RecordLong` with the least name of a record that is too long, or else `CellLong`; `NoMemory`.
 pub fn spell_cell(alloc: Global, cell: &Cell) -> Result<Octets, WriteFault>
-    ensures exact { GivesWritten result (written cell.now) }
+    ensures exact { GivesWritten result (base_file_of cell.now) }
     ensures in_range { IfOk result (λ _. IsCellInRange cell.now) }
 {
     let mut file = CellFile::new(alloc);

@@ -19,7 +19,7 @@ use Rattle.s57_records.specs.Dataset.{dataset_of, record_content}
 use Rattle.update_sequence.specs.Reading.{data_set_in}
 use Rattle.cell_bytes.specs.Layouts.{layouts, tags_read}
 use Rattle.cell_bytes.specs.RecordsRead.{IsCellInRange, IsFeatureEntryInRange, IsVectorInRange, feature_read, records_read, vector_read}
-use Rattle.cell_bytes.specs.Written.{written}
+use Rattle.cell_bytes.specs.Written.{base_file_of}
 use Rattle.cell_writer.specs.ReadBack.{data_set_of, feature_insertion, insertions, settings_of, vector_insertion}
 use Rattle.cell_writer.proofs.RecordFacts.{feature-is, vector-is}
 use Rattle.cell_writer.proofs.InsertedRecords.{AreInserted, Inserts, data-set-is, inserted, inserted-append}
@@ -123,8 +123,8 @@ module _ (lists : ReadsLists) where
 
   -- the file that is written, where written files are read as their records
   pub file-read :
-      ((cell : CellValue) (file : List ℕ) → IsCellInRange cell → written cell ≡ Ok file
+      ((cell : CellValue) (file : List ℕ) → IsCellInRange cell → base_file_of cell ≡ Ok file
       → record_file_of tags_read file ≡ Ok (record { descriptors = layouts; records = records_read cell }))
-      → (cell : CellValue) (file : List ℕ) → IsCell cell → IsCellInRange cell → written cell ≡ Ok file
+      → (cell : CellValue) (file : List ℕ) → IsCell cell → IsCellInRange cell → base_file_of cell ≡ Ok file
       → data_set_in file ≡ Ok (data_set_of cell)
   file-read records cell file is range whole = data_set_of_records cell file is range (records cell file range whole)

@@ -6,7 +6,7 @@
 ghost use Rattle.std.specs.Prelude.{IfOk};
 ghost use Rattle.chart_closure.specs.Closed.{IsClosed};
 ghost use Rattle.cell_bytes.specs.Answers.{GivesWritten};
-ghost use Rattle.cell_bytes.specs.Written.{written};
+ghost use Rattle.cell_bytes.specs.Written.{base_file_of};
 ghost use Rattle.cell_writer.specs.ReadBack.{IsBaseFileOf};
 
 use cell_bytes::{WriteFault, files_are_read, spell_cell};
@@ -24,7 +24,7 @@ use std::alloc::Global;
 ///
 /// `RecordLong` with the least name of a record that is too long, or else `CellLong`; `NoMemory`.
 pub fn write_cell(alloc: Global, cell: &Cell) -> Result<Octets, WriteFault>
-    ensures exact { GivesWritten result (written cell.now) }
+    ensures exact { GivesWritten result (base_file_of cell.now) }
     ensures reads_back { IsClosed cell.now → IfOk result (λ file. IsBaseFileOf cell.now file) }
 {
     // The laws are of cells, and a value is known to be one where a field of it is read.

@@ -12,11 +12,11 @@ use Rattle.chart_model.specs.Keys.{key_cmp}
 use Rattle.chart_model.specs.State.{IsHeld, IsHolding}
 use Rattle.page_parts.specs.Reader.{Reads, then_at}
 use Rattle.page_parts.specs.Texts.{file_at, text}
-use Rattle.page_parts.specs.Lists.{AreInRange, counted, rising, rising_at}
+use Rattle.page_parts.specs.Lists.{AreInRange, counted_list, rising_entries, rising_entries_at}
 use Rattle.page_parts.proofs.FilesRead.{IsFile, file_reads}
-use Rattle.page_parts.proofs.ListsRead.{counted_reads}
+use Rattle.page_parts.proofs.ListsRead.{counted_list_reads}
 use Rattle.page_parts.proofs.ReadBehind.{both_read, ranged_as, read_as, read_that, spelled_as, then_by_reads}
-use Rattle.page_parts.proofs.RisingRead.{rising_reads}
+use Rattle.page_parts.proofs.RisingRead.{rising_entries_reads}
 use Rattle.chart_pages.specs.Held.{held_at, held_numbers, key_at}
 use Rattle.chart_pages.specs.Charts.{optional_chart, optional_chart_at}
 use Rattle.chart_pages.specs.Cells.{IsCellInRange, cell, cell_at, cell_of, files_at, has_files}
@@ -37,11 +37,11 @@ files_hold (file ∷ files) e = omega arith
 files_pass : (files : List (List ℕ)) → 1 ≤ length files → has_files files ≡ true
 files_pass files some = not_from_false (length files == 0) (ne_eqb (length files) 0 (λ none. omega arith))
 
-files_read : Reads files_at (counted text) AreFiles
+files_read : Reads files_at (counted_list text) AreFiles
 unfolding files_at
 files_read =
     ranged_as AreFiles
-    (read_that has_files (λ files. 1 ≤ length files) (counted_reads file_at text IsFile file_reads) files_hold files_pass)
+    (read_that has_files (λ files. 1 ≤ length files) (counted_list_reads file_at text IsFile file_reads) files_hold files_pass)
     (λ files h. record { count = h.0.count; nonempty = h.1; each = All-from_recursion IsFile files h.0.each })
     (λ files h. (record { count = h.count; each = recursion_from_All IsFile files h.each }, h.nonempty))
 
@@ -56,7 +56,7 @@ record IsHead (head : Head) : Type 0 where
   files : AreFiles head.1.1
 
 abbrev head_text : Head → List ℕ
-head_text head = text head.0 ++ (held_numbers head.1.0 ++ counted text head.1.1)
+head_text head = text head.0 ++ (held_numbers head.1.0 ++ counted_list text head.1.1)
 
 head_reads : KeysAreTested → Reads (then_at key_at (then_at held_at files_at)) head_text IsHead
 head_reads tested =
@@ -104,5 +104,5 @@ cell_reads tested =
     )))
     (λ entry. simp append_assoc)
 
-pub cells_read : KeysAreTested → Reads (rising_at key_cmp cell_at) (rising cell) (λ cells. AreInRange IsCellEntry (map.entries cells))
-cells_read tested = rising_reads key_cmp cell_at cell IsCellEntry (cell_reads tested)
+pub cells_read : KeysAreTested → Reads (rising_entries_at key_cmp cell_at) (rising_entries cell) (λ cells. AreInRange IsCellEntry (map.entries cells))
+cells_read tested = rising_entries_reads key_cmp cell_at cell IsCellEntry (cell_reads tested)

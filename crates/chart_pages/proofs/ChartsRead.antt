@@ -13,10 +13,10 @@ use Rattle.chart_model.specs.State.{IsChartOf, IsHeld}
 use Rattle.chart_model.proofs.Names.{name_cmp-total, name_cmp-IsAntisymmetric}
 use Rattle.chart_model.proofs.Maps.{Each}
 use Rattle.page_parts.specs.Reader.{Reads, seen_as}
-use Rattle.page_parts.specs.Lists.{AreInRange, rising, rising_at}
+use Rattle.page_parts.specs.Lists.{AreInRange, rising_entries, rising_entries_at}
 use Rattle.page_parts.proofs.NumbersRead.{four_read, front_reads, two_read}
 use Rattle.page_parts.proofs.ReadBehind.{bind_some, both_read, read_as, some_is, spelled_as}
-use Rattle.page_parts.proofs.RisingRead.{rising_reads}
+use Rattle.page_parts.proofs.RisingRead.{rising_entries_reads}
 use Rattle.chart_pages.specs.Vectors.{IsVectorInRange, vector_at, vector_record}
 use Rattle.chart_pages.specs.Features.{IsFeatureInRange, feature_at, feature_record}
 use Rattle.chart_pages.specs.Charts.{Fields, IsChartInRange, chart, chart_at, chart_of, optional_chart, optional_chart_at, with_chart}
@@ -38,11 +38,11 @@ AreVectors vectors = AreInRange IsVectorEntry (map.entries vectors)
 abbrev AreFeatures : FinMap name_cmp Feature → Type 0
 AreFeatures features = AreInRange IsFeatureEntry (map.entries features)
 
-pub vectors_read : Reads (rising_at name_cmp vector_at) (rising vector_record) AreVectors
-vectors_read = rising_reads name_cmp vector_at vector_record IsVectorEntry vector_reads
+pub vectors_read : Reads (rising_entries_at name_cmp vector_at) (rising_entries vector_record) AreVectors
+vectors_read = rising_entries_reads name_cmp vector_at vector_record IsVectorEntry vector_reads
 
-pub features_read : Reads (rising_at name_cmp feature_at) (rising feature_record) AreFeatures
-features_read = rising_reads name_cmp feature_at feature_record IsFeatureEntry feature_reads
+pub features_read : Reads (rising_entries_at name_cmp feature_at) (rising_entries feature_record) AreFeatures
+features_read = rising_entries_reads name_cmp feature_at feature_record IsFeatureEntry feature_reads
 
 vectors_range : (vectors : FinMap name_cmp Vector) → AreVectors vectors → AreInRange IsVectorInRange (map.entries vectors)
 vectors_range vectors h =

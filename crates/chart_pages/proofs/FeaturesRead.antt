@@ -12,13 +12,13 @@ use Rattle.chart_model.specs.Codes.{AREA, NO_PRIMITIVE, NULL, POINT}
 use Rattle.chart_model.specs.Record.{IsFeatureName, IsPrim}
 use Rattle.page_parts.specs.Reader.{Reads}
 use Rattle.page_parts.specs.Numbers.{byte, number}
-use Rattle.page_parts.specs.Lists.{AreInRange, counted}
+use Rattle.page_parts.specs.Lists.{AreInRange, counted_list}
 use Rattle.page_parts.specs.Pointers.{IsPointerInRange, pointer, pointer_at}
-use Rattle.page_parts.specs.RelatedObjects.{IsRelatedInRange, related, related_at}
+use Rattle.page_parts.specs.RelatedObjects.{IsRelatedInRange, related_object, related_object_at}
 use Rattle.page_parts.proofs.AttributesRead.{attributes_reads}
-use Rattle.page_parts.proofs.ListsRead.{counted_reads}
+use Rattle.page_parts.proofs.ListsRead.{counted_list_reads}
 use Rattle.page_parts.proofs.NumbersRead.{byte_reads, four_read, two_read}
-use Rattle.page_parts.proofs.PointersRead.{foid_reads, pointer_reads, related_reads}
+use Rattle.page_parts.proofs.PointersRead.{foid_reads, pointer_reads, related_object_reads}
 use Rattle.page_parts.proofs.ReadBehind.{both_read, ranged_as, read_as, read_that, spelled_as}
 use Rattle.chart_pages.specs.Features.{Fields, IsFeatureInRange, feature_at, feature_name, feature_name_at, feature_of, feature_pointers_at, feature_record, have_no_topology, is_prim, prim_at}
 use Rattle.chart_pages.proofs.VectorsRead.{attrs_are, attrs_in_range, attrs_kept}
@@ -82,10 +82,10 @@ alone_passes : (pointers : List Pointer) → AllByRecursion IsAlone pointers →
 alone_passes [] all = refl
 alone_passes (value ∷ pointers) all = and_from _ _ (eq-eqb value.topi NULL all.0) (alone_passes pointers all.1)
 
-feature_pointers_read : Reads feature_pointers_at (counted pointer) (λ pointers. AreInRange IsPointerInRange pointers × All IsAlone pointers)
+feature_pointers_read : Reads feature_pointers_at (counted_list pointer) (λ pointers. AreInRange IsPointerInRange pointers × All IsAlone pointers)
 unfolding feature_pointers_at
 feature_pointers_read =
-    read_that have_no_topology (All IsAlone) (counted_reads pointer_at pointer IsPointerInRange pointer_reads)
+    read_that have_no_topology (All IsAlone) (counted_list_reads pointer_at pointer IsPointerInRange pointer_reads)
     (λ pointers e. All-from_recursion IsAlone pointers (alone_holds pointers e))
     (λ pointers all. alone_passes pointers (recursion_from_All IsAlone pointers all))
 
@@ -105,7 +105,7 @@ feature_reads =
     spelled_as feature_record
     (read_as feature_of feature_fields IsFeatureEntry
     (both_read feature_name_reads (both_read prim_reads (both_read byte_reads (both_read two_read (both_read two_read
-    (both_read foid_reads (both_read attributes_reads (both_read (counted_reads related_at related IsRelatedInRange related_reads) feature_pointers_read))))))))
+    (both_read foid_reads (both_read attributes_reads (both_read (counted_list_reads related_object_at related_object IsRelatedInRange related_object_reads) feature_pointers_read))))))))
     (λ x h. (
       refl,
       record {

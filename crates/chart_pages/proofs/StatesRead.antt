@@ -12,7 +12,7 @@ use Rattle.chart_model.proofs.Keys.{key_cmp-total, key_cmp-IsAntisymmetric}
 use Rattle.page_parts.specs.declared.fault.PageFault.{PageFault}
 use Rattle.page_parts.specs.declared.fault.PageFault.TheVariants.{NoMemory, Unspelled}
 use Rattle.page_parts.specs.Reader.{Lacks, ◌>>=◌}
-use Rattle.page_parts.specs.Lists.{AreInRange, rising, rising_at}
+use Rattle.page_parts.specs.Lists.{AreInRange, rising_entries, rising_entries_at}
 use Rattle.page_parts.proofs.ReadBehind.{bind_some, given_where}
 use Rattle.chart_pages.specs.Cells.{IsCellInRange, cell, cell_at}
 use Rattle.chart_pages.specs.Grammar.{Spells, spelling}
@@ -53,20 +53,20 @@ cells_are cells range held =
 pub found : KeysAreTested → (bytes : List ℕ) (state : StateValue) → state_in bytes ≡ Some state → Spells bytes state
 unfolding spelling state_in
 found tested bytes state e =
-    let a = bind_some (rising_at key_cmp cell_at bytes) (λ (a : Cells × List ℕ). cond (length a.1 == 0) (Some (state_of a.0)) None) state e in
+    let a = bind_some (rising_entries_at key_cmp cell_at bytes) (λ (a : Cells × List ℕ). cond (length a.1 == 0) (Some (state_of a.0)) None) state e in
     let given = given_where (length a.0.1 == 0) (state_of a.0.0) state a.2 in
     let cells : AreCells a.0.0 = (cells_read tested).ranged bytes a.0.0 a.0.1 a.1 in
     let nothing : a.0.1 ≡ [] = nil_from_length a.0.1 (eqb-true (length a.0.1) 0 given.0) in
-    let whole : bytes ≡ rising cell a.0.0 =
-    (cells_read tested).spelled bytes a.0.0 a.0.1 a.1 ∙ ap (λ (l : List ℕ). rising cell a.0.0 ++ l) nothing ∙ append-nil (rising cell a.0.0) in
+    let whole : bytes ≡ rising_entries cell a.0.0 =
+    (cells_read tested).spelled bytes a.0.0 a.0.1 a.1 ∙ ap (λ (l : List ℕ). rising_entries cell a.0.0 ++ l) nothing ∙ append-nil (rising_entries cell a.0.0) in
     subst (λ (s : StateValue). Spells bytes s) given.1 (record { spelled = whole; held = cells_held a.0.0 cells; in_range = cells_range a.0.0 cells })
 
 pub given : KeysAreTested → (bytes : List ℕ) (state : StateValue) → Spells bytes state → state_in bytes ≡ Some state
 unfolding spelling state_in
 given tested bytes state spells =
     let cells : AreCells state.cells = cells_are state.cells spells.in_range spells.held in
-    let read : rising_at key_cmp cell_at bytes ≡ Some (state.cells, []) =
-    ap (λ (l : List ℕ). rising_at key_cmp cell_at l) (spells.spelled ∙ sym (append-nil (rising cell state.cells)))
+    let read : rising_entries_at key_cmp cell_at bytes ≡ Some (state.cells, []) =
+    ap (λ (l : List ℕ). rising_entries_at key_cmp cell_at l) (spells.spelled ∙ sym (append-nil (rising_entries cell state.cells)))
     ∙ (cells_read tested).again state.cells [] cells in
     ap (λ (found : Option (Cells × List ℕ)). found >>= λ a. cond (length a.1 == 0) (Some (state_of a.0)) None) read
 
@@ -78,7 +78,7 @@ once tested bytes a b one other = state_is a b (sym (given tested bytes a one) �
 
 -- ---- what is read
 
-pub state_lacked : (fault : PageFault) (bytes : List ℕ) → Lacks fault (rising_at key_cmp cell_at bytes) → Lacks fault (state_in bytes)
+pub state_lacked : (fault : PageFault) (bytes : List ℕ) → Lacks fault (rising_entries_at key_cmp cell_at bytes) → Lacks fault (state_in bytes)
 unfolding state_in
 state_lacked Unspelled bytes none = ap (λ (found : Option (Cells × List ℕ)). found >>= λ a. cond (length a.1 == 0) (Some (state_of a.0)) None) none
 state_lacked NoMemory bytes none = tt
@@ -87,7 +87,7 @@ state_lacked NoMemory bytes none = tt
 abbrev given_if : Bool → Cells → Option StateValue
 given_if ended cells = cond ended (Some (state_of cells)) None
 
-pub state_read : (bytes : List ℕ) (cells : Cells) (rest : List ℕ) (ended : Bool) → rising_at key_cmp cell_at bytes ≡ Some (cells, rest) → (length rest == 0) ≡ ended
+pub state_read : (bytes : List ℕ) (cells : Cells) (rest : List ℕ) (ended : Bool) → rising_entries_at key_cmp cell_at bytes ≡ Some (cells, rest) → (length rest == 0) ≡ ended
     → state_in bytes ≡ given_if ended cells
 unfolding state_in
 state_read bytes cells rest ended read ends =

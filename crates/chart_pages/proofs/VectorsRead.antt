@@ -19,7 +19,7 @@ use Rattle.page_parts.specs.Pointers.{IsNameInRange, IsPointerInRange, name, poi
 use Rattle.page_parts.specs.Attributes.{IsEntryInRange}
 use Rattle.page_parts.proofs.AttributesRead.{IsEntry, attributes_reads}
 use Rattle.page_parts.proofs.CoordinatesRead.{coords_reads}
-use Rattle.page_parts.proofs.ListsRead.{counted_reads}
+use Rattle.page_parts.proofs.ListsRead.{counted_list_reads}
 use Rattle.page_parts.proofs.NumbersRead.{two_read}
 use Rattle.page_parts.proofs.PointersRead.{name_reads, pointer_reads}
 use Rattle.page_parts.proofs.ReadBehind.{both_read, read_as, read_that, spelled_as}
@@ -89,7 +89,7 @@ vector_reads =
     spelled_as vector_record
     (read_as vector_of vector_fields IsVectorEntry
     (both_read vector_name_reads
-    (both_read two_read (both_read attributes_reads (both_read (counted_reads pointer_at pointer IsPointerInRange pointer_reads) coords_reads))))
+    (both_read two_read (both_read attributes_reads (both_read (counted_list_reads pointer_at pointer IsPointerInRange pointer_reads) coords_reads))))
     (λ x h. (
       refl,
       record {

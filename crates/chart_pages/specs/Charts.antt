@@ -9,7 +9,7 @@ use Rattle.chart_model.specs.Cell.{CellValue}
 use Rattle.chart_model.specs.Names.{name_cmp}
 use Rattle.page_parts.specs.Reader.{Reader, seen_as, then_at}
 use Rattle.page_parts.specs.Numbers.{front_at, number, number_at}
-use Rattle.page_parts.specs.Lists.{AreInRange, rising, rising_at}
+use Rattle.page_parts.specs.Lists.{AreInRange, rising_entries, rising_entries_at}
 use Rattle.chart_pages.specs.Vectors.{IsVectorInRange, vector_at, vector_record}
 use Rattle.chart_pages.specs.Features.{IsFeatureInRange, feature_at, feature_record}
 
@@ -18,7 +18,7 @@ use Rattle.chart_pages.specs.Features.{IsFeatureInRange, feature_at, feature_rec
 unfoldable pub chart : CellValue → List ℕ
 chart value =
     value.header.issued ++ number w16 value.header.agency ++ number w32 value.header.scale
-    ++ rising vector_record value.vectors ++ rising feature_record value.features
+    ++ rising_entries vector_record value.vectors ++ rising_entries feature_record value.features
 
 -- each number is within its width, and so are the numbers of records and of each list's parts
 pub record IsChartInRange (value : CellValue) : Type 0 where
@@ -57,7 +57,7 @@ unfoldable pub chart_at : List ℕ → Held → Reader CellValue
 chart_at key held bytes =
     seen_as (chart_of key held)
     (then_at (front_at 8) (then_at (number_at w16) (then_at (number_at w32)
-    (then_at (rising_at name_cmp vector_at) (rising_at name_cmp feature_at)))))
+    (then_at (rising_entries_at name_cmp vector_at) (rising_entries_at name_cmp feature_at)))))
     bytes
 
 abbrev pub with_chart : CellValue → Option CellValue

@@ -12,9 +12,10 @@ use Rattle.chart_model.specs.Attrs.{Attrs}
 use Rattle.chart_model.specs.Codes.{AREA, FEATURE, NO_PRIMITIVE, NULL, POINT}
 use Rattle.page_parts.specs.Reader.{Reader, seen_as, that, then_at}
 use Rattle.page_parts.specs.Numbers.{byte, byte_at, number, number_at}
-use Rattle.page_parts.specs.Lists.{AreInRange, counted, counted_at}
+use Rattle.page_parts.specs.Lists.{AreInRange, counted_list, counted_list_at}
 use Rattle.page_parts.specs.Pointers.{IsPointerInRange, pointer, pointer_at}
-use Rattle.page_parts.specs.RelatedObjects.{IsFoidInRange, IsRelatedInRange, foid, foid_at, related, related_at}
+use Rattle.page_parts.specs.RelatedObjects.{IsFoidInRange, IsRelatedInRange, foid, foid_at}
+use Rattle.page_parts.specs.RelatedObjects.{related_object, related_object_at}
 use Rattle.page_parts.specs.Attributes.{IsEntryInRange, attributes, attributes_at}
 
 -- RCID, PRIM, GRUP, class and version, the identifier, attributes, related objects and pointers
@@ -22,7 +23,7 @@ unfoldable pub feature_record : Name × Feature → List ℕ
 feature_record entry =
     number w32 entry.0.rcid ++ byte entry.1.prim ++ byte entry.1.grup ++ number w16 entry.1.class
     ++ number w16 entry.1.version ++ foid entry.1.foid ++ attributes entry.1.attrs
-    ++ counted related entry.1.related ++ counted pointer entry.1.pointers
+    ++ counted_list related_object entry.1.related ++ counted_list pointer entry.1.pointers
 
 -- each number is within its width, and so is the number of each list's parts
 pub record IsFeatureInRange (entry : Name × Feature) : Type 0 where
@@ -55,7 +56,7 @@ abbrev pub have_no_topology : List Pointer → Bool
 have_no_topology pointers = list_all (λ value. value.topi == NULL) pointers
 
 unfoldable pub feature_pointers_at : Reader (List Pointer)
-feature_pointers_at bytes = that have_no_topology (counted_at pointer_at) bytes
+feature_pointers_at bytes = that have_no_topology (counted_list_at pointer_at) bytes
 
 abbrev pub Fields : Type 0
 Fields = Name × (ℕ × (ℕ × (ℕ × (ℕ × (Foid × (Attrs × (List Related × List Pointer)))))))
@@ -79,5 +80,5 @@ unfoldable pub feature_at : Reader (Name × Feature)
 feature_at bytes =
     seen_as feature_of
     (then_at feature_name_at (then_at prim_at (then_at byte_at (then_at (number_at w16) (then_at (number_at w16)
-    (then_at foid_at (then_at attributes_at (then_at (counted_at related_at) feature_pointers_at))))))))
+    (then_at foid_at (then_at attributes_at (then_at (counted_list_at related_object_at) feature_pointers_at))))))))
     bytes

@@ -2,12 +2,12 @@
 use Rattle.std.specs.Prelude.{◌≡◌, ℕ, List}
 use Rattle.std.specs.FinMap as map
 use Rattle.chart_model.specs.State.{IsState, StateValue}
-use Rattle.page_parts.specs.Lists.{AreInRange, rising}
+use Rattle.page_parts.specs.Lists.{AreInRange, rising_entries}
 use Rattle.chart_pages.specs.Cells.{IsCellInRange, cell}
 
 -- a count of cells, and the cells in the order of their keys
 unfoldable pub spelling : StateValue → List ℕ
-spelling state = rising cell state.cells
+spelling state = rising_entries cell state.cells
 
 -- the bytes are the state's, which is one that can be held, and whose numbers are within their widths
 pub record Spells (bytes : List ℕ) (state : StateValue) : Type 0 where

@@ -10,7 +10,7 @@ use Rattle.chart_model.specs.Attrs.{Attrs}
 use Rattle.chart_model.specs.Codes.{CONNECTED_NODE, EDGE, ISOLATED_NODE}
 use Rattle.page_parts.specs.Reader.{Reader, seen_as, that, then_at}
 use Rattle.page_parts.specs.Numbers.{number, number_at}
-use Rattle.page_parts.specs.Lists.{AreInRange, counted, counted_at}
+use Rattle.page_parts.specs.Lists.{AreInRange, counted_list, counted_list_at}
 use Rattle.page_parts.specs.Pointers.{IsNameInRange, IsPointerInRange, name, name_at, pointer, pointer_at}
 use Rattle.page_parts.specs.Coordinates.{coords, coords_at}
 use Rattle.page_parts.specs.Attributes.{IsEntryInRange, attributes, attributes_at}
@@ -18,7 +18,7 @@ use Rattle.page_parts.specs.Attributes.{IsEntryInRange, attributes, attributes_a
 -- RCNM and RCID, the version, attributes, pointers and coordinates
 unfoldable pub vector_record : Name × Vector → List ℕ
 vector_record entry =
-    name entry.0 ++ number w16 entry.1.version ++ attributes entry.1.attrs ++ counted pointer entry.1.pointers
+    name entry.0 ++ number w16 entry.1.version ++ attributes entry.1.attrs ++ counted_list pointer entry.1.pointers
     ++ coords entry.1.coords
 
 -- each number is within its width, and so is the number of each list's parts
@@ -48,5 +48,5 @@ unfoldable pub vector_at : Reader (Name × Vector)
 vector_at bytes =
     seen_as vector_of
     (then_at vector_name_at
-    (then_at (number_at w16) (then_at attributes_at (then_at (counted_at pointer_at) coords_at))))
+    (then_at (number_at w16) (then_at attributes_at (then_at (counted_list_at pointer_at) coords_at))))
     bytes

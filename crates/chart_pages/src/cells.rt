@@ -8,7 +8,7 @@ ghost use Rattle.std.specs.List.{AllByRecursion, flat_map};
 ghost use Rattle.std.specs.FinMap as map;
 ghost use Rattle.chart_model.specs.Keys.{key_cmp};
 ghost use Rattle.page_parts.specs.Reader.{Finds};
-ghost use Rattle.page_parts.specs.Lists.{AreInRange, entries_at, rising, rising_at};
+ghost use Rattle.page_parts.specs.Lists.{AreInRange, entries_at, rising_entries, rising_entries_at};
 ghost use Rattle.chart_pages.specs.Cells.{IsCellInRange, cell, cell_at, files_at};
 
 use crate::charts::{put_optional_chart, read_optional_chart};
@@ -44,7 +44,7 @@ fn put_each(out: &mut Octets, cells: &HoldingMap) -> Result<(), AllocError>
 
 /// Adds cells in the order of their keys.
 pub(crate) fn put_cells(out: &mut Octets, cells: &HoldingMap) -> Result<(), AllocError>
-    ensures bytes { OnOk result (out.new ≡ out.old ++ rising cell cells.now) }
+    ensures bytes { OnOk result (out.new ≡ out.old ++ rising_entries cell cells.now) }
     ensures in_range { OnOk result (AreInRange IsCellInRange (map.entries cells.now)) }
 {
     put_eight_bytes(out, cells.len())?;
@@ -98,9 +98,9 @@ fn read_each(alloc: Global, count: usize, bytes: &[u8]) -> Result<(HoldingMap, &
 }
 
 /// Reads cells in the order of their keys.
-#[tactic(auto, unfolding(page_parts::specs::Lists::rising_at))]
+#[tactic(auto, unfolding(page_parts::specs::Lists::rising_entries_at))]
 pub(crate) fn read_cells(alloc: Global, bytes: &[u8]) -> Result<(HoldingMap, &[u8]), PageFault>
-    ensures { Finds (λ read. (read.0, read.1.now)) result (rising_at key_cmp cell_at bytes.now) }
+    ensures { Finds (λ read. (read.0, read.1.now)) result (rising_entries_at key_cmp cell_at bytes.now) }
 {
     let (count, rest) = read_eight_bytes(bytes)?;
     read_each(alloc, count, rest)

@@ -8,7 +8,7 @@ ghost use Rattle.std.specs.List.{AllByRecursion, flat_map};
 ghost use Rattle.std.specs.FinMap as map;
 ghost use Rattle.chart_model.specs.Names.{name_cmp};
 ghost use Rattle.page_parts.specs.Reader.{Finds};
-ghost use Rattle.page_parts.specs.Lists.{AreInRange, entries_at, rising, rising_at};
+ghost use Rattle.page_parts.specs.Lists.{AreInRange, entries_at, rising_entries, rising_entries_at};
 
 use chart_model::{Name, NameMap, Octets};
 use page_parts::{PageFault, is_behind, put_eight_bytes, read_eight_bytes};
@@ -55,7 +55,7 @@ pub(crate) fn put_records<R: Record>(
     out: &mut Octets,
     records: &NameMap<R>,
 ) -> Result<(), AllocError>
-    ensures bytes { OnOk result (out.new ≡ out.old ++ rising R.spelling records.now) }
+    ensures bytes { OnOk result (out.new ≡ out.old ++ rising_entries R.spelling records.now) }
     ensures in_range { OnOk result (AreInRange R.is_in_range (map.entries records.now)) }
 {
     put_eight_bytes(out, records.len())?;
@@ -86,12 +86,12 @@ fn read_each<R: Record>(
 }
 
 /// Reads records in the order of their names.
-#[tactic(auto, unfolding(page_parts::specs::Lists::rising_at))]
+#[tactic(auto, unfolding(page_parts::specs::Lists::rising_entries_at))]
 pub(crate) fn read_records<R: Record>(
     alloc: Global,
     bytes: &[u8],
 ) -> Result<(NameMap<R>, &[u8]), PageFault>
-    ensures { Finds (λ read. (read.0, read.1.now)) result (rising_at name_cmp R.record_at bytes.now) }
+    ensures { Finds (λ read. (read.0, read.1.now)) result (rising_entries_at name_cmp R.record_at bytes.now) }
 {
     let (count, rest) = read_eight_bytes(bytes)?;
     read_each(alloc, count, rest)

@@ -1,5 +1,6 @@
 -- Days in their order.
-use Rattle.std.specs.Prelude.{◌≡◌, Bool, ◌&&◌, ◌||◌, ◌⊎◌, if◌then◌else◌, Option, Some, None, ℤ, int_le, int_lt, ◌≤ℤ◌, ◌<ℤ◌}
+use Rattle.std.specs.Prelude.{◌≡◌, Bool, ◌&&◌, ◌||◌, ◌⊎◌, if◌then◌else◌, Option, Some, None}
+use Rattle.std.specs.Prelude.{ℤ, int_le, int_lt, ◌≤ℤ◌, ◌<ℤ◌}
 use Rattle.std.specs.Ordering.{int_eq}
 use Rattle.date_display.specs.Calendar.{is_day, days_of_month}
 use Rattle.date_display.specs.declared.date.Date.{Date}

@@ -48,7 +48,8 @@ pub record SpellsYear (text : List ℕ) (first last : Date) : Type 0 where
   pub ends : last ≡ record { year = first.year; month = pos 12; day = pos 31 }
 
 abbrev pub SpellsDated : List ℕ → Date → Date → Type 0
-SpellsDated text first last = (SpellsDay text first × (last ≡ first)) ⊎ (SpellsMonth text first last ⊎ SpellsYear text first last)
+SpellsDated text first last =
+    (SpellsDay text first × (last ≡ first)) ⊎ (SpellsMonth text first last ⊎ SpellsYear text first last)
 
 -- ---- days and months of every year
 

@@ -30,6 +30,8 @@ fn visible_features(features: &FeatureMap, day: Day) -> Result<FeatureMap, Alloc
 ///
 /// So whatever the features point to among the vector records is still there. A feature without a geometry may also
 /// point to another feature, which may be one that isn't shown.
+///
+/// It costs a pass over the features, and a copy of the pages on which one is hidden, of up to 64 pointers each.
 pub fn visible(_alloc: Global, cell: &Cell, day: Day) -> Result<Cell, AllocError>
     ensures exact { IfOk result (IsChartOn cell.now (date_of day)) }
     ensures function { IfOk result (λ shown. shown ≡ chart_on (date_of day) cell.now) }

@@ -1,7 +1,7 @@
 //! What holds of days, of dates' texts and of the charts of days, apart from how they are found.
 //!
-//! Contracts cite functions. That these are the calendar's rule and the standard's forms of dates is said here as
-//! relations.
+//! Contracts cite functions. That these are the calendar's rule, and the forms in which attributes give dates, is said
+//! here as relations.
 
 ghost use Rattle.std.specs.Prelude.{◌≡◌, ◌↔◌, List, ℕ, Some, ℤ, pos, ◌≤ℤ◌, unsigned_abs, IsTrue};
 ghost use Rattle.chart_model.specs.Attrs.{Attrs};

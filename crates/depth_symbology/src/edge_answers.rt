@@ -12,8 +12,8 @@ use std::alloc::{AllocError, Global};
 use std::collections::BTreeMap;
 use std::marker::Model;
 
-/// Whether an unsafe area points to each of some edges, by the edges' names. Contracts see a finite map. The answers are
-/// those of one chart at one safety contour.
+/// Whether an unsafe area points to each of some edges, by the edges' names. The answers are those of one chart at one
+/// safety contour. Contracts see a finite map.
 #[derive(Debug, Drop)]
 pub struct EdgeAnswers {
     tree: BTreeMap<Name, bool>,

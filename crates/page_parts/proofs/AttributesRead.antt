@@ -16,7 +16,7 @@ use Rattle.page_parts.specs.Lists.{AreInRange}
 use Rattle.page_parts.specs.Attributes.{IsEntryInRange, attribute, attribute_at, attributes, attributes_at, is_kept_text, is_plain_text}
 use Rattle.page_parts.proofs.NumbersRead.{text_reads, two_read}
 use Rattle.page_parts.proofs.ReadBehind.{both_read, ranged_as, read_that}
-use Rattle.page_parts.proofs.RisingRead.{rising_reads}
+use Rattle.page_parts.proofs.RisingRead.{rising_entries_reads}
 
 -- what holds of each attribute, by its code and its text
 pub by_code : (P : ℕ × List ℕ → Type 0) (attrs : List Attr) → AllByRecursion (λ attr. P (attr.code, attr.value)) attrs → AllByRecursion P (texts_by_code attrs)
@@ -76,4 +76,4 @@ attribute_reads =
 
 pub attributes_reads : Reads attributes_at attributes (λ attrs. AreInRange IsEntry (map.entries attrs))
 unfolding attributes attributes_at
-attributes_reads = rising_reads nat_cmp attribute_at attribute IsEntry attribute_reads
+attributes_reads = rising_entries_reads nat_cmp attribute_at attribute IsEntry attribute_reads

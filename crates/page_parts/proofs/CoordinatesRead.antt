@@ -10,16 +10,16 @@ use Rattle.std.proofs.lemmas.List.Elements.{All-from_recursion, recursion_from_A
 use Rattle.chart_model.specs.declared.record.Coord.{Coord}
 use Rattle.chart_model.specs.Record.{AreCoords, IsCoord, IsDepth}
 use Rattle.page_parts.specs.Reader.{Reads}
-use Rattle.page_parts.specs.Coordinates.{are_alike, coord, coord_at, coord_of, coords, coords_at, depth, depth_at, is_coord, is_depth, is_optional_depth, signed, signed_at, with_depth}
+use Rattle.page_parts.specs.Coordinates.{are_alike, coord, coord_at, coord_of, coords, coords_at, depth, depth_at, is_coord, is_depth, is_optional_depth, signed_number, signed_number_at, with_depth}
 use Rattle.page_parts.proofs.NumbersRead.{four_read}
-use Rattle.page_parts.proofs.ListsRead.{counted_reads}
+use Rattle.page_parts.proofs.ListsRead.{counted_list_reads}
 use Rattle.page_parts.proofs.ReadBehind.{bind_some, both_read, ranged_as, read_as, read_that, some_is, spelled_as}
 
 -- ---- numbers in two's complement
 
-pub signed_reads : Reads signed_at signed (FitsSigned w32)
-unfolding signed signed_at
-signed_reads =
+pub signed_number_reads : Reads signed_number_at signed_number (FitsSigned w32)
+unfolding signed_number signed_number_at
+signed_number_reads =
     read_as (cast_signed w32) (cast_unsigned w32) (FitsSigned w32) four_read
     (λ n fits. (of_z-to_z w32 n fits, sfits_to_z (Fits-of_lt {w = w32} fits)))
     (λ z fits. (to_z-of_z w32 z fits, omega (arith, Fits-of_z {w = w32} fits)))
@@ -33,15 +33,15 @@ depth_taken [] value rest e = absurd (cc)
 depth_taken (zero ∷ bytes) value rest e =
     subst (λ (x : Option ℤ × List ℕ). (0 ∷ bytes ≡ depth x.0 ++ x.1) × IsDepthInRange x.0) (some_is (None, bytes) (value, rest) e) (refl, tt)
 depth_taken (suc zero ∷ bytes) value rest e =
-    let a = bind_some (signed_at bytes) (λ (a : ℤ × List ℕ). Some (with_depth a.0, a.1)) (value, rest) e in
+    let a = bind_some (signed_number_at bytes) (λ (a : ℤ × List ℕ). Some (with_depth a.0, a.1)) (value, rest) e in
     subst (λ (x : Option ℤ × List ℕ). (1 ∷ bytes ≡ depth x.0 ++ x.1) × IsDepthInRange x.0) (some_is (with_depth a.0.0, a.0.1) (value, rest) a.2)
-    (ap (λ (l : List ℕ). 1 ∷ l) (signed_reads.spelled bytes a.0.0 a.0.1 a.1), signed_reads.ranged bytes a.0.0 a.0.1 a.1)
+    (ap (λ (l : List ℕ). 1 ∷ l) (signed_number_reads.spelled bytes a.0.0 a.0.1 a.1), signed_number_reads.ranged bytes a.0.0 a.0.1 a.1)
 depth_taken (suc (suc more) ∷ bytes) value rest e = absurd (cc)
 
 depth_again : (value : Option ℤ) (rest : List ℕ) → IsDepthInRange value → depth_at (depth value ++ rest) ≡ Some (value, rest)
 unfolding depth depth_at
 depth_again None rest fits = refl
-depth_again (Some value) rest fits = rw (signed_reads.again value rest fits) refl
+depth_again (Some value) rest fits = rw (signed_number_reads.again value rest fits) refl
 
 depth_reads : Reads depth_at depth IsDepthInRange
 depth_reads = record {
@@ -109,7 +109,7 @@ coord_reads =
     ranged_as IsCoord
     (read_that is_coord IsCoord
     (spelled_as coord
-    (read_as coord_of coord_fields IsCoordInRange (both_read signed_reads (both_read signed_reads depth_reads))
+    (read_as coord_of coord_fields IsCoordInRange (both_read signed_number_reads (both_read signed_number_reads depth_reads))
     (λ x h. (refl, record { x = h.0; y = h.1.0; z = h.1.1 }))
     (λ value h. (refl, (h.x, (h.y, h.z)))))
     (λ value. simp append_assoc))
@@ -180,6 +180,6 @@ pub coords_reads : Reads coords_at coords AreCoordsInRange
 unfolding coords coords_at
 coords_reads =
     ranged_as AreCoordsInRange
-    (read_that are_alike IsAlike (counted_reads coord_at coord IsCoord coord_reads) alike_holds alike_passes)
+    (read_that are_alike IsAlike (counted_list_reads coord_at coord IsCoord coord_reads) alike_holds alike_passes)
     (λ values h. (h.0.count, record { each = All-from_recursion IsCoord values h.0.each; alike = h.1 }))
     (λ values h. (record { count = h.0; each = recursion_from_All IsCoord values h.1.each }, h.1.alike))

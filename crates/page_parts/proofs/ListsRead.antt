@@ -7,7 +7,7 @@ use Rattle.page_parts.specs.declared.fault.PageFault.{PageFault}
 use Rattle.page_parts.specs.declared.fault.PageFault.TheVariants.{Unspelled, NoMemory}
 use Rattle.page_parts.specs.Reader.{Lacks, Reader, Reads, ◌>>=◌, then_by}
 use Rattle.page_parts.specs.Numbers.{number, number_at}
-use Rattle.page_parts.specs.Lists.{AreInRange, counted, counted_at, items_at}
+use Rattle.page_parts.specs.Lists.{AreInRange, counted_list, counted_list_at, items_at}
 use Rattle.page_parts.proofs.NumbersRead.{eight_read}
 use Rattle.page_parts.proofs.ReadBehind.{bind_some, seen_reads, some_is, then_by_reads}
 
@@ -42,9 +42,9 @@ module _ {X : Type 0} (item : Reader X) (spelling : X → List ℕ) (P : X → T
     again = λ xs rest h. subst (λ (m : ℕ). items_at item m (flat_map spelling xs ++ rest) ≡ Some (xs, rest)) h.0 (items_again xs rest h.1);
   }
 
-  pub counted_reads : Reads (counted_at item) (counted spelling) (AreInRange P)
-  unfolding counted counted_at
-  counted_reads =
+  pub counted_list_reads : Reads (counted_list_at item) (counted_list spelling) (AreInRange P)
+  unfolding counted_list counted_list_at
+  counted_list_reads =
       seen_reads (λ (x : ℕ × List X). x.1) (λ (xs : List X). (length xs, xs)) (then_by (number_at w64) (items_at item))
       (λ x. number w64 x.0 ++ flat_map spelling x.1) (λ x. (x.0 < 2 ^ 64) × ((length x.1 ≡ x.0) × AllByRecursion P x.1)) (AreInRange P)
       (then_by_reads (number_at w64) (items_at item) (number w64) (λ _. flat_map spelling) (λ n. n < 2 ^ 64) (λ n xs. (length xs ≡ n) × AllByRecursion P xs) eight_read (λ n _. items_reads n))

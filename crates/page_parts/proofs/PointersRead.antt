@@ -6,7 +6,7 @@ use Rattle.chart_model.specs.declared.record.Pointer.{Pointer}
 use Rattle.chart_model.specs.declared.record.Related.{Related}
 use Rattle.page_parts.specs.Reader.{Reads}
 use Rattle.page_parts.specs.Pointers.{IsNameInRange, IsPointerInRange, name, name_at, name_of, pointer, pointer_at, pointer_of}
-use Rattle.page_parts.specs.RelatedObjects.{IsFoidInRange, IsRelatedInRange, foid, foid_at, foid_of, related, related_at, related_of}
+use Rattle.page_parts.specs.RelatedObjects.{IsFoidInRange, IsRelatedInRange, foid, foid_at, foid_of, related_object, related_object_at, related_object_of}
 use Rattle.page_parts.proofs.NumbersRead.{byte_reads, four_read, two_read}
 use Rattle.page_parts.proofs.ReadBehind.{both_read, read_as, spelled_as}
 
@@ -42,9 +42,9 @@ foid_reads =
     (λ value h. (refl, (h.agen, (h.fidn, h.fids)))))
     (λ value. simp append_assoc)
 
-pub related_reads : Reads related_at related IsRelatedInRange
-unfolding related related_at
-related_reads =
-    read_as related_of (λ (value : Related). (value.foid, value.rind)) IsRelatedInRange (both_read foid_reads byte_reads)
+pub related_object_reads : Reads related_object_at related_object IsRelatedInRange
+unfolding related_object related_object_at
+related_object_reads =
+    read_as related_object_of (λ (value : Related). (value.foid, value.rind)) IsRelatedInRange (both_read foid_reads byte_reads)
     (λ x h. (refl, record { foid = h.0; rind = h.1 }))
     (λ value h. (refl, (h.foid, h.rind)))

@@ -16,7 +16,7 @@ use Rattle.page_parts.specs.declared.fault.PageFault.{PageFault}
 use Rattle.page_parts.specs.declared.fault.PageFault.TheVariants.{Unspelled, NoMemory}
 use Rattle.page_parts.specs.Reader.{Lacks, Reader, Reads, that, then_by}
 use Rattle.page_parts.specs.Numbers.{number, number_at}
-use Rattle.page_parts.specs.Lists.{AreInRange, counted, entries_at, in_order, is_behind, items_at, rising, rising_at}
+use Rattle.page_parts.specs.Lists.{AreInRange, counted_list, entries_at, in_order, is_behind, items_at, rising_entries, rising_entries_at}
 use Rattle.page_parts.proofs.NumbersRead.{eight_read}
 use Rattle.page_parts.proofs.ReadBehind.{seen_reads, that_reads, then_by_reads}
 use Rattle.page_parts.proofs.ListsRead.{behind, items_all, items_fail, items_more, items_reads}
@@ -36,10 +36,10 @@ pub len_is : {K X : Type 0} {R : K → K → Ordering} (m : FinMap R X) → map.
 len_is m = map.len-entries m
 
 -- a count and the entries, put behind other bytes
-pub counted_behind : {X : Type 0} (spelling : X → List ℕ) (xs : List X) (n : ℕ) (out mid : List ℕ) → mid ≡ out ++ number w64 n → n ≡ length xs
-    → mid ++ flat_map spelling xs ≡ out ++ counted spelling xs
-unfolding counted
-counted_behind spelling xs n out mid put is = rw (put, is) (append_assoc out (number w64 (length xs)) (flat_map spelling xs))
+pub counted_list_behind : {X : Type 0} (spelling : X → List ℕ) (xs : List X) (n : ℕ) (out mid : List ℕ) → mid ≡ out ++ number w64 n → n ≡ length xs
+    → mid ++ flat_map spelling xs ≡ out ++ counted_list spelling xs
+unfolding counted_list
+counted_list_behind spelling xs n out mid put is = rw (put, is) (append_assoc out (number w64 (length xs)) (flat_map spelling xs))
 
 -- ---- the law
 
@@ -53,9 +53,9 @@ module _ {K X : Type 0} (R : K → K → Ordering) (entry : Reader (K × X)) (sp
       (λ es h. (map.entries-from_sorted R es h.1, subst Q (sym (map.entries-from_sorted R es h.1)) h.0))
       (λ m q. (map.same_entries_map (map.from_sorted (map.entries m)) m (map.entries-from_sorted R (map.entries m) (map.entries_sorted m)), (q, map.entries_sorted m)))
 
-  pub rising_reads : Reads (rising_at R entry) (rising spelling) (λ m. AreInRange P (map.entries m))
-  unfolding rising rising_at counted
-  rising_reads =
+  pub rising_entries_reads : Reads (rising_entries_at R entry) (rising_entries spelling) (λ m. AreInRange P (map.entries m))
+  unfolding rising_entries rising_entries_at counted_list
+  rising_entries_reads =
       let Q : List (K × X) → Type 0 = AllByRecursion P in
       seen_reads (λ (x : ℕ × FinMap R X). x.1) (λ (m : FinMap R X). (length (map.entries m), m)) (then_by (number_at w64) (entries_at R entry))
       (λ x. number w64 x.0 ++ flat_map spelling (map.entries x.1)) (λ x. (x.0 < 2 ^ 64) × ((length (map.entries x.1) ≡ x.0) × Q (map.entries x.1))) (λ m. AreInRange P (map.entries m))

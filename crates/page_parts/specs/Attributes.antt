@@ -9,7 +9,7 @@ use Rattle.chart_model.specs.Codes.{DELETED, FIELD_TERMINATOR, UNIT_TERMINATOR}
 use Rattle.page_parts.specs.Reader.{Reader, that, then_at}
 use Rattle.page_parts.specs.Numbers.{number, number_at}
 use Rattle.page_parts.specs.Texts.{text, text_at}
-use Rattle.page_parts.specs.Lists.{rising, rising_at}
+use Rattle.page_parts.specs.Lists.{rising_entries, rising_entries_at}
 
 -- ATTL, and ATVL as a text
 unfoldable pub attribute : ℕ × List ℕ → List ℕ
@@ -20,7 +20,7 @@ pub record IsEntryInRange (entry : ℕ × List ℕ) : Type 0 where
   pub text : length entry.1 < 2 ^ 64
 
 unfoldable pub attributes : Attrs → List ℕ
-attributes attrs = rising attribute attrs
+attributes attrs = rising_entries attribute attrs
 
 -- ---- read
 
@@ -36,4 +36,4 @@ unfoldable pub attribute_at : Reader (ℕ × List ℕ)
 attribute_at bytes = that (λ entry. is_kept_text entry.1) (then_at (number_at w16) text_at) bytes
 
 unfoldable pub attributes_at : Reader Attrs
-attributes_at bytes = rising_at nat_cmp attribute_at bytes
+attributes_at bytes = rising_entries_at nat_cmp attribute_at bytes

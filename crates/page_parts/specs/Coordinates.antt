@@ -6,27 +6,27 @@ use Rattle.std.specs.List.{list_all}
 use Rattle.chart_model.specs.declared.record.Coord.{Coord}
 use Rattle.page_parts.specs.Reader.{Reader, seen_as, that, then_at}
 use Rattle.page_parts.specs.Numbers.{byte, number, number_at}
-use Rattle.page_parts.specs.Lists.{counted, counted_at}
+use Rattle.page_parts.specs.Lists.{counted_list, counted_list_at}
 
 -- a whole number of four bytes in two's complement
-unfoldable pub signed : ℤ → List ℕ
-signed value = number w32 (cast_unsigned w32 value)
+unfoldable pub signed_number : ℤ → List ℕ
+signed_number value = number w32 (cast_unsigned w32 value)
 
 -- a flag, which is 0, or 1 and followed by the depth
 unfoldable pub depth : Option ℤ → List ℕ
 depth None = byte 0
-depth (Some value) = byte 1 ++ signed value
+depth (Some value) = byte 1 ++ signed_number value
 
 unfoldable pub coord : Coord → List ℕ
-coord value = signed value.x ++ signed value.y ++ depth value.z
+coord value = signed_number value.x ++ signed_number value.y ++ depth value.z
 
 unfoldable pub coords : List Coord → List ℕ
-coords values = counted coord values
+coords values = counted_list coord values
 
 -- ---- read
 
-unfoldable pub signed_at : Reader ℤ
-signed_at bytes = seen_as (cast_signed w32) (number_at w32) bytes
+unfoldable pub signed_number_at : Reader ℤ
+signed_number_at bytes = seen_as (cast_signed w32) (number_at w32) bytes
 
 abbrev pub with_depth : ℤ → Option ℤ
 with_depth value = Some value
@@ -34,7 +34,7 @@ with_depth value = Some value
 unfoldable pub depth_at : Reader (Option ℤ)
 depth_at [] = None
 depth_at (zero ∷ rest) = Some (None, rest)
-depth_at (suc zero ∷ rest) = seen_as with_depth signed_at rest
+depth_at (suc zero ∷ rest) = seen_as with_depth signed_number_at rest
 depth_at (suc (suc more) ∷ rest) = None
 
 -- a whole number of decimetres from -999,999 to 999,999
@@ -54,11 +54,11 @@ abbrev pub coord_of : ℤ × (ℤ × Option ℤ) → Coord
 coord_of fields = record { x = fields.0; y = fields.1.0; z = fields.1.1 }
 
 unfoldable pub coord_at : Reader Coord
-coord_at bytes = that is_coord (seen_as coord_of (then_at signed_at (then_at signed_at depth_at))) bytes
+coord_at bytes = that is_coord (seen_as coord_of (then_at signed_number_at (then_at signed_number_at depth_at))) bytes
 
 -- all have a depth, or none has
 abbrev pub are_alike : List Coord → Bool
 are_alike values = list_all (λ value. is_some value.z) values || list_all (λ value. is_none value.z) values
 
 unfoldable pub coords_at : Reader (List Coord)
-coords_at bytes = that are_alike (counted_at coord_at) bytes
+coords_at bytes = that are_alike (counted_list_at coord_at) bytes

@@ -16,8 +16,8 @@ pub record IsFoidInRange (value : Foid) : Type 0 where
   pub fids : value.fids < 2 ^ 16
 
 -- the identifier of the object, and RIND
-unfoldable pub related : Related → List ℕ
-related value = foid value.foid ++ byte value.rind
+unfoldable pub related_object : Related → List ℕ
+related_object value = foid value.foid ++ byte value.rind
 
 pub record IsRelatedInRange (value : Related) : Type 0 where
   pub foid : IsFoidInRange value.foid
@@ -31,8 +31,8 @@ foid_of fields = record { agen = fields.0; fidn = fields.1.0; fids = fields.1.1 
 unfoldable pub foid_at : Reader Foid
 foid_at bytes = seen_as foid_of (then_at (number_at w16) (then_at (number_at w32) (number_at w16))) bytes
 
-abbrev pub related_of : Foid × ℕ → Related
-related_of fields = record { foid = fields.0; rind = fields.1 }
+abbrev pub related_object_of : Foid × ℕ → Related
+related_object_of fields = record { foid = fields.0; rind = fields.1 }
 
-unfoldable pub related_at : Reader Related
-related_at bytes = seen_as related_of (then_at foid_at byte_at) bytes
+unfoldable pub related_object_at : Reader Related
+related_object_at bytes = seen_as related_object_of (then_at foid_at byte_at) bytes

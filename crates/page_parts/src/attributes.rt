@@ -59,7 +59,7 @@ fn put_each(out: &mut Octets, attrs: &AttrMap) -> Result<(), AllocError>
 }
 
 /// Adds attributes in the order of their codes.
-#[tactic(auto, using(crate::proofs::RisingRead::len_is), unfolding(crate::specs::Attributes::attributes, crate::specs::Lists::rising, crate::specs::Lists::counted))]
+#[tactic(auto, using(crate::proofs::RisingRead::len_is), unfolding(crate::specs::Attributes::attributes, crate::specs::Lists::rising_entries, crate::specs::Lists::counted_list))]
 pub fn put_attributes(out: &mut Octets, attrs: &AttrMap) -> Result<(), AllocError>
     ensures bytes { OnOk result (out.new ≡ out.old ++ attributes attrs.now) }
     ensures in_range { OnOk result (AreInRange IsEntryInRange (map.entries attrs.now)) }
@@ -102,7 +102,7 @@ fn read_each(alloc: Global, count: usize, bytes: &[u8]) -> Result<(AttrMap, &[u8
 }
 
 /// Reads attributes in the order of their codes.
-#[tactic(auto, unfolding(crate::specs::Attributes::attributes_at, crate::specs::Lists::rising_at))]
+#[tactic(auto, unfolding(crate::specs::Attributes::attributes_at, crate::specs::Lists::rising_entries_at))]
 pub fn read_attributes(alloc: Global, bytes: &[u8]) -> Result<(AttrMap, &[u8]), PageFault>
     ensures { Finds (λ read. (read.0, read.1.now)) result (attributes_at bytes.now) }
 {

@@ -7,7 +7,7 @@ ghost use Rattle.std.specs.Prelude.{◌≡◌, ◌<◌, ◌^◌, ◌++◌, lengt
 ghost use Rattle.std.specs.List.{list_all};
 ghost use Rattle.page_parts.specs.Reader.{Finds};
 ghost use Rattle.page_parts.specs.Coordinates.{are_alike, coords, coords_at, depth, depth_at, is_coord, is_depth};
-ghost use Rattle.page_parts.specs.Coordinates.{signed, signed_at};
+ghost use Rattle.page_parts.specs.Coordinates.{signed_number, signed_number_at};
 
 use crate::fault::PageFault;
 use crate::lists::{Part, put_list, read_list};
@@ -16,17 +16,17 @@ use chart_model::{Coord, Coords, Octets};
 use std::alloc::{AllocError, Global};
 
 /// Adds a whole number of four bytes in two's complement.
-#[tactic(auto, unfolding(crate::specs::Coordinates::signed))]
+#[tactic(auto, unfolding(crate::specs::Coordinates::signed_number))]
 fn put_signed(out: &mut Octets, value: i32) -> Result<(), AllocError>
-    ensures { OnOk result (out.new ≡ out.old ++ signed value) }
+    ensures { OnOk result (out.new ≡ out.old ++ signed_number value) }
 {
     put_four_bytes(out, value.cast_unsigned())
 }
 
 /// Reads a whole number of four bytes in two's complement.
-#[tactic(auto, unfolding(crate::specs::Coordinates::signed_at))]
+#[tactic(auto, unfolding(crate::specs::Coordinates::signed_number_at))]
 fn read_signed(bytes: &[u8]) -> Result<(i32, &[u8]), PageFault>
-    ensures { Finds (λ read. (read.0, read.1.now)) result (signed_at bytes.now) }
+    ensures { Finds (λ read. (read.0, read.1.now)) result (signed_number_at bytes.now) }
 {
     let (value, rest) = read_four_bytes(bytes)?;
     Ok((value.cast_signed(), rest))

@@ -5,7 +5,7 @@
 ghost use Rattle.std.specs.Prelude.{◌≡◌, ◌++◌, OnOk};
 ghost use Rattle.std.specs.List.{AllByRecursion, flat_map};
 ghost use Rattle.page_parts.specs.Reader.{Finds};
-ghost use Rattle.page_parts.specs.Lists.{AreInRange, counted, counted_at, items_at};
+ghost use Rattle.page_parts.specs.Lists.{AreInRange, counted_list, counted_list_at, items_at};
 
 use crate::fault::PageFault;
 use crate::numbers::{put_eight_bytes, read_eight_bytes};
@@ -55,9 +55,9 @@ fn read_items<P: Part>(
 }
 
 /// Reads a list.
-#[tactic(auto, unfolding(crate::specs::Lists::counted_at))]
+#[tactic(auto, unfolding(crate::specs::Lists::counted_list_at))]
 pub fn read_list<P: Part>(alloc: Global, bytes: &[u8]) -> Result<(Sequence<P>, &[u8]), PageFault>
-    ensures { Finds (λ read. (read.0, read.1.now)) result (counted_at P.part_at bytes.now) }
+    ensures { Finds (λ read. (read.0, read.1.now)) result (counted_list_at P.part_at bytes.now) }
 {
     let (count, rest) = read_eight_bytes(bytes)?;
     let (items, rest) = read_items(alloc, count, rest)?;
@@ -76,9 +76,9 @@ fn put_items<P: Part>(out: &mut Octets, items: &[P]) -> Result<(), AllocError>
 }
 
 /// Adds a list.
-#[tactic(auto, unfolding(crate::specs::Lists::counted))]
+#[tactic(auto, unfolding(crate::specs::Lists::counted_list))]
 pub fn put_list<P: Part>(out: &mut Octets, items: &[P]) -> Result<(), AllocError>
-    ensures bytes { OnOk result (out.new ≡ out.old ++ counted P.spelling items.now) }
+    ensures bytes { OnOk result (out.new ≡ out.old ++ counted_list P.spelling items.now) }
     ensures in_range { OnOk result (AreInRange P.is_in_range items.now) }
 {
     put_eight_bytes(out, items.len())?;

@@ -38,22 +38,22 @@ pub fn read_foid(bytes: &[u8]) -> Result<(Foid, &[u8]), PageFault>
 }
 
 impl Part for Related {
-    ghost use Rattle.page_parts.specs.RelatedObjects.{IsRelatedInRange, related, related_at};
+    ghost use Rattle.page_parts.specs.RelatedObjects.{IsRelatedInRange, related_object, related_object_at};
 
-    ghost part_at = { related_at };
+    ghost part_at = { related_object_at };
 
-    ghost spelling = { related };
+    ghost spelling = { related_object };
 
     ghost is_in_range = { IsRelatedInRange };
 
-    #[tactic(auto, unfolding(crate::specs::RelatedObjects::related_at))]
+    #[tactic(auto, unfolding(crate::specs::RelatedObjects::related_object_at))]
     fn read(_alloc: Global, bytes: &[u8]) -> Result<(Related, &[u8]), PageFault> {
         let (foid, rest) = read_foid(bytes)?;
         let (rind, rest) = read_byte(rest)?;
         Ok((Related { foid, rind }, rest))
     }
 
-    #[tactic(auto, unfolding(crate::specs::RelatedObjects::related))]
+    #[tactic(auto, unfolding(crate::specs::RelatedObjects::related_object))]
     fn put(&self, out: &mut Octets) -> Result<(), AllocError> {
         put_foid(out, self.foid)?;
         put_byte(out, self.rind)

@@ -41,7 +41,7 @@ use Rattle.route_check.specs.declared.fault.RouteFault.TheVariants as of_route
 use Rattle.route_check.specs.declared.route.Route.{Route}
 use Rattle.chart_model.specs.declared.settings.Settings.{Settings}
 use Rattle.cell_bytes.specs.Generator.{made_cell}
-use Rattle.cell_bytes.specs.Written.{data_records, written}
+use Rattle.cell_bytes.specs.Written.{data_records, base_file_of}
 use Rattle.cell_bytes.specs.declared.fault.WriteFault.{WriteFault}
 use Rattle.cell_bytes.specs.declared.fault.WriteFault.TheVariants as of_write
 use Rattle.session_core.specs.declared.changes.written.MadeFile.{MadeFile}
@@ -321,7 +321,7 @@ base-apart model values records (Err of_write.NoMemory) e = apart-65 (code_is e)
 
 made-apart : (model : Model) (values : List ℕ) (areas update : ℕ) → Is72 values (order_turn model (make_order areas update)).reply → ⊥
 unfolding made_file
-made-apart model values areas zero e = base-apart model values (length (data_records (made_cell areas))) (written (made_cell areas)) e
+made-apart model values areas zero e = base-apart model values (length (data_records (made_cell areas))) (base_file_of (made_cell areas)) e
 made-apart model values areas (suc before) e =
     let file = update_of areas (suc before) in
     ordered-apart model values (order_of_file (orders.Make file.records) file.bytes) e
@@ -331,11 +331,11 @@ unfolding reissue_file
 reissued-apart model key values e =
     elim (chart_of model.state.cells key) as (λ o. Is72 values (order_turn model (written_by o >>= λ file. Ok (order_of_file orders.Reissue file))).reply → ⊥) [
       | None ↦ λ f. store-apart (refuses.NoCell key) (code_is f)
-      | Some chart ↦ λ f. written-apart model values orders.Reissue (written chart) f
+      | Some chart ↦ λ f. written-apart model values orders.Reissue (base_file_of chart) f
     ] e
   where
     written_by : Option CellValue → Result (List ℕ) LineRefusal
-    written_by o = or_fault (Store (refuses.NoCell key)) o >>= λ chart. or_unwritten (written chart)
+    written_by o = or_fault (Store (refuses.NoCell key)) o >>= λ chart. or_unwritten (base_file_of chart)
 
 pub turn-failed : (fetches : Fetches) (model : Model) (event : Event) (values : List ℕ)
     → (turn_of fetches model event).reply ≡ replies.Refused 72 values → (limit : ℕ) × ((name : List ℕ) × (fetches limit name ≡ None))

@@ -12,7 +12,7 @@ use Rattle.chart_model.proofs.Keys.{key_cmp-total}
 use Rattle.chart_model.specs.State.{StateValue}
 use Rattle.chart_model.specs.declared.command.Command.TheVariants.{Load}
 use Rattle.chart_model.specs.declared.state.Holding.{Holding}
-use Rattle.cell_bytes.specs.Written.{feature_faults, file_of, length_fault, vector_faults, write_fault, written}
+use Rattle.cell_bytes.specs.Written.{feature_faults, file_of, length_fault, vector_faults, write_fault, base_file_of}
 use Rattle.cell_bytes.specs.declared.fault.WriteFault.{WriteFault}
 use Rattle.cell_bytes.specs.declared.fault.WriteFault.TheVariants as of_write
 use Rattle.cell_writer.specs.ReadBack.{IsBaseFileOf}
@@ -64,8 +64,8 @@ flag-none false fault e = refl
 not-over : (most n : ℕ) → ltb most n ≡ false → n ≤ most
 not-over most n e = grind (arith, nat_tests)
 
-pub file-short : (cell : CellValue) (file : List ℕ) → written cell ≡ Ok file → length file ≤ 8388608
-unfolding written write_fault
+pub file-short : (cell : CellValue) (file : List ℕ) → base_file_of cell ≡ Ok file → length file ≤ 8388608
+unfolding base_file_of write_fault
 file-short cell file e =
     let whole = whole-none (write_fault cell) (file_of cell) file e in
     let short = flag-none (ltb 8388608 (length (file_of cell))) (of_write.CellLong (length (file_of cell)))
@@ -154,7 +154,7 @@ module _ (model : Model) (key : List ℕ) (here : Holding) (chart : CellValue)
   turn-by file stored banked = decision_turn model (Load file) reply-by
       ((stored >>= λ left. Ok (outcome-by left)) >>= λ done. banked >>= λ fits. Ok done)
 
-  file-keeps : (file : List ℕ) → written chart ≡ Ok file
+  file-keeps : (file : List ℕ) → base_file_of chart ≡ Ok file
       → (store_within (cells-by file) ≡ Ok (record { cells = cells-by file })) ⊎ (store_within (cells-by file) ≡ Err (StoreFull (live_bytes (cells-by file))))
       → HasRoom (room_within model.room (record_size (Load file))) (record_size (Load file))
       → Keeps (turn-by file (store_within (cells-by file)) (room_within model.room (record_size (Load file))))
@@ -173,7 +173,7 @@ module _ (model : Model) (key : List ℕ) (here : Holding) (chart : CellValue)
             (get-put model.state.cells key (held_by_file here file)) ∙ is;
       }))
 
-  order-keeps : Reissues → AreLive model.state.cells → (file : List ℕ) → written chart ≡ Ok file → IsReissueOf chart file
+  order-keeps : Reissues → AreLive model.state.cells → (file : List ℕ) → base_file_of chart ≡ Ok file → IsReissueOf chart file
       → Keeps (order_turn model (Ok (order_of_file orders.Reissue file)))
   unfolding accepted outcome
   order-keeps law live file wrote again =
@@ -191,7 +191,7 @@ module _ (model : Model) (key : List ℕ) (here : Holding) (chart : CellValue)
     builds = base.builds;
   }
 
-  written-keeps : Reissues → AreLive model.state.cells → ReadsBack model.state.cells key → (r : Result (List ℕ) WriteFault) → written chart ≡ r
+  written-keeps : Reissues → AreLive model.state.cells → ReadsBack model.state.cells key → (r : Result (List ℕ) WriteFault) → base_file_of chart ≡ r
       → Keeps (order_turn model (or_refused r >>= λ file. Ok (order_of_file orders.Reissue file)))
   written-keeps law live back (Ok file) e =
       order-keeps law live file e (again-by file (back chart file (chart-of model.state.cells key here chart found is) e) (file-short chart file e))
@@ -204,9 +204,9 @@ pub reissue-keeps : Reissues → (model : Model) (key : List ℕ) → AreLive mo
 unfolding turn_of reissue_file
 reissue-keeps law model key live back fetches here chart found is =
     subst (λ (o : Option CellValue). KeepsChart model key here chart (order_turn model
-    ((or_fault (Store (NoCell key)) o >>= λ held. or_refused (written held)) >>= λ file. Ok (order_of_file orders.Reissue file))))
+    ((or_fault (Store (NoCell key)) o >>= λ held. or_refused (base_file_of held)) >>= λ file. Ok (order_of_file orders.Reissue file))))
     (sym (chart-of model.state.cells key here chart found is))
-    (written-keeps model key here chart found is law live back (written chart) refl)
+    (written-keeps model key here chart found is law live back (base_file_of chart) refl)
 
 -- ---- the turn of the event
 

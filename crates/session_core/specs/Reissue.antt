@@ -4,7 +4,7 @@ use Rattle.std.specs.FinMap as map
 use Rattle.chart_model.specs.Cell.{CellValue}
 use Rattle.chart_model.specs.declared.command.Command.TheVariants.{Load}
 use Rattle.chart_model.specs.declared.state.Holding.{Holding}
-use Rattle.cell_bytes.specs.Written.{written}
+use Rattle.cell_bytes.specs.Written.{base_file_of}
 use Rattle.cell_writer.specs.ReadBack.{IsBaseFileOf}
 use Rattle.chart_store.specs.Loaded.{HoldingsByKey, store_within}
 use Rattle.chart_store.specs.Outcome.{record_size, room_within}
@@ -23,19 +23,19 @@ use Rattle.session_core.specs.declared.refusal.LineRefusal.TheVariants.{CellLong
 -- the file that is written of a cell's chart is a base file of it
 abbrev pub ReadsBack : HoldingsByKey → List ℕ → Type 0
 ReadsBack cells key =
-    (chart : CellValue) (file : List ℕ) → chart_of cells key ≡ Some chart → written chart ≡ Ok file
+    (chart : CellValue) (file : List ℕ) → chart_of cells key ≡ Some chart → base_file_of chart ≡ Ok file
     → IsBaseFileOf chart file
 
 -- why a chart may not be re-issued: a record of it or its file is too long, or the live files with that file are, or
 -- the bank has no room for it
 abbrev pub LacksRoom : Model → List ℕ → Holding → CellValue → LineRefusal → Type 0
-LacksRoom model key here chart (RecordLong name bytes) = or_refused (written chart) ≡ Err (RecordLong name bytes)
-LacksRoom model key here chart (CellLong bytes) = or_refused (written chart) ≡ Err (CellLong bytes)
+LacksRoom model key here chart (RecordLong name bytes) = or_refused (base_file_of chart) ≡ Err (RecordLong name bytes)
+LacksRoom model key here chart (CellLong bytes) = or_refused (base_file_of chart) ≡ Err (CellLong bytes)
 LacksRoom model key here chart (Store (StoreFull bytes)) =
-    (file : List ℕ) × (written chart ≡ Ok file)
+    (file : List ℕ) × (base_file_of chart ≡ Ok file)
     × (store_within (map.insert model.state.cells key (held_by_file here file)) ≡ Err (StoreFull bytes))
 LacksRoom model key here chart (Store (BankFull length more)) =
-    (file : List ℕ) × (written chart ≡ Ok file)
+    (file : List ℕ) × (base_file_of chart ≡ Ok file)
     × (room_within model.room (record_size (Load file)) ≡ Err (BankFull length more))
 LacksRoom model key here chart other = ⊥
 

@@ -3,7 +3,7 @@ use Rattle.std.specs.Prelude.{ℕ, zero, suc, ◌+◌, List, length, Option, Som
 use Rattle.chart_model.specs.Answers.{◌>>=◌, or_fault, or_fault_as}
 use Rattle.chart_model.specs.Cell.{CellValue}
 use Rattle.cell_bytes.specs.Generator.{modified_areas, made_cell, made_update}
-use Rattle.cell_bytes.specs.Written.{data_records, written}
+use Rattle.cell_bytes.specs.Written.{data_records, base_file_of}
 use Rattle.cell_bytes.specs.declared.fault.WriteFault.{WriteFault}
 use Rattle.cell_bytes.specs.declared.fault.WriteFault.TheVariants as of_write
 use Rattle.chart_store.specs.Loaded.{HoldingsByKey}
@@ -42,7 +42,7 @@ file_with records bytes = record { bytes = bytes; records = records }
 
 -- the base file of a cell
 abbrev pub base_of : CellValue → Result MadeFile LineRefusal
-base_of cell = or_refused (written cell) >>= λ bytes. Ok (file_with (length (data_records cell)) bytes)
+base_of cell = or_refused (base_file_of cell) >>= λ bytes. Ok (file_with (length (data_records cell)) bytes)
 
 -- an update: a record of general information, and one for each area that it modifies
 abbrev pub update_of : ℕ → ℕ → MadeFile
@@ -59,4 +59,4 @@ made_file areas (suc before) = Ok (update_of areas (suc before))
 unfoldable pub reissue_file : HoldingsByKey → List ℕ → Result (List ℕ) LineRefusal
 reissue_file cells key = do
   chart ← or_fault (Store (NoCell key)) (chart_of cells key)
-  or_refused (written chart)
+  or_refused (base_file_of chart)

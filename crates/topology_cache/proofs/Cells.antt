@@ -15,7 +15,7 @@ use Rattle.chart_model.proofs.Names.{name_cmp-total, name_cmp-IsAntisymmetric}
 use Rattle.chart_model.proofs.Maps.{tied}
 use Rattle.chart_model.proofs.SortedEntries.{first, second, less}
 use Rattle.topology_cache.specs.Users.{UsersValue, AreUsersOf, set_at, users_among, users_in, points_to_any}
-use Rattle.topology_cache.specs.Sets.{marked, AreRising, set_of, is_user, pointers_in, pointers_at}
+use Rattle.topology_cache.specs.Sets.{marked_names, AreRising, set_of, is_user, pointers_in, pointers_at}
 use Rattle.topology_cache.proofs.NameSets.{keys-set}
 
 both : (a b : Bool) → T a → T b → T (a && b)
@@ -25,12 +25,12 @@ both false b p q = absurd p
 -- ---- users stand in order
 
 below_among : (x edge : Name) (es : List (Name × Feature)) → T (below_all name_cmp x es)
-    → T (below_all name_cmp x (marked (users_among edge es)))
+    → T (below_all name_cmp x (marked_names (users_among edge es)))
 below_among x edge [] h = tt
 below_among x edge (e ∷ es) h =
     let rest = below_among x edge es (second _ _ h) in
     elim (points_to_any edge e.1.pointers) as (λ b. T (below_all name_cmp x
-    (marked (map (λ (p : Name × Feature). p.0) (cond b (e ∷ filter
+    (marked_names (map (λ (p : Name × Feature). p.0) (cond b (e ∷ filter
     (λ (p : Name × Feature). points_to_any edge p.1.pointers) es)
     (filter (λ (p : Name × Feature). points_to_any edge p.1.pointers) es)))))) [
       | true ↦ both _ _ (first _ _ h) rest
@@ -43,7 +43,7 @@ rising_among edge [] h = tt
 rising_among edge (e ∷ es) h =
     let rest = rising_among edge es (second _ _ h) in
     elim (points_to_any edge e.1.pointers) as (λ b. T (is_sorted name_cmp
-    (marked (map (λ (p : Name × Feature). p.0) (cond b (e ∷ filter
+    (marked_names (map (λ (p : Name × Feature). p.0) (cond b (e ∷ filter
     (λ (p : Name × Feature). points_to_any edge p.1.pointers) es)
     (filter (λ (p : Name × Feature). points_to_any edge p.1.pointers) es)))))) [
       | true ↦ both _ _ (below_among e.0 edge es (first _ _ h)) rest

@@ -14,15 +14,15 @@ use Rattle.chart_model.proofs.Maps.{insert-same}
 use Rattle.chart_model.proofs.Trees.{entries-empty}
 use Rattle.chart_model.proofs.Blocks as block
 use Rattle.topology_cache.specs.Users.{Names}
-use Rattle.topology_cache.specs.Sets.{marked, AreRising, set_of}
+use Rattle.topology_cache.specs.Sets.{marked_names, AreRising, set_of}
 
-pub names-marked : (names : List Name) → map (λ (e : Name × Unit {0}). e.0) (marked names) ≡ names
+pub names-marked : (names : List Name) → map (λ (e : Name × Unit {0}). e.0) (marked_names names) ≡ names
 names-marked [] = refl
 names-marked (name ∷ names) = ap (λ (l : List Name). name ∷ l) (names-marked names)
 
 pub keys-set : (names : List Name) → AreRising names → finite.keys (set_of names) ≡ names
 keys-set names rising = ap (map (λ (e : Name × Unit {0}). e.0))
-    (finite.entries-from_sorted name_cmp (marked names) rising) ∙ names-marked names
+    (finite.entries-from_sorted name_cmp (marked_names names) rising) ∙ names-marked names
 
 pub keys-empty : finite.keys (finite.empty {X = Unit {0}} {R = name_cmp}) ≡ []
 keys-empty = ap (map (λ (e : Name × Unit {0}). e.0)) (entries-empty name_cmp (Unit {0}))
@@ -30,7 +30,7 @@ keys-empty = ap (map (λ (e : Name × Unit {0}). e.0)) (entries-empty name_cmp (
 pub len-set : (names : List Name) → AreRising names → finite.len (set_of names) ≡ length names
 len-set names rising =
     finite.len-entries (set_of names)
-    ∙ ap length (finite.entries-from_sorted name_cmp (marked names) rising)
+    ∙ ap length (finite.entries-from_sorted name_cmp (marked_names names) rising)
     ∙ length-map names (λ (name : Name). (name, tt))
 
 module _ (names : List Name) (name : Name) (rising : AreRising names) where

@@ -12,15 +12,15 @@ use Rattle.topology_cache.specs.declared.usage.Use.{Use}
 use Rattle.topology_cache.specs.Users.{Names, UsersValue, HasNoEmpty, set_at, same_name, points_to_any}
 
 -- each of the names, with nothing
-abbrev pub marked : List Name → List (Name × Unit {0})
-marked names = map (λ name. (name, tt)) names
+abbrev pub marked_names : List Name → List (Name × Unit {0})
+marked_names names = map (λ name. (name, tt)) names
 
 -- each name is before the next
 abbrev pub AreRising : List Name → Type 0
-AreRising names = T (finite.is_sorted name_cmp (marked names))
+AreRising names = T (finite.is_sorted name_cmp (marked_names names))
 
 abbrev pub set_of : List Name → Names
-set_of names = finite.from_sorted (marked names)
+set_of names = finite.from_sorted (marked_names names)
 
 -- the feature with that name is a user of the edge
 abbrev pub is_user : UsersValue → Name → Name → Bool
