@@ -1,4 +1,4 @@
--- Areas that are put into groups.
+-- Extents that are put into groups.
 use Rattle.std.proofs.Common.{◌≡◌, ◌⊎◌, inl, inr, ℕ, ◌+◌, ◌<◌, ◌≤◌, true, false, List, [], ◌∷◌, ◌++◌, take, length, get_or, sym, ap, ◌∙◌, subst, arith}
 use Rattle.std.specs.Prelude.{◌==◌}
 use Rattle.std.specs.List.{Contains}
@@ -10,7 +10,7 @@ use Rattle.std.proofs.lemmas.List.Elements.{Contains-append_left, Contains-appen
 use Rattle.plane_geometry.specs.declared.point.Pt.{Pt}
 use Rattle.plane_bounds.specs.declared.bounds.Bounds.{Bounds}
 use Rattle.plane_bounds.specs.Bounds.{IsIn, Holds, RingsIn}
-use Rattle.depth_values.specs.DepthArea.{AreaValue}
+use Rattle.depth_values.specs.DepthArea.{ExtentValue}
 use Rattle.depth_values.specs.declared.groups.Group.{Group}
 use Rattle.depth_values.specs.Groups.{IsRound, IsGroup, IsGroupOf, StandsIn, AreGrouped}
 
@@ -29,38 +29,38 @@ pub rings_in_grown : (grown bounds : Bounds) (rings : List (List Pt)) → Holds 
 rings_in_grown grown bounds rings h q i ring lt j p within = in_grown grown bounds _ h (q i ring lt j p within)
 
 -- boxes are round places before a place of a list
-pub round_next : (areas : List AreaValue) (places : List ℕ) (i d : ℕ) (old new : Bounds) → i < length places → Holds new old → IsRound areas new (get_or places i d)
-    → ((k : ℕ) → Contains (take i places) k → IsRound areas old k) → (k : ℕ) → Contains (take (i + 1) places) k → IsRound areas new k
-round_next areas places i d old new lt grown here before k c =
+pub round_next : (extents : List ExtentValue) (places : List ℕ) (i d : ℕ) (old new : Bounds) → i < length places → Holds new old → IsRound extents new (get_or places i d)
+    → ((k : ℕ) → Contains (take i places) k → IsRound extents old k) → (k : ℕ) → Contains (take (i + 1) places) k → IsRound extents new k
+round_next extents places i d old new lt grown here before k c =
     elim (Contains-push_cases (take i places) (get_or places i d) k (subst (λ (l : List ℕ). Contains l k) (take_more places i d lt) c)) [
-      | inl q ↦ λ area there. rings_in_grown new old area.rings grown (before k q area there)
-      | inr e ↦ subst (IsRound areas new) e here
+      | inl q ↦ λ extent there. rings_in_grown new old extent.rings grown (before k q extent there)
+      | inr e ↦ subst (IsRound extents new) e here
     ]
 
-pub round_all : (areas : List AreaValue) (places : List ℕ) (i : ℕ) (bounds : Bounds) → length places ≤ i → ((k : ℕ) → Contains (take i places) k → IsRound areas bounds k)
-    → (k : ℕ) → Contains places k → IsRound areas bounds k
-round_all areas places i bounds past h = subst (λ (l : List ℕ). (k : ℕ) → Contains l k → IsRound areas bounds k) (take_all i places past) h
+pub round_all : (extents : List ExtentValue) (places : List ℕ) (i : ℕ) (bounds : Bounds) → length places ≤ i → ((k : ℕ) → Contains (take i places) k → IsRound extents bounds k)
+    → (k : ℕ) → Contains places k → IsRound extents bounds k
+round_all extents places i bounds past h = subst (λ (l : List ℕ). (k : ℕ) → Contains l k → IsRound extents bounds k) (take_all i places past) h
 
 -- ---- groups
 
 -- of some places each is left, or stands in a group
-pub record AreCovered (areas : List AreaValue) (places rest : List ℕ) (groups : List Group) : Type 0 where
-  pub each : (group : Group) → Contains groups group → IsGroup areas group
+pub record AreCovered (extents : List ExtentValue) (places rest : List ℕ) (groups : List Group) : Type 0 where
+  pub each : (group : Group) → Contains groups group → IsGroup extents group
   pub all : (k : ℕ) → Contains places k → Contains rest k ⊎ StandsIn groups k
 
-pub covered_none_yet : (areas : List AreaValue) (places : List ℕ) (groups : List Group) → groups ≡ [] → AreCovered areas places places groups
-covered_none_yet areas places groups none = record {
+pub covered_none_yet : (extents : List ExtentValue) (places : List ℕ) (groups : List Group) → groups ≡ [] → AreCovered extents places places groups
+covered_none_yet extents places groups none = record {
   each = λ group c. absurd (let d = subst (λ (l : List Group). Contains l group) none c in omega (arith, d.1));
   all = λ k c. inl c;
 }
 
-pub covered_next : (areas : List AreaValue) (places rest front others : List ℕ) (group : Group) (old new : List Group) → rest ≡ front ++ others → IsGroupOf areas front group
-    → new ≡ old ++ group ∷ [] → AreCovered areas places rest old → AreCovered areas places others new
-covered_next areas places rest front others group old new parts of pushed h = record {
+pub covered_next : (extents : List ExtentValue) (places rest front others : List ℕ) (group : Group) (old new : List Group) → rest ≡ front ++ others → IsGroupOf extents front group
+    → new ≡ old ++ group ∷ [] → AreCovered extents places rest old → AreCovered extents places others new
+covered_next extents places rest front others group old new parts of pushed h = record {
   each = λ other c.
       elim (Contains-push_cases old group other (subst (λ (l : List Group). Contains l other) pushed c)) [
         | inl q ↦ h.each other q
-        | inr e ↦ subst (IsGroup areas) e of.round
+        | inr e ↦ subst (IsGroup extents) e of.round
       ];
   all = λ k c.
       elim (h.all k c) [
@@ -72,9 +72,9 @@ covered_next areas places rest front others group old new parts of pushed h = re
       ];
 }
 
-pub covered_all : (areas : List AreaValue) (places rest : List ℕ) (groups : List Group) → ((k : ℕ) → k < length areas → Contains places k) → length rest ≡ 0
-    → AreCovered areas places rest groups → AreGrouped areas groups
-covered_all areas places rest groups whole none h = record {
+pub covered_all : (extents : List ExtentValue) (places rest : List ℕ) (groups : List Group) → ((k : ℕ) → k < length extents → Contains places k) → length rest ≡ 0
+    → AreCovered extents places rest groups → AreGrouped extents groups
+covered_all extents places rest groups whole none h = record {
   each = h.each;
   all = λ k lt. elim (h.all k (whole k lt)) [ inl r ↦ absurd (omega (arith, r.1, none)) | inr s ↦ s ];
 }

@@ -1,7 +1,11 @@
 pub mod SmallDepths
+pub mod Pointers
+pub mod Found
+pub mod Covering
 pub mod Grouped
 pub mod Asking
 pub mod Rising
 pub mod Marks
 pub mod Leasts
 pub mod Written
+pub mod HazardsUnder

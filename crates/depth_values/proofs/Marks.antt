@@ -6,13 +6,16 @@ use Rattle.std.specs.List.Sorted.{IsStrictlyIncreasing}
 use Rattle.std.proofs.lemmas.List.Kept.{AllPairs-from_increasing}
 use Rattle.chart_model.specs.declared.name.Name.{Name}
 use Rattle.plane_geometry.specs.declared.point.Pt.{Pt}
+use Rattle.plane_bounds.specs.Inside.{is_inside}
 use Rattle.depth_values.specs.DepthArea.{AreaValue}
-use Rattle.depth_values.specs.declared.under.AreaMark.{AreaMark}
+use Rattle.depth_values.specs.declared.depth_area.AreaMark.{AreaMark}
 use Rattle.depth_values.specs.Asked.{AreHolding}
 use Rattle.depth_values.specs.Marks.{mark_of, mark_at}
 use Rattle.depth_values.specs.Under.{areas_holding}
-use Rattle.depth_values.proofs.Asking.{holds}
 use Rattle.depth_values.proofs.Rising.{picked_all}
+
+abbrev holds : List Pt → AreaValue → Bool
+holds points area = list_any (λ p. is_inside p area.rings) points
 
 -- at the places of the areas that hold one of the points stand those areas
 pub marks_all : (points : List Pt) (areas : List AreaValue) (places : List ℕ) → AreHolding points areas places → IsStrictlyIncreasing places

@@ -1,5 +1,5 @@
--- A depth area, as contracts see it.
-use Rattle.std.specs.Prelude.{ℤ, List}
+-- Depth areas and what they cover, as contracts see them.
+use Rattle.std.specs.Prelude.{ℕ, ℤ, List}
 use Rattle.chart_model.specs.declared.name.Name.{Name}
 use Rattle.plane_geometry.specs.declared.point.Pt.{Pt}
 
@@ -8,3 +8,8 @@ pub record AreaValue : Type 0 where
   pub name : Name
   pub d1 : ℤ
   pub rings : List (List Pt)
+
+-- rings, and the places of the areas that have just these
+pub record ExtentValue : Type 0 where
+  pub rings : List (List Pt)
+  pub places : List ℕ

@@ -2,9 +2,12 @@ pub mod Codes
 pub mod Attributes
 pub mod Area
 pub mod DepthArea
+pub mod Extent
+pub mod Covering
 pub mod Groups
 pub mod Asked
 pub mod Under
+pub mod Made
 pub mod Marks
 pub mod Safety
 pub mod Hazard

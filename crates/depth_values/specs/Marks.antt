@@ -1,7 +1,7 @@
 -- What is told of an area that is under an object.
 use Rattle.std.specs.Prelude.{ℕ, List, Option, option_map, slice_get}
 use Rattle.depth_values.specs.DepthArea.{AreaValue}
-use Rattle.depth_values.specs.declared.under.AreaMark.{AreaMark}
+use Rattle.depth_values.specs.declared.depth_area.AreaMark.{AreaMark}
 
 -- its name, and the least of its depths in centimetres
 abbrev pub mark_of : AreaValue → AreaMark

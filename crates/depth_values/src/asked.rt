@@ -1,6 +1,6 @@
 //! Which depth areas hold one of some points.
 //!
-//! Only the areas of those groups are asked whose box meets the box round the points.
+//! Only what areas cover is asked, and of that only the groups whose box meets the box round the points.
 
 ghost use Rattle.std.specs.Prelude.{◌≡◌, All, Contains, OnOk, IfOk};
 ghost use Rattle.std.specs.List.Sorted.{IsStrictlyIncreasing};
@@ -9,8 +9,8 @@ ghost use Rattle.depth_values.specs.Groups.{IsGroup, AreGrouped, StandsIn};
 ghost use Rattle.depth_values.specs.Asked.{AreAsked, AreHolding};
 
 use crate::areas::DepthAreas;
-use crate::depth_area::DepthArea;
 use crate::effort::Effort;
+use crate::extent::Extent;
 use crate::groups::Group;
 use plane_bounds::{Bounds, insides_are_in_bounds, points_are_inside};
 use plane_geometry::Pt;
@@ -27,79 +27,80 @@ fn bounds_round(points: &[Pt]) -> Bounds
     bounds
 }
 
-/// Adds a place, where the area there holds one of the points.
-fn push_place(
+/// Adds the places of the areas that cover the extent at a place, where it holds one of the points.
+fn push_extent(
     effort: &mut Effort,
     held: &mut Vec<usize>,
-    areas: &[DepthArea],
+    extents: &[Extent],
     points: &[Pt],
     place: usize,
 ) -> Result<(), AllocError>
-    ensures { OnOk result (AreAsked points.now areas.now (λ asked. asked ≡ place) held.old.items held.new.items) }
+    ensures { OnOk result (AreAsked points.now extents.now (λ asked. asked ≡ place) held.old.items held.new.items) }
 {
-    let Some(area) = areas.get(place) else {
+    let Some(extent) = extents.get(place) else {
         return Ok(());
     };
-    let holds = area.holds_any(effort, points)?;
+    let holds = extent.holds_any(effort, points)?;
     if holds {
-        held.push(place)?;
+        effort.spend(extent.count())?;
+        extent.push_places(held)?;
     }
     Ok(())
 }
 
-/// Adds those of some places where the area holds one of the points.
-fn push_places(
+/// Adds the places of the areas that cover the extents at some places, where these hold one of the points.
+fn push_extents(
     effort: &mut Effort,
     held: &mut Vec<usize>,
-    areas: &[DepthArea],
+    extents: &[Extent],
     points: &[Pt],
     places: &[usize],
 ) -> Result<(), AllocError>
-    ensures { OnOk result (AreAsked points.now areas.now (Contains places.now) held.old.items held.new.items) }
+    ensures { OnOk result (AreAsked points.now extents.now (Contains places.now) held.old.items held.new.items) }
 {
     for place in places {
-        push_place(effort, held, areas, points, *place)?;
+        push_extent(effort, held, extents, points, *place)?;
     }
     Ok(())
 }
 
-/// Adds those places of a group where the area holds one of the points, which are all in a box. Where the boxes don't
-/// meet there is none.
+/// Adds the places of the areas that cover the extents of a group, where these hold one of the points, which are all in
+/// a box. Where the boxes don't meet there is none.
 fn push_group(
     effort: &mut Effort,
     held: &mut Vec<usize>,
-    areas: &[DepthArea],
+    extents: &[Extent],
     points: &[Pt],
     bounds: Bounds,
     group: &Group,
 ) -> Result<(), AllocError>
-    requires round { IsGroup areas.now group.now }
+    requires round { IsGroup extents.now group.now }
     requires within { All (IsIn bounds) points.now }
     ensures { OnOk result
-        (AreAsked points.now areas.now (Contains group.now.places.items) held.old.items held.new.items) }
+        (AreAsked points.now extents.now (Contains group.now.places.items) held.old.items held.new.items) }
 {
     points_are_inside();
     insides_are_in_bounds();
     if group.bounds.meets(bounds) {
-        return push_places(effort, held, areas, points, group.places.as_slice());
+        return push_extents(effort, held, extents, points, group.places.as_slice());
     }
     Ok(())
 }
 
-/// Adds those places of groups where the area holds one of the points.
+/// Adds the places of the areas that cover the extents of groups, where these hold one of the points.
 fn push_groups(
     effort: &mut Effort,
     held: &mut Vec<usize>,
-    areas: &[DepthArea],
+    extents: &[Extent],
     points: &[Pt],
     groups: &[Group],
 ) -> Result<(), AllocError>
-    requires { AreGrouped areas.now groups.now }
-    ensures { OnOk result (AreAsked points.now areas.now (StandsIn groups.now) held.old.items held.new.items) }
+    requires { AreGrouped extents.now groups.now }
+    ensures { OnOk result (AreAsked points.now extents.now (StandsIn groups.now) held.old.items held.new.items) }
 {
     let bounds = bounds_round(points);
     for group in groups {
-        push_group(effort, held, areas, points, bounds, group)?;
+        push_group(effort, held, extents, points, bounds, group)?;
     }
     Ok(())
 }
@@ -115,7 +116,14 @@ pub(crate) fn places_holding(
     ensures ordered { IfOk result (λ places. IsStrictlyIncreasing places.items) }
 {
     let mut held = Vec::new(alloc);
-    push_groups(effort, &mut held, areas.as_slice(), points, areas.groups())?;
+    let extents = areas.extents();
+    push_groups(
+        effort,
+        &mut held,
+        extents.as_slice(),
+        points,
+        extents.groups(),
+    )?;
     held.sort()?;
     held.dedup();
     Ok(held)

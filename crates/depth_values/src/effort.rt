@@ -13,6 +13,9 @@ const MOST_TESTS: usize = 300_000_000;
 /// The most points of a shape, and of the rings of all depth areas of a chart, so that they fit in memory.
 pub(crate) const MOST_POINTS: usize = 16_777_216;
 
+/// The most segments of the strips of all depth areas of a chart, so that they take 64 MB.
+const MOST_SEGMENTS: usize = 4_194_304;
+
 /// How much more work is done for a drawing or a report. Contracts see the number.
 #[derive(Debug, Drop)]
 pub struct Effort {
@@ -42,6 +45,15 @@ impl Effort {
         ensures { result ≡ 16777216 }
     {
         Effort { left: MOST_POINTS }
+    }
+
+    /// That of the strips of the depth areas of a chart, which counts their segments.
+    pub(crate) fn of_strips() -> Effort
+        ensures { result ≡ 4194304 }
+    {
+        Effort {
+            left: MOST_SEGMENTS,
+        }
     }
 
     /// Takes some tests of a point against a segment, or other work that costs as much.

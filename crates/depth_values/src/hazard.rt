@@ -4,14 +4,14 @@
 //! doesn't: the depth, the areas in which the hazard lies, its category, the water level. A hazard of which nothing is
 //! said dries 15 metres, so that what nobody knows counts as shallow.
 
-ghost use Rattle.std.specs.Prelude.{◌≡◌, Some, IfOk, IfSome};
+ghost use Rattle.std.specs.Prelude.{◌≡◌, ◌&&◌, if◌then◌else◌, int_le, map, true, false, None, Some, IfOk, IfSome};
 ghost use Rattle.chart_model.specs.Record.{IsWithin};
-ghost use Rattle.depth_values.specs.Under.{areas_of};
+ghost use Rattle.depth_values.specs.Under.{areas_of, is_safe_among, least};
 ghost use Rattle.depth_values.specs.Hazard.{sounding_of, is_wreck, is_obstruction, lies_at_bottom};
 ghost use Rattle.depth_values.specs.Hazard.{asks_areas, depth_among, assumed_depth, first_depth};
 ghost use Rattle.depth_values.specs.Hazard.{hazard_depth, hazard_depth_by};
 
-use crate::areas::{DepthAreas, depth_areas};
+use crate::areas::DepthAreas;
 use crate::attributes::{depth_at, has_value};
 use crate::bounded::shape_within;
 use crate::codes::{
@@ -19,8 +19,10 @@ use crate::codes::{
     FOUL_AREA, NON_DANGEROUS_WRECK, OBSTRN, VALSOU, WATLEV, WITHIN_DEPTHS_AROUND, WRECK_WITH_HULL,
     WRECK_WITH_MAST, WRECKS,
 };
+use crate::depth_area::AreaMark;
 use crate::effort::Effort;
-use crate::under::least_among;
+use crate::made::depth_areas;
+use crate::under::{is_any_safe, least_among, least_of, marks_under};
 use area_rings::Shape;
 use chart_model::{Cell, Feature};
 use std::alloc::{AllocError, Global};
@@ -135,8 +137,7 @@ pub fn hazard_depth(alloc: Global, cell: &Cell, feature: &Feature) -> Result<i32
         return Ok(first_depth(feature, None));
     }
     let areas = depth_areas(alloc, cell)?;
-    let below = depth_among(alloc, &mut Effort::whole(), &areas, cell, feature)?;
-    Ok(first_depth(feature, below))
+    hazard_depth_among(alloc, &mut Effort::whole(), &areas, cell, feature)
 }
 
 /// The same by the depth areas of the cell, which a drawing makes once. The shape of the feature is made only where the
@@ -173,4 +174,49 @@ pub fn hazard_depth_at(
     }
     let below = least_among(alloc, effort, areas, shape)?;
     Ok(first_depth(feature, below))
+}
+
+/// The depth over a hazard, by what is told of the areas under it.
+fn depth_over(feature: &Feature, under: &[AreaMark]) -> i32
+    ensures { result ≡ first_depth feature.now
+        (if asks_areas feature.now then least (map (λ mark. mark.d1) under.now) else None) }
+{
+    if asks_areas(feature) {
+        first_depth(feature, least_of(under))
+    } else {
+        first_depth(feature, None)
+    }
+}
+
+/// Whether a hazard is deeper than the safety contour, whatever areas are under it. Where it isn't said to be, the areas
+/// are asked: nothing that is answered hangs on it, but how fast.
+fn is_deep_anywhere(feature: &Feature, safety_contour: i32) -> bool
+    ensures { result ≡ true →
+        (asks_areas feature.now ≡ false) × (int_le (first_depth feature.now None) safety_contour ≡ false) }
+{
+    !asks_areas(feature) && safety_contour < first_depth(feature, None)
+}
+
+/// Whether a hazard of such a shape is no deeper than the safety contour, in centimetres, and over a safe area: one of
+/// those in or on which a point of the shape lies. The areas are asked once, for the depth and for this.
+pub fn is_danger_over_safe_area(
+    alloc: Global,
+    effort: &mut Effort,
+    areas: &DepthAreas,
+    safety_contour: i32,
+    feature: &Feature,
+    shape: &Shape,
+) -> Result<bool, AllocError>
+    ensures { IfOk result (λ danger. danger
+        ≡ (int_le (hazard_depth_by areas.now (Some shape.now) feature.now) safety_contour
+        && is_safe_among areas.now safety_contour shape.now)) }
+{
+    if is_deep_anywhere(feature, safety_contour) {
+        return Ok(false);
+    }
+    let under = marks_under(alloc, effort, areas, shape)?;
+    if safety_contour < depth_over(feature, under.as_slice()) {
+        return Ok(false);
+    }
+    Ok(is_any_safe(under.as_slice(), safety_contour))
 }

@@ -15,22 +15,28 @@ mod depth_area;
 mod digit_items;
 mod digits;
 mod effort;
+mod extent;
+mod extents;
 mod groups;
 mod hazard;
 mod laws;
+mod made;
 mod safety;
+mod twins;
 mod under;
 
 pub use area::{Depths, area_depths};
-pub use areas::{DepthAreas, depth_areas};
+pub use areas::DepthAreas;
 pub use attributes::{depth_at, has_value};
 pub use bounded::shape_within;
 pub use cells::CellList;
-pub use depth_area::DepthArea;
 pub use digit_items::push_digits;
 pub use digits::{Digits, digit_cells};
 pub use effort::Effort;
-pub use hazard::{hazard_depth, hazard_depth_among, hazard_depth_at, sounding};
+pub use hazard::{
+    hazard_depth, hazard_depth_among, hazard_depth_at, is_danger_over_safe_area, sounding,
+};
 pub use laws::{digits_write_depths, least_is_least};
+pub use made::depth_areas;
 pub use safety::{is_safe_area, is_safe_area_with, is_unsafe_area};
-pub use under::{areas_among, areas_under, is_safe_among};
+pub use under::{areas_among, areas_under};

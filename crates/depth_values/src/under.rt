@@ -8,24 +8,17 @@ ghost use Rattle.std.specs.List.{list_any, flat_map, filter_map};
 ghost use Rattle.area_rings.specs.Edge.{point_of};
 ghost use Rattle.depth_values.specs.Marks.{mark_of, mark_at};
 ghost use Rattle.depth_values.specs.Under.{points_in, areas_holding, names_among, lesser, least, least_among};
-ghost use Rattle.depth_values.specs.Under.{is_safe_among, areas_under};
+ghost use Rattle.depth_values.specs.Under.{areas_under};
 
-use crate::areas::{DepthAreas, depth_areas};
+use crate::areas::DepthAreas;
 use crate::asked::places_holding;
-use crate::depth_area::DepthArea;
+use crate::depth_area::AreaMark;
 use crate::effort::Effort;
+use crate::made::depth_areas;
 use area_rings::{Shape, point};
-use chart_model::{Cell, Coord, Name, NameList, Sequence};
+use chart_model::{Cell, Coord, NameList, Sequence};
 use plane_geometry::Pt;
 use std::alloc::{AllocError, Global};
-
-/// What is told of an area that is under an object.
-#[derive(Clone, Copy, Debug)]
-struct AreaMark {
-    name: Name,
-    /// The least of its depths, in centimetres.
-    d1: i32,
-}
 
 /// Adds the points of coordinates.
 fn push_places(points: &mut Vec<Pt>, coords: &[Coord]) -> Result<(), AllocError>
@@ -58,28 +51,17 @@ fn points_in(alloc: Global, shape: &Shape) -> Result<Vec<Pt>, AllocError>
     Ok(points)
 }
 
-/// What is told of the area at a place.
-fn mark_at(areas: &[DepthArea], place: usize) -> Option<AreaMark>
-    ensures { result ≡ mark_at areas.now place }
-{
-    let area = areas.get(place)?;
-    Some(AreaMark {
-        name: area.name(),
-        d1: area.d1(),
-    })
-}
-
 /// What is told of the areas at some places.
 fn marks_at(
     alloc: Global,
-    areas: &[DepthArea],
+    areas: &DepthAreas,
     places: &[usize],
 ) -> Result<Vec<AreaMark>, AllocError>
     ensures { IfOk result (λ marks. marks.items ≡ filter_map (mark_at areas.now) places.now) }
 {
     let mut marks = Vec::new(alloc);
     for place in places {
-        if let Some(mark) = mark_at(areas, *place) {
+        if let Some(mark) = areas.mark_at(*place) {
             marks.push(mark)?;
         }
     }
@@ -87,7 +69,7 @@ fn marks_at(
 }
 
 /// What is told of those areas in or on which a point of the shape lies, in their order.
-fn marks_under(
+pub(crate) fn marks_under(
     alloc: Global,
     effort: &mut Effort,
     areas: &DepthAreas,
@@ -98,7 +80,7 @@ fn marks_under(
     let points = points_in(alloc, shape)?;
     effort.spend(points.len())?;
     let places = places_holding(alloc, effort, areas, points.as_slice())?;
-    let marks = marks_at(alloc, areas.as_slice(), places.as_slice())?;
+    let marks = marks_at(alloc, areas, places.as_slice())?;
     Ok(marks)
 }
 
@@ -133,7 +115,7 @@ fn lesser(other: Option<i32>, n: i32) -> Option<i32>
 }
 
 /// The least depth of areas, in centimetres; `None` where there is none.
-fn least_of(marks: &[AreaMark]) -> Option<i32>
+pub(crate) fn least_of(marks: &[AreaMark]) -> Option<i32>
     ensures { result ≡ least (map (λ mark. mark.d1) marks.now) }
 {
     let mut least: Option<i32> = None;
@@ -159,26 +141,10 @@ pub(crate) fn least_among(
 }
 
 /// Whether one of the areas is the safety contour deep or more, in centimetres.
-fn is_any_safe(marks: &[AreaMark], safety_contour: i32) -> bool
+pub(crate) fn is_any_safe(marks: &[AreaMark], safety_contour: i32) -> bool
     ensures { result ≡ list_any (λ mark. int_le safety_contour mark.d1) marks.now }
 {
     marks.iter().any(|mark| safety_contour <= mark.d1)
-}
-
-/// Whether one of those areas in or on which a point of the shape lies is safe: its least depth is the safety contour,
-/// in centimetres, or more.
-pub fn is_safe_among(
-    alloc: Global,
-    effort: &mut Effort,
-    areas: &DepthAreas,
-    safety_contour: i32,
-    shape: &Shape,
-) -> Result<bool, AllocError>
-    ensures { IfOk result (λ safe. safe ≡ is_safe_among areas.now safety_contour shape.now) }
-{
-    let marks = marks_under(alloc, effort, areas, shape)?;
-    let safe = is_any_safe(marks.as_slice(), safety_contour);
-    Ok(safe)
 }
 
 /// The names of the depth areas and dredged areas of the cell in or on which a point of the shape lies, in order:

@@ -13,7 +13,7 @@ use crate::symbol::symbol_of;
 use area_rings::Shape;
 use chart_model::{Cell, Feature, ItemList, Settings, Target};
 use depth_values::{
-    DepthAreas, Effort, hazard_depth_at, is_safe_among, push_digits, shape_within, sounding,
+    DepthAreas, Effort, is_danger_over_safe_area, push_digits, shape_within, sounding,
 };
 use draw_items::push_item;
 use std::alloc::{AllocError, Global};
@@ -57,7 +57,7 @@ fn spend_places(effort: &mut Effort, shape: &Shape) -> Result<(), AllocError> {
 }
 
 /// Whether a hazard at a point is an isolated danger: no deeper than the safety contour, in water that is safe. Its
-/// shape is made once, for its depth and for the areas under it.
+/// shape is made once, and the areas under it are asked once.
 fn is_isolated(
     alloc: Global,
     effort: &mut Effort,
@@ -73,11 +73,7 @@ fn is_isolated(
         return Ok(false);
     };
     spend_places(effort, &shape)?;
-    let depth = hazard_depth_at(alloc, effort, areas, feature, &shape)?;
-    if safety_contour < depth {
-        return Ok(false);
-    }
-    is_safe_among(alloc, effort, areas, safety_contour, &shape)
+    is_danger_over_safe_area(alloc, effort, areas, safety_contour, feature, &shape)
 }
 
 /// Adds the symbol and the digits of a hazard's own depth, where that is known, or else the symbol of its class.

@@ -3,6 +3,8 @@ mod areas_under;
 mod digits;
 mod hazard_depths;
 mod hazards;
+mod large_areas;
 mod many_areas;
 mod safety;
+mod shared_areas;
 mod squares;

@@ -5,5 +5,5 @@ use Rattle.depth_values.proofs.asked.push_group.Goals as goal
 
 pub returns : goal.returns
 returns c =
-    group_apart c.args.points.now c.args.areas.now c.points_are_inside.ensures c.insides_are_in_bounds.ensures c.args.group.now c.args.bounds c.args.held.now.items c.requires.round
+    group_apart c.args.points.now c.args.extents.now c.points_are_inside.ensures c.insides_are_in_bounds.ensures c.args.group.now c.args.bounds c.args.held.now.items c.requires.round
     c.requires.within (λ m. false≢true (sym c.if-meets.false ∙ c.meets.ensures.1 m))

@@ -7,8 +7,8 @@ loop-place-init c = λ k q. absurd (omega (arith, q.1))
 
 pub loop-place-preserved : goal.loop-place-preserved
 loop-place-preserved c =
-    round_next c.args.areas.now c.args.places.now c.loop-place.place-index _ c.loop-place.bounds c.with_area-bounds.result c.loop-place-test.true c.with_area-bounds.ensures.kept
-    c.with_area-bounds.ensures.there c.loop-place.invariant
+    round_next c.args.extents.now c.args.places.now c.loop-place.place-index _ c.loop-place.bounds c.with_extent-bounds.result c.loop-place-test.true c.with_extent-bounds.ensures.kept
+    c.with_extent-bounds.ensures.there c.loop-place.invariant
 
 pub returns : goal.returns
-returns c = round_all c.args.areas.now c.args.places.now c.loop-place.place-index c.loop-place.bounds (omega (arith, c.loop-place-test.false)) c.loop-place.invariant
+returns c = round_all c.args.extents.now c.args.places.now c.loop-place.place-index c.loop-place.bounds (omega (arith, c.loop-place-test.false)) c.loop-place.invariant

@@ -1,5 +1,5 @@
 use Rattle.std.proofs.Common.{List, map, ap, ◌∙◌}
-use Rattle.depth_values.specs.declared.under.AreaMark.{AreaMark}
+use Rattle.depth_values.specs.declared.depth_area.AreaMark.{AreaMark}
 use Rattle.depth_values.specs.Under.{points_in, areas_holding, least}
 use Rattle.depth_values.proofs.Marks.{depths_told}
 use Rattle.depth_values.proofs.under.least_among.Goals as goal

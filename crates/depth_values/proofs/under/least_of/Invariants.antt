@@ -1,6 +1,6 @@
 use Rattle.std.proofs.Common.{◌≡◌, map, drop, None}
 use Rattle.std.specs.List.{fold}
-use Rattle.depth_values.specs.declared.under.AreaMark.{AreaMark}
+use Rattle.depth_values.specs.declared.depth_area.AreaMark.{AreaMark}
 use Rattle.depth_values.specs.Under.{lesser}
 use Rattle.depth_values.proofs.under.least_of.Given as goal
 

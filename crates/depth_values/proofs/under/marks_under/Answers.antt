@@ -9,6 +9,6 @@ use Rattle.depth_values.proofs.under.marks_under.Goals as goal
 pub returns : goal.returns
 returns c =
     c.in_ok-marks.ensures
-    ∙ (λ i. filter_map (mark_at (c.as_slice-2.ensures i)) (c.as_slice-3.ensures.value i))
+    ∙ (λ i. filter_map (mark_at c.args.areas.now) (c.as_slice-2.ensures.value i))
     ∙ marks_all c.as_slice.result.now c.args.areas.now c.in_ok-places.places.items c.in_ok-places.ensures.held c.in_ok-places.ensures.ordered
     ∙ ap (λ (points : List Pt). map mark_of (areas_holding points c.args.areas.now)) (c.as_slice.ensures.value ∙ c.in_ok-points.ensures)

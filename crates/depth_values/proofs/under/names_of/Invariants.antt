@@ -1,5 +1,5 @@
 use Rattle.std.proofs.Common.{◌≡◌, map, take}
-use Rattle.depth_values.specs.declared.under.AreaMark.{AreaMark}
+use Rattle.depth_values.specs.declared.depth_area.AreaMark.{AreaMark}
 use Rattle.depth_values.proofs.under.names_of.Given as goal
 
 abbrev pub invariant-loop-mark : goal.invariant-loop-mark

@@ -2,7 +2,7 @@ use Rattle.std.proofs.Common.{◌≡◌, drop}
 use Rattle.std.specs.List.{list_any}
 use Rattle.plane_geometry.specs.declared.point.Pt.{Pt}
 use Rattle.plane_bounds.specs.Inside.{is_inside}
-use Rattle.depth_values.proofs.depth_area.DepthArea.holds_any.Given as goal
+use Rattle.depth_values.proofs.extent.Extent.holds_any.Given as goal
 
 abbrev pub invariant-loop-p : goal.invariant-loop-p
 invariant-loop-p l =

@@ -1,7 +1,0 @@
-use Rattle.std.proofs.Common.{take}
-use Rattle.std.specs.List.{Contains}
-use Rattle.depth_values.specs.Asked.{AreAsked}
-use Rattle.depth_values.proofs.asked.push_places.Given as goal
-
-abbrev pub invariant-loop-place : goal.invariant-loop-place
-invariant-loop-place l = AreAsked l.points l.areas (Contains (take l.place-index l.places)) l.initial.held.items l.held.items

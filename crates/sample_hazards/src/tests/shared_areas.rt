@@ -1,0 +1,100 @@
+//! Areas that have the same rings, among others that begin with the same edge.
+
+use crate::tests::squares::{BETWEEN, DEEP, SHALLOW, SQUARES, object};
+use area_rings::{Shape, feature_shape};
+use chart_model::Cell;
+use depth_values::codes::WRECKS;
+use depth_values::{Effort, areas_under, depth_areas, hazard_depth, is_danger_over_safe_area};
+use sample_rows::{Item, Row, Setting, add_rows, chart, feature, name};
+use std::alloc::Global;
+use std::test::Fail;
+
+/// The number of the first of the areas. Those with odd numbers are in the place of the first square.
+const FIRST: u32 = 1_001;
+
+/// The number of the last.
+const LAST: u32 = 1_300;
+
+/// The numbers of the only areas of 30 metres and of 1, one in each square.
+const DEEPEST: u32 = 1_151;
+
+const SHOAL: u32 = 1_200;
+
+/// The squares, and 300 areas of 2 metres by turns in the place of one and of the other: all begin with the edge
+/// between the squares. A wreck at their bottom has its node at a place.
+fn shared_areas(alloc: Global, place: &'static [Item]) -> Result<Cell, Fail> {
+    let mut cell = chart(alloc, &SQUARES)?;
+    for number in FIRST..=LAST {
+        let depth: &'static [Setting] = match number {
+            DEEPEST => &[(87, b"30")],
+            SHOAL => &[(87, b"1")],
+            _ => &[(87, b"2")],
+        };
+        let pointers: &'static [Item] = if number % 2 == 1 {
+            &[(130, 1, 1), (130, 2, 1)]
+        } else {
+            &[(130, 1, 2), (130, 3, 2)]
+        };
+        let row = Row {
+            attrs: depth,
+            pointers,
+            ..feature!(3, number, [])
+        };
+        add_rows(alloc, &mut cell, &[row])?;
+    }
+    let wreck = object(WRECKS, &[(187, b"3"), (93, b"1")], place);
+    add_rows(alloc, &mut cell, &[wreck])?;
+    Ok(cell)
+}
+
+/// The shape of the wreck.
+fn wreck_shape(alloc: Global, cell: &Cell) -> Result<Shape, Fail> {
+    let feature = cell.features.get(name!(100, 9)).ok_or("a feature")?;
+    Ok(feature_shape(alloc, cell, feature)?.ok_or("a shape")?)
+}
+
+/// Whether those areas are under the wreck whose numbers leave these rests by two, and some squares first.
+fn are_under(alloc: Global, cell: &Cell, squares: usize, rests: &[u32]) -> Result<bool, Fail> {
+    let names = areas_under(alloc, cell, &wreck_shape(alloc, cell)?)?;
+    let mut others = names.as_slice().iter().skip(squares);
+    for number in FIRST..=LAST {
+        if rests.contains(&(number % 2)) && others.next() != Some(&name!(100, number)) {
+            return Ok(false);
+        }
+    }
+    Ok(others.next().is_none())
+}
+
+/// The depth over the wreck.
+fn depth(alloc: Global, cell: &Cell) -> Result<i32, Fail> {
+    let feature = cell.features.get(name!(100, 9)).ok_or("a feature")?;
+    Ok(hazard_depth(alloc, cell, feature)?)
+}
+
+/// Whether the wreck is no deeper than a contour, and in an area that is so deep or more.
+fn is_danger(alloc: Global, cell: &Cell, contour: i32) -> Result<bool, Fail> {
+    let feature = cell.features.get(name!(100, 9)).ok_or("a feature")?;
+    let areas = depth_areas(alloc, cell)?;
+    let shape = wreck_shape(alloc, cell)?;
+    let effort = &mut Effort::whole();
+    Ok(is_danger_over_safe_area(alloc, effort, &areas, contour, feature, &shape)?)
+}
+
+// In one square, in the other and on the edge between them: the areas, the least depth, and whether one is safe.
+#[test]
+fn a_wreck_over_shared_areas(rt: HostRuntime) -> Result<(), Fail> {
+    let deep = shared_areas(rt.alloc(), DEEP)?;
+    assert!(rt; are_under(rt.alloc(), &deep, 1, &[1])?);
+    assert_eq!(rt; depth(rt.alloc(), &deep)?, 200);
+    assert!(rt; is_danger(rt.alloc(), &deep, 3_000)? && !is_danger(rt.alloc(), &deep, 3_001)?);
+    assert!(rt; is_danger(rt.alloc(), &deep, 200)? && !is_danger(rt.alloc(), &deep, 199)?);
+    let shallow = shared_areas(rt.alloc(), SHALLOW)?;
+    assert!(rt; are_under(rt.alloc(), &shallow, 1, &[0])?);
+    assert_eq!(rt; depth(rt.alloc(), &shallow)?, 100);
+    assert!(rt; is_danger(rt.alloc(), &shallow, 200)? && !is_danger(rt.alloc(), &shallow, 3_000)?);
+    let between = shared_areas(rt.alloc(), BETWEEN)?;
+    assert!(rt; are_under(rt.alloc(), &between, 2, &[0, 1])?);
+    assert_eq!(rt; depth(rt.alloc(), &between)?, 100);
+    assert!(rt; is_danger(rt.alloc(), &between, 3_000)?);
+    Ok(())
+}
