@@ -23,10 +23,11 @@ use Rattle.route_check.specs.Object.{ObjectValue}
 use Rattle.route_check.specs.Danger.{IsObject}
 use Rattle.route_check.specs.Grids.{GridValue, GridsValue, IsAsked}
 use Rattle.route_check.specs.Report.{IsRow, row_of, row_at, rows_of}
-use Rattle.route_check.specs.Ask.{suspect_in, objects_of_found, objects_named, rows_with, rows_asked, IsAsk, IsRowOn, IsRowUnder}
-use Rattle.route_check.proofs.Members.{Has, has_out, has_in, comes, goes}
+use Rattle.route_check.specs.Ask.{objects_of_found, objects_named, rows_with, rows_asked, IsAsk, IsRowOn, IsRowUnder}
+use Rattle.common_lemmas.proofs.Members.{Has, has_out, has_in}
+use Rattle.route_check.proofs.Members.{comes, goes}
 use Rattle.route_check.proofs.Held.{entry_held, held_entry}
-use Rattle.route_check.proofs.Dangerous.{one_has, object_out, object_in, suspect}
+use Rattle.route_check.proofs.Dangerous.{one_has, object_out, object_in}
 use Rattle.route_check.proofs.Meets.{Decides-shape}
 use Rattle.route_check.proofs.InOrder.{kind_of, cell_of}
 use Rattle.route_check.specs.Gains.{Gains}
@@ -79,7 +80,7 @@ module _ (grids : GridsValue) (state : StateValue) (settings : Settings) (route 
 
   wanted_of : (key : List ℕ) (holding : Holding) (cell : CellValue) (grid : GridValue) (ask : Ask) (d : Danger)
       → finite.get state.cells key ≡ Some holding → holding.chart ≡ Some cell → finite.get grids key ≡ Some grid
-      → IsAsk grid settings cell route ask → ask.name.rcnm ≡ FEATURE → IsMet settings key cell route ask d → IsWanted d
+      → IsAsk grid route ask → ask.name.rcnm ≡ FEATURE → IsMet settings key cell route ask d → IsWanted d
   wanted_of key holding cell grid ask d held charted there asked kind m =
       let o = m.object in
       let named = m.named in
@@ -155,7 +156,6 @@ module _ (grids : GridsValue) (state : StateValue) (settings : Settings) (route 
               leg = asked.leg;
               on_route = asked.on_route;
               candidate = asked.candidate;
-              suspect = ap (suspect_in settings) row.there ∙ suspect row.chart settings row.feature d.place row.shape row.dangerous;
             };
             row = has_in _ d there;
           };
@@ -173,7 +173,7 @@ module _ (grids : GridsValue) (state : StateValue) (settings : Settings) (route 
 -- ---- what a chart adds
 
 pub chart_gains : (grid : GridValue) (settings : Settings) (key : List ℕ) (cell : CellValue) (route : Route) (asks : List Ask) (old new : List Danger)
-    → ((ask : Ask) → Contains asks ask ↔ IsAsk grid settings cell route ask) → new ≡ old ++ flat_map (rows_asked settings key cell route) asks
+    → ((ask : Ask) → Contains asks ask ↔ IsAsk grid route ask) → new ≡ old ++ flat_map (rows_asked settings key cell route) asks
     → Gains (IsRowOn grid settings key cell route) old new
 chart_gains grid settings key cell route asks old new all e =
     gains_list (IsRowOn grid settings key cell route) old new (flat_map (rows_asked settings key cell route) asks) e (λ d. (

@@ -1,13 +1,11 @@
 -- The asks of the legs of a route, leg by leg.
-use Rattle.std.proofs.Common.{◌≡◌, ◌⊎◌, inl, inr, ℕ, ◌+◌, ◌<◌, ◌≤◌, List, [], ◌∷◌, ◌++◌, length, map, Some, refl, sym, ap, ◌∙◌, subst, arith, Bool, true, false, cond}
+use Rattle.std.proofs.Common.{◌≡◌, ◌⊎◌, inl, inr, ℕ, ◌+◌, ◌<◌, ◌≤◌, List, [], ◌∷◌, ◌++◌, length, map, Some, refl, sym, ap, ◌∙◌, subst, arith}
 use Rattle.std.specs.Prelude.{◌↔◌}
-use Rattle.std.specs.List.{Contains, slice_get, filter}
+use Rattle.std.specs.List.{Contains, slice_get}
 use Rattle.std.proofs.lemmas.Bool.{cases_lt}
 use Rattle.std.proofs.lemmas.Option.{slice_get_within}
 use Rattle.common_lemmas.proofs.Choices.{some_is}
 use Rattle.chart_model.specs.declared.name.Name.{Name}
-use Rattle.chart_model.specs.declared.settings.Settings.{Settings}
-use Rattle.chart_model.specs.Cell.{CellValue}
 use Rattle.route_geometry.specs.declared.leg.Leg.{Leg}
 use Rattle.spatial_grid.specs.Candidates.{IsCandidate, AreCandidates}
 use Rattle.route_check.specs.declared.asks.Ask.{Ask}
@@ -16,8 +14,8 @@ use Rattle.route_check.specs.Route.{legs_of}
 use Rattle.route_check.specs.Reach.{reach_of}
 use Rattle.route_check.specs.Gains.{Gains}
 use Rattle.route_check.specs.Grids.{GridValue}
-use Rattle.route_check.specs.Ask.{ask_for, is_suspect, IsAskOf, IsAsk}
-use Rattle.route_check.proofs.Members.{Has, has_out, has_in}
+use Rattle.route_check.specs.Ask.{ask_for, IsAskOf, IsAsk}
+use Rattle.common_lemmas.proofs.Members.{Has, has_out, has_in}
 use Rattle.route_check.proofs.Gaining.{gains_list, nothing}
 
 -- ---- the asks of a leg
@@ -40,46 +38,24 @@ for_in before [] ask h placed = absurd h
 for_in before (name ∷ names) ask (inl e) placed = inl (λ i. record { name = e i; before = sym placed i })
 for_in before (name ∷ names) ask (inr h) placed = inr (for_in before names ask h placed)
 
--- what a filter keeps
-
-kept_out : {X : Type 0} (p : X → Bool) (xs : List X) (x : X) → Has x (filter p xs) → Has x xs × (p x ≡ true)
-kept_out p [] x h = absurd h
-kept_out {X} p (y ∷ ys) x h = by (p y) refl h (kept_out p ys x)
-  where
-    by : (b : Bool) → p y ≡ b → Has x (cond b (y ∷ filter p ys) (filter p ys)) → (Has x (filter p ys) → Has x ys × (p x ≡ true)) → Has x (y ∷ ys) × (p x ≡ true)
-    by true is (inl e) later = (inl e, subst (λ (z : X). p z ≡ true) e is)
-    by true is (inr h) later = let r = later h in (inr r.0, r.1)
-    by false is h later = let r = later h in (inr r.0, r.1)
-
-kept_in : {X : Type 0} (p : X → Bool) (xs : List X) (x : X) → Has x xs → p x ≡ true → Has x (filter p xs)
-kept_in p [] x h is = absurd h
-kept_in p (y ∷ ys) x (inl e) is =
-    subst (λ (b : Bool). Has x (cond b (y ∷ filter p ys) (filter p ys))) (sym (ap p e ∙ is)) (inl e)
-kept_in p (y ∷ ys) x (inr h) is = later (p y) (kept_in p ys x h is)
-  where
-    later : (b : Bool) → Has x (filter p ys) → Has x (cond b (y ∷ filter p ys) (filter p ys))
-    later true g = inr g
-    later false g = g
-
-pub leg_gains : (grid : GridValue) (settings : Settings) (cell : CellValue) (leg : Leg) (before : ℕ) (names : List Name) (old new : List Ask) → AreCandidates grid (reach_of leg) names
-    → new ≡ old ++ map (ask_for before) (filter (is_suspect settings cell) names) → Gains (IsAskOf grid settings cell leg before) old new
-leg_gains grid settings cell leg before names old new candidates e =
-    gains_list (IsAskOf grid settings cell leg before) old new (map (ask_for before) (filter (is_suspect settings cell) names)) e (λ ask. (
+pub leg_gains : (grid : GridValue) (leg : Leg) (before : ℕ) (names : List Name) (old new : List Ask) → AreCandidates grid (reach_of leg) names
+    → new ≡ old ++ map (ask_for before) names → Gains (IsAskOf grid leg before) old new
+leg_gains grid leg before names old new candidates e =
+    gains_list (IsAskOf grid leg before) old new (map (ask_for before) names) e (λ ask. (
       λ h.
-          let f = for_out before (filter (is_suspect settings cell) names) ask (has_out _ ask h) in
-          let kept = kept_out (is_suspect settings cell) names ask.name f.named in
-          record { placed = f.placed; candidate = (candidates.all ask.name).0 (has_in names ask.name kept.0); suspect = kept.1 },
+          let f = for_out before names ask (has_out _ ask h) in
+          record { placed = f.placed; candidate = (candidates.all ask.name).0 (has_in names ask.name f.named) },
       λ is.
           let among = has_out names ask.name ((candidates.all ask.name).1 is.candidate) in
-          has_in _ ask (for_in before (filter (is_suspect settings cell) names) ask (kept_in (is_suspect settings cell) names ask.name among is.suspect) is.placed),
+          has_in _ ask (for_in before names ask among is.placed),
     ))
 
 -- ---- those of all legs
 
-module _ (grid : GridValue) (settings : Settings) (cell : CellValue) (route : Route) where
+module _ (grid : GridValue) (route : Route) where
   -- the asks are those of the first so many legs
   abbrev pub AreBefore : ℕ → List Ask → Type 0
-  AreBefore count asks = (ask : Ask) → Contains asks ask ↔ ((ask.before < count) × IsAsk grid settings cell route ask)
+  AreBefore count asks = (ask : Ask) → Contains asks ask ↔ ((ask.before < count) × IsAsk grid route ask)
 
   pub none_before : AreBefore 0 []
   none_before ask = (λ h. absurd (nothing ask h), λ p. absurd (omega (arith, p.0)))
@@ -88,30 +64,30 @@ module _ (grid : GridValue) (settings : Settings) (cell : CellValue) (route : Ro
   step k i lt = elim (cases_lt k i) [ inl h ↦ inl h | inr h ↦ inr (omega arith) ]
 
   pub next_before : (count : ℕ) (leg : Leg) (old new : List Ask) → slice_get (legs_of route) count ≡ Some leg → AreBefore count old
-      → Gains (IsAskOf grid settings cell leg count) old new → AreBefore (count + 1) new
+      → Gains (IsAskOf grid leg count) old new → AreBefore (count + 1) new
   next_before count leg old new there before gains ask = (
     λ h.
         elim ((gains ask).0 h) [
           | inl a ↦ let p = (before ask).0 a in (omega (arith, p.0), p.1)
           | inr is ↦ (
             omega (arith, is.placed),
-            record { leg = leg; on_route = ap (slice_get (legs_of route)) is.placed ∙ there; candidate = is.candidate; suspect = is.suspect },
+            record { leg = leg; on_route = ap (slice_get (legs_of route)) is.placed ∙ there; candidate = is.candidate },
           )
         ],
     λ p.
         (gains ask).1
         (elim (step ask.before count p.0) [
           | inl lt ↦ inl ((before ask).1 (lt, p.1))
-          | inr e ↦ inr (record { placed = e; candidate = of_leg ask p.1 e; suspect = p.1.suspect })
+          | inr e ↦ inr (record { placed = e; candidate = of_leg ask p.1 e })
         ]),
   )
     where
-      of_leg : (ask : Ask) → IsAsk grid settings cell route ask → ask.before ≡ count → IsCandidate grid (reach_of leg) ask.name
+      of_leg : (ask : Ask) → IsAsk grid route ask → ask.before ≡ count → IsCandidate grid (reach_of leg) ask.name
       of_leg ask is e =
           let same : is.leg ≡ leg = some_is is.leg leg (sym is.on_route ∙ ap (slice_get (legs_of route)) e ∙ there) in
           subst (λ (l : Leg). IsCandidate grid (reach_of l) ask.name) same is.candidate
 
-  pub all_before : (count : ℕ) (asks : List Ask) → length (legs_of route) ≤ count → AreBefore count asks → (ask : Ask) → Contains asks ask ↔ IsAsk grid settings cell route ask
+  pub all_before : (count : ℕ) (asks : List Ask) → length (legs_of route) ≤ count → AreBefore count asks → (ask : Ask) → Contains asks ask ↔ IsAsk grid route ask
   all_before count asks past before ask = (
     λ h. ((before ask).0 h).1,
     λ is.

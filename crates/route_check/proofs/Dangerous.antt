@@ -19,8 +19,9 @@ use Rattle.depth_values.specs.Codes.{OBSTRN, UWTROC, WRECKS}
 use Rattle.depth_values.specs.Hazard.{hazard_depth}
 use Rattle.depth_values.specs.Safety.{is_unsafe_area, is_safe_area}
 use Rattle.route_check.specs.Object.{ObjectValue}
-use Rattle.route_check.specs.Danger.{SOUNDG, IsHazard, IsDangerous, IsWhole, IsSounding, IsObject, is_hazard, is_dangerous, may_be_dangerous, is_shallow, whole_of, sounding_at, soundings_in, objects_at}
-use Rattle.route_check.proofs.Members.{Has, comes, goes}
+use Rattle.route_check.specs.Danger.{SOUNDG, IsHazard, IsDangerous, IsWhole, IsSounding, IsObject, is_hazard, is_dangerous, is_shallow, whole_of, sounding_at, soundings_in, objects_at}
+use Rattle.common_lemmas.proofs.Members.{Has}
+use Rattle.route_check.proofs.Members.{comes, goes}
 use Rattle.route_check.proofs.Numbered.{IsNumbered, numbered_out, numbered_again}
 
 -- ---- the tests
@@ -165,26 +166,3 @@ module _ (settings : Settings) (key : List ℕ) (cell : CellValue) (rcid : ℕ) 
   pub object_in : (place : ℕ) (shape : Shape) → IsObject cell settings feature place shape → Has (object place shape) (objects_at settings key cell rcid feature)
   object_in place shape (inl w) = whole_in place shape w
   object_in place shape (inr s) = sounding_in place shape s
-
--- ---- a feature with an object may have dangerous objects
-
-or_left : (a b : Bool) → a ≡ true → (a || b) ≡ true
-or_left true b e = refl
-or_left false b e = absurd (let no : ◌≡◌ {A = Bool} false true = e in cc)
-
-or_right : (a b : Bool) → b ≡ true → (a || b) ≡ true
-or_right true b e = refl
-or_right false b e = e
-
-pub suspect : (cell : CellValue) (settings : Settings) (feature : Feature) (place : ℕ) (shape : Shape) → IsObject cell settings feature place shape
-    → may_be_dangerous settings feature ≡ true
-suspect cell settings feature place shape (inl w) =
-    elim w.dangerous [
-      | inl unsafe ↦ or_left (is_unsafe_area settings.safety_contour feature) _ unsafe
-      | inr hazard ↦
-          or_right (is_unsafe_area settings.safety_contour feature) _
-          (or_left (is_hazard feature) (eqb feature.class SOUNDG) ((Decides-hazard feature).1 hazard.0))
-    ]
-suspect cell settings feature place shape (inr s) =
-    or_right (is_unsafe_area settings.safety_contour feature) _
-    (or_right (is_hazard feature) (eqb feature.class SOUNDG) ((Decides-eqb feature.class SOUNDG).1 s.class))

@@ -15,7 +15,7 @@ use Rattle.route_check.specs.declared.fault.RouteFault.{RouteFault}
 use Rattle.route_check.specs.declared.fault.RouteFault.TheVariants.{BadLine, Few, Many}
 use Rattle.route_check.specs.RouteLine.{box_of, point_of}
 use Rattle.route_check.specs.Reading.{saying, is_misspelled, fault_at, box_on, points_on, route_on, route_with}
-use Rattle.route_check.specs.Draft.{draft_of, KeepsFirstPoints, with_point, said_in, line_in, finished}
+use Rattle.route_check.specs.Draft.{draft_of, KeepsFirstPoints, with_point, said_in, line_in, finished_route}
 
 -- ---- the first of the points
 
@@ -197,7 +197,7 @@ abbrev route_of : HalfWidths → List Pt → Route
 route_of box points = record { w = box.w; h = box.h; points = points }
 
 -- where so many points are no fault, all are kept
-pub finished-draft_of : (said : List (List ℕ)) → finished (draft_of said) ≡ route_on said
+pub finished-draft_of : (said : List (List ℕ)) → finished_route (draft_of said) ≡ route_on said
 finished-draft_of said = by (box_on said)
   where
     by : (o : Option HalfWidths) → route_with o (length (points_on said)) (take 1000 (points_on said)) ≡ route_with o (length (points_on said)) (points_on said)

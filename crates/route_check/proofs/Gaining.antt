@@ -4,7 +4,8 @@ use Rattle.std.specs.Prelude.{◌↔◌}
 use Rattle.std.specs.List.{Contains, flat_map}
 use Rattle.std.proofs.lemmas.List.Elements.{Contains-append_left, Contains-append_right, Contains-append_cases}
 use Rattle.route_check.specs.Gains.{Gains}
-use Rattle.route_check.proofs.Members.{Has, has_out, has_in, comes, goes, has_either, has_left, has_right}
+use Rattle.common_lemmas.proofs.Members.{Has, has_out, has_in, has_either, has_left, has_right}
+use Rattle.route_check.proofs.Members.{comes, goes}
 
 module _ {X : Type 0} where
   -- nothing has the property

@@ -9,7 +9,7 @@ use Rattle.std.specs.FinMap.{FinMap, IsAntisymmetric, find, is_sorted}
 use Rattle.std.specs.FinMap.Entries.{below_all}
 use Rattle.common_lemmas.proofs.Choices.{some_is}
 use Rattle.chart_model.proofs.SortedEntries.{first, second, less}
-use Rattle.route_check.proofs.Members.{Has, IsBefore, Rises, before_each}
+use Rattle.common_lemmas.proofs.Members.{Has, IsBefore, Rises, before_each}
 
 tied : (o : Ordering) → is_eq o ≡ true → o ≡ Equal
 tied Less e = absurd (let no : ◌≡◌ {A = Bool} false true = e in cc)

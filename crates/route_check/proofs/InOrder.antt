@@ -27,7 +27,8 @@ use Rattle.route_check.specs.Meeting.{meets_shape}
 use Rattle.route_check.specs.Object.{ObjectValue}
 use Rattle.route_check.specs.Danger.{SOUNDG, is_dangerous, is_shallow, whole_of, sounding_at, soundings_in, objects_at, objects_on, objects_of}
 use Rattle.route_check.specs.Report.{danger_cmp, row_of, row_at, rows_of}
-use Rattle.route_check.proofs.Members.{Has, Rises, comes, rises_flat_map}
+use Rattle.common_lemmas.proofs.Members.{Has, Rises}
+use Rattle.route_check.proofs.Members.{comes, rises_flat_map}
 use Rattle.route_check.proofs.Numbered.{Counts, numbers_rise}
 use Rattle.route_check.proofs.Held.{Precedes, entries_rise, entry_held}
 use Rattle.route_check.proofs.Dangerous.{one_has, object_out}

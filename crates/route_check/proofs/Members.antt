@@ -1,37 +1,7 @@
--- The elements of lists that are joined of others, and lists in a strict order.
-use Rattle.std.proofs.Common.{◌≡◌, ◌⊎◌, inl, inr, ℕ, zero, suc, ◌<◌, List, [], ◌∷◌, ◌++◌, length, get_or, refl, sym, subst, arith}
-use Rattle.std.specs.List.{Contains, AllPairs, flat_map}
-
--- the element is in the list
-abbrev pub Has : {X : Type 0} → X → List X → Type 0
-Has x [] = ⊥
-Has x (y ∷ ys) = (y ≡ x) ⊎ Has x ys
-
-pub has_out : {X : Type 0} (xs : List X) (x : X) → Contains xs x → Has x xs
-has_out [] x (k, lt, e) = absurd (omega arith)
-has_out (y ∷ ys) x (zero, lt, e) = inl e
-has_out (y ∷ ys) x (suc k, lt, e) = inr (has_out ys x (k, omega arith, e))
-
-pub has_in : {X : Type 0} (xs : List X) (x : X) → Has x xs → Contains xs x
-has_in [] x h = absurd h
-has_in (y ∷ ys) x (inl e) = (0, omega arith, e)
-has_in (y ∷ ys) x (inr h) =
-    let w = has_in ys x h in
-    (suc w.0, omega (arith, w.1), w.2)
-
-pub has_left : {X : Type 0} (xs ys : List X) (x : X) → Has x xs → Has x (xs ++ ys)
-has_left [] ys x h = absurd h
-has_left (z ∷ zs) ys x (inl e) = inl e
-has_left (z ∷ zs) ys x (inr h) = inr (has_left zs ys x h)
-
-pub has_right : {X : Type 0} (xs ys : List X) (x : X) → Has x ys → Has x (xs ++ ys)
-has_right [] ys x h = h
-has_right (z ∷ zs) ys x h = inr (has_right zs ys x h)
-
-pub has_either : {X : Type 0} (xs ys : List X) (x : X) → Has x (xs ++ ys) → Has x xs ⊎ Has x ys
-has_either [] ys x h = inr h
-has_either (z ∷ zs) ys x (inl e) = inl (inl e)
-has_either (z ∷ zs) ys x (inr h) = elim (has_either zs ys x h) [ inl a ↦ inl (inr a) | inr b ↦ inr b ]
+-- The elements of lists that are joined of others, and the order of such lists.
+use Rattle.std.proofs.Common.{◌≡◌, ◌⊎◌, inl, inr, List, [], ◌∷◌, ◌++◌, refl, sym, subst}
+use Rattle.std.specs.List.{flat_map}
+use Rattle.common_lemmas.proofs.Members.{Has, has_left, has_right, has_either, Rises, before_each, before_all}
 
 -- an element of a joined list comes from one of the lists
 pub record Comes {X A : Type 0} (f : X → List A) (xs : List X) (a : A) : Type 0 where
@@ -54,24 +24,6 @@ goes f (y ∷ ys) x a (inr h) q = has_right (f y) (flat_map f ys) a (goes f ys x
 
 -- ---- lists in a strict order
 
-abbrev pub IsBefore : {X : Type 0} → (X → X → Type 0) → X → List X → Type 0
-IsBefore R x [] = Unit {0}
-IsBefore R x (y ∷ ys) = R x y × IsBefore R x ys
-
--- each element stands before all behind it
-abbrev pub Rises : {X : Type 0} → (X → X → Type 0) → List X → Type 0
-Rises R [] = Unit {0}
-Rises R (x ∷ xs) = IsBefore R x xs × Rises R xs
-
-pub before_each : {X : Type 0} (R : X → X → Type 0) (x : X) (ys : List X) (y : X) → IsBefore R x ys → Has y ys → R x y
-before_each R x [] y before h = absurd h
-before_each R x (z ∷ zs) y before (inl e) = subst (R x) e before.0
-before_each R x (z ∷ zs) y before (inr h) = before_each R x zs y before.1 h
-
-before_all : {X : Type 0} (R : X → X → Type 0) (x : X) (ys : List X) → ((y : X) → Has y ys → R x y) → IsBefore R x ys
-before_all R x [] h = tt
-before_all R x (y ∷ ys) h = (h y (inl refl), before_all R x ys (λ z q. h z (inr q)))
-
 rises_append : {X : Type 0} (R : X → X → Type 0) (xs ys : List X) → Rises R xs → Rises R ys → ((x y : X) → Has x xs → Has y ys → R x y) → Rises R (xs ++ ys)
 rises_append R [] ys first second across = second
 rises_append R (x ∷ xs) ys first second across = (
@@ -91,15 +43,3 @@ rises_flat_map R S f (x ∷ xs) rises each across =
     (λ a b h k.
     let c = comes f xs b k in
     across x c.from a b (inl refl) (inr c.among) (before_each S x xs c.from rises.0 c.among) h c.gives)
-
-before_at : {X : Type 0} (R : X → X → Type 0) (x : X) (ys : List X) (j : ℕ) (d : X) → IsBefore R x ys → j < length ys → R x (get_or ys j d)
-before_at R x [] j d before lt = absurd (omega (arith, lt))
-before_at R x (y ∷ ys) zero d before lt = before.0
-before_at R x (y ∷ ys) (suc j) d before lt = before_at R x ys j d before.1 (omega (arith, lt))
-
-pub all_pairs : {X : Type 0} (R : X → X → Type 0) (xs : List X) → Rises R xs → AllPairs R xs
-all_pairs R [] rises i j d lt fits = absurd (omega (arith, fits))
-all_pairs R (x ∷ xs) rises zero zero d lt fits = absurd (omega (arith, lt))
-all_pairs R (x ∷ xs) rises zero (suc j) d lt fits = before_at R x xs j d rises.0 (omega (arith, fits))
-all_pairs R (x ∷ xs) rises (suc i) zero d lt fits = absurd (omega (arith, lt))
-all_pairs R (x ∷ xs) rises (suc i) (suc j) d lt fits = all_pairs R xs rises.1 i j d (omega (arith, lt)) (omega (arith, fits))

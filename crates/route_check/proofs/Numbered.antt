@@ -1,7 +1,7 @@
 -- Lists whose elements are numbered.
 use Rattle.std.proofs.Common.{◌≡◌, ℕ, ◌+◌, ◌-◌, ◌<◌, ◌≤◌, zero, suc, List, [], ◌∷◌, inl, inr, Some, None, ap, subst, arith}
 use Rattle.std.specs.List.{slice_get, enumerate_from}
-use Rattle.route_check.proofs.Members.{Has, IsBefore, Rises}
+use Rattle.common_lemmas.proofs.Members.{Has, IsBefore, Rises}
 
 -- ---- which elements have which numbers
 

@@ -12,7 +12,7 @@ use Rattle.route_check.specs.declared.fault.RouteFault.{RouteFault}
 use Rattle.route_check.specs.declared.fault.RouteFault.TheVariants.{BadLine, Few, Many, NoMemory}
 use Rattle.route_check.specs.RouteLine.{point_of}
 use Rattle.route_check.specs.Reading.{saying, fault_at, points_on, route_on, route_in}
-use Rattle.route_check.specs.Draft.{draft_of, KeepsFirstPoints, line_in, finished}
+use Rattle.route_check.specs.Draft.{draft_of, KeepsFirstPoints, line_in, finished_route}
 use Rattle.route_check.specs.Answers.{told, Answers}
 use Rattle.route_check.proofs.Drafts.{HasBox, kept, line_taken, line_refused, finished-draft_of}
 
@@ -104,10 +104,10 @@ read_fault bytes rest others line draft number (Few n) so_far cut h = fails byte
 read_fault bytes rest others line draft number (Many n) so_far cut h = fails bytes rest others line draft number (Many n) so_far cut h
 read_fault bytes rest others line draft number NoMemory so_far cut h = h
 
-read_all : (bytes rest : List ℕ) (draft : Draft) (number : ℕ) → IsReadSoFar bytes draft number rest → lines rest ≡ [] → finished draft ≡ route_in bytes
+read_all : (bytes rest : List ℕ) (draft : Draft) (number : ℕ) → IsReadSoFar bytes draft number rest → lines rest ≡ [] → finished_route draft ≡ route_in bytes
 read_all bytes rest draft number so_far end =
     let all = all_passed fault_at bytes rest number so_far.before so_far.passed end in
-    ap finished so_far.drafted ∙ finished-draft_of (saying so_far.before)
+    ap finished_route so_far.drafted ∙ finished-draft_of (saying so_far.before)
     ∙ sym (in_parts bytes None so_far.before all.1 all.0)
 
 -- an answer without want of memory
@@ -119,7 +119,7 @@ answers (Err (Many n)) = refl
 answers (Err NoMemory) = tt
 
 pub read_whole : (bytes rest : List ℕ) (draft : Draft) (number : ℕ) (answer : Result Route RouteFault) → IsReadSoFar bytes draft number rest → lines rest ≡ []
-    → answer ≡ finished draft → Answers answer (route_in bytes)
+    → answer ≡ finished_route draft → Answers answer (route_in bytes)
 read_whole bytes rest draft number answer so_far end is =
     subst (Answers answer) (is ∙ read_all bytes rest draft number so_far end) (answers answer)
 

@@ -18,7 +18,8 @@ use Rattle.route_check.specs.Meeting.{meets_shape}
 use Rattle.route_check.specs.Object.{ObjectValue}
 use Rattle.route_check.specs.Danger.{IsObject, objects_at, objects_on, objects_of}
 use Rattle.route_check.specs.Report.{IsRow, IsReport, row_of, row_at, rows_of, report_of}
-use Rattle.route_check.proofs.Members.{Has, has_out, has_in, comes, goes, all_pairs}
+use Rattle.common_lemmas.proofs.Members.{Has, has_out, has_in, all_pairs}
+use Rattle.route_check.proofs.Members.{comes, goes}
 use Rattle.route_check.proofs.Numbered.{numbered_out, numbered_again}
 use Rattle.route_check.proofs.Held.{entry_held, held_entry}
 use Rattle.route_check.proofs.Dangerous.{one_has, object_out, object_in}

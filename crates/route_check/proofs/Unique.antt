@@ -9,7 +9,7 @@ use Rattle.chart_model.specs.State.{StateValue, IsState}
 use Rattle.route_check.specs.declared.danger.Danger.{Danger}
 use Rattle.route_check.specs.declared.route.Route.{Route}
 use Rattle.route_check.specs.Report.{IsReport, report_of}
-use Rattle.route_check.proofs.Members.{Has, has_out, has_in, IsBefore, Rises, before_each}
+use Rattle.common_lemmas.proofs.Members.{Has, has_out, has_in, IsBefore, Rises, before_each}
 use Rattle.route_check.proofs.InOrder.{Above}
 use Rattle.route_check.proofs.Once.{danger_total}
 use Rattle.route_check.proofs.Rows.{report_is}

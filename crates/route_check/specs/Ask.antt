@@ -1,5 +1,5 @@
 -- What of a chart is asked along a route, and the rows of that.
-use Rattle.std.specs.Prelude.{◌≡◌, ℕ, ◌+◌, Bool, true, false, List, [], Option, Some, None, slice_get, Contains}
+use Rattle.std.specs.Prelude.{◌≡◌, ℕ, ◌+◌, List, [], Option, Some, None, slice_get, Contains}
 use Rattle.std.specs.FinMap as finite
 use Rattle.chart_model.specs.declared.name.Name.{Name}
 use Rattle.chart_model.specs.declared.cell.Feature.{Feature}
@@ -13,7 +13,7 @@ use Rattle.route_check.specs.declared.route.Route.{Route}
 use Rattle.route_check.specs.Route.{legs_of}
 use Rattle.route_check.specs.Reach.{reach_of}
 use Rattle.route_check.specs.Object.{ObjectValue}
-use Rattle.route_check.specs.Danger.{objects_at, may_be_dangerous}
+use Rattle.route_check.specs.Danger.{objects_at}
 use Rattle.route_check.specs.Grids.{GridValue, GridsValue}
 use Rattle.route_check.specs.Report.{rows_of}
 
@@ -21,28 +21,16 @@ use Rattle.route_check.specs.Report.{rows_of}
 abbrev pub ask_for : ℕ → Name → Ask
 ask_for before name = record { name = name; before = before }
 
-abbrev pub suspect_in : Settings → Option Feature → Bool
-suspect_in settings None = false
-suspect_in settings (Some feature) = may_be_dangerous settings feature
-
--- the cell has a feature of the name that may have dangerous objects
-abbrev pub is_suspect : Settings → CellValue → Name → Bool
-is_suspect settings cell name = suspect_in settings (finite.get cell.features name)
-
--- it is one of that leg, for a candidate of the grid that is suspect
-pub record IsAskOf (grid : GridValue) (settings : Settings) (cell : CellValue) (leg : Leg) (before : ℕ) (ask : Ask)
-    : Type 0 where
+-- it is one of that leg, for a candidate of the grid
+pub record IsAskOf (grid : GridValue) (leg : Leg) (before : ℕ) (ask : Ask) : Type 0 where
   pub placed : ask.before ≡ before
   pub candidate : IsCandidate grid (reach_of leg) ask.name
-  pub suspect : is_suspect settings cell ask.name ≡ true
 
 -- it is one of a leg of the route
-pub record IsAsk (grid : GridValue) (settings : Settings) (cell : CellValue) (route : Route) (ask : Ask)
-    : Type 0 where
+pub record IsAsk (grid : GridValue) (route : Route) (ask : Ask) : Type 0 where
   pub leg : Leg
   pub on_route : slice_get (legs_of route) ask.before ≡ Some leg
   pub candidate : IsCandidate grid (reach_of leg) ask.name
-  pub suspect : is_suspect settings cell ask.name ≡ true
 
 -- ---- the rows
 
@@ -73,7 +61,7 @@ rows_asked settings key cell route ask = rows_after route (objects_named setting
 pub record IsRowOn (grid : GridValue) (settings : Settings) (key : List ℕ) (cell : CellValue) (route : Route)
     (danger : Danger) : Type 0 where
   pub ask : Ask
-  pub asked : IsAsk grid settings cell route ask
+  pub asked : IsAsk grid route ask
   pub row : Contains (rows_asked settings key cell route ask) danger
 
 -- on the chart that is held under a key, where there is one and it has a grid

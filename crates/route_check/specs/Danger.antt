@@ -72,11 +72,6 @@ is_dangerous cell settings feature =
     is_unsafe_area settings.safety_contour feature
     || (is_hazard feature && int_le (hazard_depth cell feature) settings.safety_contour)
 
--- a feature may have dangerous objects, by its class, its primitive and its attributes alone
-abbrev pub may_be_dangerous : Settings → Feature → Bool
-may_be_dangerous settings feature =
-    is_unsafe_area settings.safety_contour feature || (is_hazard feature || (feature.class == SOUNDG))
-
 -- the whole feature as an object, where it has a shape
 abbrev pub whole_of : List ℕ → ℕ → Option Shape → List ObjectValue
 whole_of key rcid None = []

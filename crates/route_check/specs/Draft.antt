@@ -45,5 +45,5 @@ abbrev pub line_in : Draft → ℕ → List ℕ → Result Draft RouteFault
 line_in draft number line = if is_silent line then Ok draft else said_in draft.half_widths draft number line
 
 -- the route of all of them
-abbrev pub finished : Draft → Result Route RouteFault
-finished draft = route_with draft.half_widths draft.count draft.points
+abbrev pub finished_route : Draft → Result Route RouteFault
+finished_route draft = route_with draft.half_widths draft.count draft.points

@@ -1,14 +1,13 @@
-//! What of a chart is asked along a route: the features that may be dangerous and whose boxes a leg reaches.
+//! What of a chart is asked along a route: the features whose boxes a leg reaches.
 //!
-//! All legs ask the grid before any shape is made, and what they ask for is put in order by feature: so the shape of a
-//! feature that many legs reach is made once. An ask is a name and a number, and it costs of the effort, since a route
-//! of 999 legs may reach every feature with each of them.
+//! All legs ask the grid before any feature is looked at, and what they ask for is put in order by feature: so a
+//! feature that many legs reach is looked up once, and its shape made once. An ask is a name and a number, and it costs
+//! of the effort, since a route of 999 legs may reach every feature with each of them.
 
-ghost use Rattle.std.specs.Prelude.{◌≡◌, ◌++◌, ◌↔◌, filter, map, OnOk, IfOk, Contains};
+ghost use Rattle.std.specs.Prelude.{◌≡◌, ◌++◌, ◌↔◌, map, OnOk, IfOk, Contains};
 ghost use Rattle.route_check.specs.Gains.{Gains};
-ghost use Rattle.route_check.specs.Ask.{ask_for, is_suspect, IsAskOf, IsAsk};
+ghost use Rattle.route_check.specs.Ask.{ask_for, IsAskOf, IsAsk};
 
-use crate::chart_objects::{Sources, is_suspect};
 use crate::reach::reach_of;
 use crate::route::Route;
 use chart_model::Name;
@@ -20,64 +19,47 @@ use std::alloc::{AllocError, Global};
 /// What an ask costs, which is kept and put in order, in tests of a point against a segment.
 const COST_OF_ASK: usize = 30;
 
-/// What it costs to look at a box in a bucket, whose name is put in order then, in the same tests: a box may stand in 64
-/// buckets, and is looked at in each of them.
+/// What it costs to look at a box in a bucket, whose name is put in order then, in the same tests: a box may stand in
+/// 64 buckets, and is looked at in each of them.
 const COST_OF_BOX: usize = 8;
 
-/// A feature whose objects a leg may meet. Asks stand by the features' names, so that each shape is made once.
-#[derive(Clone, Copy, Debug, PartialEq, Eq, PartialOrd, Ord)]
+/// A feature whose box a leg reaches. Asks stand by the features' numbers, so that each shape is made once.
+#[derive(Clone, Copy, Debug)]
 pub(crate) struct Ask {
     pub(crate) name: Name,
     /// How many legs come before that leg.
     pub(crate) before: u32,
 }
 
-/// Adds asks of a leg for those of some features that may have dangerous objects: few have.
-fn push_names(
-    asks: &mut Vec<Ask>,
-    from: &Sources,
-    names: &[Name],
-    before: u32,
-) -> Result<(), AllocError>
-    ensures { OnOk result (asks.new.items ≡ asks.old.items
-        ++ map (ask_for before) (filter (is_suspect from.now.settings.now from.now.cell.now) names.now)) }
+/// Adds the asks of a leg for the features of some names.
+fn push_names(asks: &mut Vec<Ask>, names: &[Name], before: u32) -> Result<(), AllocError>
+    ensures { OnOk result (asks.new.items ≡ asks.old.items ++ map (ask_for before) names.now) }
 {
     for name in names {
-        if is_suspect(from, *name) {
-            asks.push(Ask {
-                name: *name,
-                before,
-            })?;
-        }
+        asks.push(Ask {
+            name: *name,
+            before,
+        })?;
     }
     Ok(())
 }
 
-/// Takes of the effort what it costs to ask the grid for a leg. Nothing that is answered hangs on it, but whether there
-/// is an answer.
-fn spend_on_boxes(effort: &mut Effort, grid: &Grid, leg: Leg) -> Result<(), AllocError> {
-    let boxes = grid.looked_at(&reach_of(leg));
-    effort.spend(boxes.saturating_mul(COST_OF_BOX))
-}
-
-/// Adds the asks of a leg: for the features that may be dangerous and whose boxes meet the box that it reaches.
+/// Adds the asks of a leg: for the features whose boxes meet the box that it reaches. The names of these are put in the
+/// place of others.
 fn push_leg(
-    alloc: Global,
     effort: &mut Effort,
     asks: &mut Vec<Ask>,
+    names: &mut Vec<Name>,
     grid: &Grid,
-    from: &Sources,
     leg: Leg,
     before: u32,
 ) -> Result<(), AllocError>
-    ensures { OnOk result (Gains
-        (IsAskOf grid.now from.now.settings.now from.now.cell.now leg before) asks.old.items asks.new.items) }
+    ensures { OnOk result (Gains (IsAskOf grid.now leg before) asks.old.items asks.new.items) }
 {
-    spend_on_boxes(effort, grid, leg)?;
-    let names = grid.candidates(alloc, &reach_of(leg))?;
-    let names = names.as_slice();
+    let looked_at = grid.find_candidates(names, &reach_of(leg))?;
+    effort.spend(looked_at.saturating_mul(COST_OF_BOX))?;
     effort.spend(names.len().saturating_mul(COST_OF_ASK))?;
-    push_names(asks, from, names, before)?;
+    push_names(asks, names.as_slice(), before)?;
     Ok(())
 }
 
@@ -86,39 +68,35 @@ fn all_asks(
     alloc: Global,
     effort: &mut Effort,
     grid: &Grid,
-    from: &Sources,
     route: &Route,
 ) -> Result<Vec<Ask>, AllocError>
-    ensures { IfOk result (λ asks. (ask : Ask) → Contains asks.items ask
-        ↔ IsAsk grid.now from.now.settings.now from.now.cell.now route.now ask) }
+    ensures { IfOk result (λ asks. (ask : Ask) → Contains asks.items ask ↔ IsAsk grid.now route.now ask) }
 {
     let mut asks = Vec::new(alloc);
+    let mut names = Vec::new(alloc);
     for before in 0..route.leg_count() {
-        push_leg(
-            alloc,
-            effort,
-            &mut asks,
-            grid,
-            from,
-            route.leg(before + 1),
-            before,
-        )?;
+        let leg = route.leg(before + 1);
+        push_leg(effort, &mut asks, &mut names, grid, leg, before)?;
     }
     Ok(asks)
 }
 
-/// The asks of all legs, by name.
+/// Where an ask stands among others: by the feature's number, and then by leg. Nothing that is answered hangs on it,
+/// but how fast.
+fn order_of(ask: &Ask) -> u64 {
+    u64::from(ask.name.rcid) << 32 | u64::from(ask.before)
+}
+
+/// The asks of all legs, by feature.
 pub(crate) fn asks_of(
     alloc: Global,
     effort: &mut Effort,
     grid: &Grid,
-    from: &Sources,
     route: &Route,
 ) -> Result<Vec<Ask>, AllocError>
-    ensures { IfOk result (λ asks. (ask : Ask) → Contains asks.items ask
-        ↔ IsAsk grid.now from.now.settings.now from.now.cell.now route.now ask) }
+    ensures { IfOk result (λ asks. (ask : Ask) → Contains asks.items ask ↔ IsAsk grid.now route.now ask) }
 {
-    let mut asks = all_asks(alloc, effort, grid, from, route)?;
-    asks.sort()?;
+    let mut asks = all_asks(alloc, effort, grid, route)?;
+    asks.sort_unstable_by_key(|ask| order_of(ask));
     Ok(asks)
 }

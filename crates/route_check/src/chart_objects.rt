@@ -7,9 +7,9 @@
 ghost use Rattle.std.specs.Prelude.{◌≡◌, ◌++◌, OnOk};
 ghost use Rattle.std.specs.List.{flat_map, enumerate_from};
 ghost use Rattle.area_rings.specs.Shape.{shape_of};
-ghost use Rattle.route_check.specs.Ask.{is_suspect, objects_named};
+ghost use Rattle.route_check.specs.Ask.{objects_named};
 ghost use Rattle.route_check.specs.Danger.{is_hazard, is_shallow, whole_of, hazards_of, sounding_at, soundings_in};
-ghost use Rattle.route_check.specs.Danger.{may_be_dangerous, objects_at};
+ghost use Rattle.route_check.specs.Danger.{objects_at};
 ghost use Rattle.route_check.specs.Found.{AreOf};
 
 use crate::depths::hazard_depth;
@@ -38,26 +38,6 @@ fn is_hazard(feature: &Feature) -> bool
     ensures { result ≡ is_hazard feature.now }
 {
     matches!(feature.class, OBSTRN | UWTROC | WRECKS) && matches!(feature.prim, POINT..=AREA)
-}
-
-/// Whether a feature may have dangerous objects, by its class, its primitive and its attributes alone.
-fn may_be_dangerous(settings: &Settings, feature: &Feature) -> bool
-    ensures { result ≡ may_be_dangerous settings.now feature.now }
-{
-    is_unsafe_area(feature, settings.safety_contour)
-        || is_hazard(feature)
-        || feature.class == SOUNDG
-}
-
-/// Whether the chart has a feature of the name that may have dangerous objects. It takes no memory.
-pub(crate) fn is_suspect(from: &Sources, name: Name) -> bool
-    ensures { result ≡ is_suspect from.now.settings.now from.now.cell.now name }
-{
-    let cell = from.cell;
-    match cell.features.get(name) {
-        Some(feature) => may_be_dangerous(from.settings, feature),
-        None => false,
-    }
 }
 
 /// Whether a sounding is at most as deep as the safety depth, in centimetres.

@@ -27,12 +27,20 @@ pub struct Danger {
 /// Rows in their order.
 pub type DangerList = Sequence<Danger>;
 
+/// Where a row stands among others: by its leg, and then by the feature's number. Nothing that is answered hangs on it,
+/// but how fast.
+fn order_of(row: &Danger) -> u64 {
+    u64::from(row.leg) << 32 | u64::from(row.rcid)
+}
+
 /// The rows in order, each once.
 pub(crate) fn each_once(mut rows: Vec<Danger>) -> Result<Vec<Danger>, AllocError>
     ensures same { IfOk result
         (λ sorted. (danger : Danger) → Contains sorted.items danger ↔ Contains rows.items danger) }
     ensures ordered { IfOk result (λ sorted. AllPairs (λ x y. danger_cmp x y ≡ Less) sorted.items) }
 {
+    // Most of the order is that of two numbers, which are faster to compare than rows.
+    rows.sort_unstable_by_key(|row| order_of(row));
     rows.sort()?;
     rows.dedup();
     Ok(rows)

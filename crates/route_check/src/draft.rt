@@ -6,7 +6,7 @@
 ghost use Rattle.std.specs.Prelude.{◌≡◌, ◌+◌, ◌<◌, ◌≤◌, ◌^◌, [], OnOk, MatchResult, Ok};
 ghost use Rattle.chart_model.specs.Answers.{FailsBy};
 ghost use Rattle.route_check.specs.Answers.{told};
-ghost use Rattle.route_check.specs.Draft.{draft_of, KeepsFirstPoints, with_point, line_in, finished};
+ghost use Rattle.route_check.specs.Draft.{draft_of, KeepsFirstPoints, with_point, line_in, finished_route};
 
 use crate::fault::RouteFault;
 use crate::line::{HalfWidths, read_box, read_point};
@@ -79,7 +79,7 @@ impl Draft {
     /// The route of the lines.
     pub(crate) fn finish(self) -> Result<Route, RouteFault>
         requires { KeepsFirstPoints self }
-        ensures { result ≡ finished self }
+        ensures { result ≡ finished_route self }
     {
         let Draft {
             half_widths,

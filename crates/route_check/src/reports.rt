@@ -101,7 +101,7 @@ fn push_chart(
         (IsRowOn grid.now from.now.settings.now from.now.key from.now.cell.now route.now)
         rows.old.items rows.new.items) }
 {
-    let asks = asks_of(alloc, effort, grid, from, route)?;
+    let asks = asks_of(alloc, effort, grid, route)?;
     push_asked(alloc, effort, rows, from, route, asks.as_slice())?;
     Ok(())
 }

@@ -11,7 +11,8 @@ use Rattle.chart_model.proofs.Names.{name_cmp-total, name_cmp-IsAntisymmetric}
 use Rattle.plane_bounds.specs.declared.bounds.Bounds.{Bounds}
 use Rattle.spatial_grid.specs.Candidates.{IsCandidate, AreCandidates}
 use Rattle.spatial_grid.specs.Met.{IsMet}
-use Rattle.spatial_grid.proofs.Found.{has_out, has_in, found_there, there_found}
+use Rattle.common_lemmas.proofs.Members.{has_out, has_in}
+use Rattle.spatial_grid.proofs.Found.{found_there, there_found}
 
 module _ (boxes : List (Name × Bounds)) (sorted : T (is_sorted name_cmp boxes)) (area : Bounds) where
   get_is : (name : Name) → finite.get (finite.from_sorted {R = name_cmp} boxes) name ≡ finite.find name_cmp name boxes

@@ -1,32 +1,15 @@
 -- Entries in the order of their keys, found by them.
-use Rattle.std.proofs.Common.{◌≡◌, ◌⊎◌, inl, inr, zero, suc, Bool, true, false, cond, T, List, [], ◌∷◌, Option, Some, None, refl, sym, ap, ◌∙◌, subst, arith}
+use Rattle.std.proofs.Common.{◌≡◌, ◌⊎◌, inl, inr, Bool, true, false, cond, T, List, [], ◌∷◌, Option, Some, None, refl, sym, ap, ◌∙◌, subst}
 use Rattle.std.specs.declared.cmp.Ordering.{Ordering}
 use Rattle.std.specs.declared.cmp.Ordering.TheVariants.{Less, Greater}
 use Rattle.std.specs.Ordering.{is_eq, eq_by_cmp, ordering_reverse}
 use Rattle.std.specs.Cmp.{IsTotalOrder, tied_itself}
-use Rattle.std.specs.List.{Contains}
 use Rattle.std.specs.FinMap.{IsAntisymmetric, find, is_sorted}
 use Rattle.std.specs.FinMap.Entries.{below_all}
 use Rattle.common_lemmas.proofs.Choices.{some_is}
+use Rattle.common_lemmas.proofs.Members.{Has}
 use Rattle.chart_model.proofs.Maps.{tied}
 use Rattle.chart_model.proofs.SortedEntries.{first, second, less}
-
--- the element is in the list
-abbrev pub Has : {X : Type 0} → X → List X → Type 0
-Has x [] = ⊥
-Has x (y ∷ ys) = (y ≡ x) ⊎ Has x ys
-
-pub has_out : {X : Type 0} (xs : List X) (x : X) → Contains xs x → Has x xs
-has_out [] x (k, lt, e) = absurd (omega arith)
-has_out (y ∷ ys) x (zero, lt, e) = inl e
-has_out (y ∷ ys) x (suc k, lt, e) = inr (has_out ys x (k, omega arith, e))
-
-pub has_in : {X : Type 0} (xs : List X) (x : X) → Has x xs → Contains xs x
-has_in [] x h = absurd h
-has_in (y ∷ ys) x (inl e) = (0, omega arith, e)
-has_in (y ∷ ys) x (inr h) =
-    let w = has_in ys x h in
-    (suc w.0, omega (arith, w.1), w.2)
 
 module _ {K X : Type 0} {R : K → K → Ordering} (total : IsTotalOrder R) (exact : IsAntisymmetric R) where
   pub found_there : (k : K) (v : X) (es : List (K × X)) → find R k es ≡ Some v → Has (k, v) es

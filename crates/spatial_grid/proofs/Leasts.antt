@@ -1,18 +1,18 @@
 -- What boxes that grow point by point, or that are put round two, come to: the least box round the points.
 use Rattle.std.proofs.Common.{◌≡◌, ◌≢◌, inl, List, [], ◌∷◌, ◌++◌, Option, Some, None, refl, sym, ap, ◌∙◌, subst, append_assoc, arith}
 use Rattle.std.specs.List.{All, fold}
-use Rattle.std.proofs.lemmas.Int.{ints, clamps}
+use Rattle.std.proofs.lemmas.Int.{ints}
 use Rattle.std.proofs.lemmas.List.{append-nil}
 use Rattle.std.proofs.lemmas.List.Elements.{All-push, All-append, All-weaker, All-cons, All-nil, All-head, All-tail}
 use Rattle.common_lemmas.proofs.Choices.{some_is}
 use Rattle.plane_geometry.specs.declared.point.Pt.{Pt}
 use Rattle.plane_bounds.specs.declared.bounds.Bounds.{Bounds}
-use Rattle.plane_bounds.specs.Bounds.{IsIn, Holds, with_point}
+use Rattle.plane_bounds.specs.Bounds.{IsIn, Holds, around, box_at, with_point}
 use Rattle.plane_bounds.proofs.Growth.{still_in}
-use Rattle.plane_bounds.proofs.Widened.{holds_old, holds_point, held_by}
+use Rattle.plane_bounds.proofs.Widened.{holds_old, holds_point, held_by, holds_one, holds_other, holds_both}
 use Rattle.spatial_grid.specs.Box.{IsLeastBox}
-use Rattle.spatial_grid.specs.Boxes.{box_at, box_of, box_with, around, around_both}
-use Rattle.spatial_grid.proofs.Found.{Has}
+use Rattle.spatial_grid.specs.Boxes.{box_of, box_with, around_both}
+use Rattle.common_lemmas.proofs.Members.{Has}
 use Rattle.spatial_grid.proofs.Members.{SameMembers, all_has, has_all}
 
 filled : {X : Type 0} (xs : List X) (x : X) → xs ++ x ∷ [] ≢ []
@@ -97,31 +97,6 @@ least_there (p ∷ ps) some =
     (r.box, r.least)
 
 -- ---- two boxes
-
-holds_one : (one other : Bounds) → Holds (around one other) one
-holds_one one other = record {
-  west = omega (arith, ints, clamps);
-  east = omega (arith, ints, clamps);
-  south = omega (arith, ints, clamps);
-  north = omega (arith, ints, clamps);
-}
-
-holds_other : (one other : Bounds) → Holds (around one other) other
-holds_other one other = record {
-  west = omega (arith, ints, clamps);
-  east = omega (arith, ints, clamps);
-  south = omega (arith, ints, clamps);
-  north = omega (arith, ints, clamps);
-}
-
--- each box that holds both holds the box round them
-holds_both : (one other box : Bounds) → Holds box one → Holds box other → Holds box (around one other)
-holds_both one other box h k = record {
-  west = omega (arith, ints, clamps, h.west, k.west);
-  east = omega (arith, ints, clamps, h.east, k.east);
-  south = omega (arith, ints, clamps, h.south, k.south);
-  north = omega (arith, ints, clamps, h.north, k.north);
-}
 
 around_least : (xs ys : List Pt) (one other : Bounds) → IsLeastBox xs one → IsLeastBox ys other → IsLeastBox (xs ++ ys) (around one other)
 around_least xs ys one other h k = record {

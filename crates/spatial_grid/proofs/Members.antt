@@ -3,7 +3,7 @@ use Rattle.std.proofs.Common.{◌≡◌, ◌⊎◌, inl, inr, ⊎_elim, List, []
 use Rattle.std.specs.List.{All, flat_map}
 use Rattle.std.proofs.lemmas.List.{reverse-append}
 use Rattle.std.proofs.lemmas.List.Elements.{All-nil, All-cons, All-head, All-tail}
-use Rattle.spatial_grid.proofs.Found.{Has}
+use Rattle.common_lemmas.proofs.Members.{Has, has_left, has_right, has_either}
 
 module _ {X : Type 0} where
   -- each element of the one is one of the other
@@ -20,20 +20,6 @@ module _ {X : Type 0} where
   has_all P [] each = All-nil P
   has_all P (y ∷ ys) each = All-cons P y ys (each y (inl refl)) (has_all P ys (λ x h. each x (inr h)))
 
-  pub has_left : (xs ys : List X) (x : X) → Has x xs → Has x (xs ++ ys)
-  has_left [] ys x h = absurd h
-  has_left (z ∷ zs) ys x (inl e) = inl e
-  has_left (z ∷ zs) ys x (inr h) = inr (has_left zs ys x h)
-
-  pub has_right : (xs ys : List X) (x : X) → Has x ys → Has x (xs ++ ys)
-  has_right [] ys x h = h
-  has_right (z ∷ zs) ys x h = inr (has_right zs ys x h)
-
-  pub has_cases : (xs ys : List X) (x : X) → Has x (xs ++ ys) → Has x xs ⊎ Has x ys
-  has_cases [] ys x h = inr h
-  has_cases (z ∷ zs) ys x (inl e) = inl (inl e)
-  has_cases (z ∷ zs) ys x (inr h) = ⊎_elim (λ here. inl (inr here)) (λ later. inr later) (has_cases zs ys x h)
-
   pub same_itself : (xs ys : List X) → xs ≡ ys → SameMembers xs ys
   same_itself xs ys e = record { there = λ x. subst (Has x) e; back = λ x. subst (Has x) (sym e) }
 
@@ -42,14 +28,14 @@ module _ {X : Type 0} where
 
   pub same_append : (xs ys us vs : List X) → SameMembers xs us → SameMembers ys vs → SameMembers (xs ++ ys) (us ++ vs)
   same_append xs ys us vs a b = record {
-    there = λ x h. ⊎_elim (λ l. has_left us vs x (a.there x l)) (λ r. has_right us vs x (b.there x r)) (has_cases xs ys x h);
-    back = λ x h. ⊎_elim (λ l. has_left xs ys x (a.back x l)) (λ r. has_right xs ys x (b.back x r)) (has_cases us vs x h);
+    there = λ x h. ⊎_elim (λ l. has_left us vs x (a.there x l)) (λ r. has_right us vs x (b.there x r)) (has_either xs ys x h);
+    back = λ x h. ⊎_elim (λ l. has_left xs ys x (a.back x l)) (λ r. has_right xs ys x (b.back x r)) (has_either us vs x h);
   }
 
   exchanged : (xs ys : List X) → SameMembers (xs ++ ys) (ys ++ xs)
   exchanged xs ys = record {
-    there = λ x h. ⊎_elim (has_right ys xs x) (has_left ys xs x) (has_cases xs ys x h);
-    back = λ x h. ⊎_elim (has_right xs ys x) (has_left xs ys x) (has_cases ys xs x h);
+    there = λ x h. ⊎_elim (has_right ys xs x) (has_left ys xs x) (has_either xs ys x h);
+    back = λ x h. ⊎_elim (has_right xs ys x) (has_left xs ys x) (has_either ys xs x h);
   }
 
   pub same_reversed : (xs : List X) → SameMembers (reverse xs) xs

@@ -18,7 +18,8 @@ use Rattle.plane_bounds.specs.declared.bounds.Bounds.{Bounds}
 use Rattle.spatial_grid.specs.declared.edges.Ends.{Ends}
 use Rattle.spatial_grid.specs.Boxes.{box_of, points_along, points_under, record_at, record_boxes, under_name}
 use Rattle.spatial_grid.specs.Edges.{ends_at, line_between, node_place, node_table, record_box, record_table}
-use Rattle.spatial_grid.proofs.Found.{Has, there_found}
+use Rattle.common_lemmas.proofs.Members.{Has}
+use Rattle.spatial_grid.proofs.Found.{there_found}
 use Rattle.spatial_grid.proofs.Named.{sorted_kept, find_kept}
 
 -- what two functions give of each item, where they give the same of each

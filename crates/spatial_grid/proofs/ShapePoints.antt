@@ -20,8 +20,8 @@ use Rattle.area_rings.specs.Rings.{but_last, ring_points, IsLinked, IsRing, HasR
 use Rattle.area_rings.specs.Shape.{lines_of, points_of}
 use Rattle.area_rings.proofs.Lines.{but_last_is}
 use Rattle.spatial_grid.specs.Boxes.{points_along}
-use Rattle.spatial_grid.proofs.Found.{Has}
-use Rattle.spatial_grid.proofs.Members.{SameMembers, has_left, has_right, has_cases, same_itself, same_then, same_append, same_reversed, same_of_each}
+use Rattle.common_lemmas.proofs.Members.{Has, has_left, has_right, has_either}
+use Rattle.spatial_grid.proofs.Members.{SameMembers, same_itself, same_then, same_append, same_reversed, same_of_each}
 use Rattle.spatial_grid.proofs.RecordBoxes.{points_at, points_to}
 
 -- what there is of each item
@@ -202,7 +202,7 @@ module _ (cell : CellValue) where
       ⊎_elim
       (λ here. has_left edge.points (all_points more) x (subst (Has x) (sym all.0.points) (has_left (all.0.start ∷ all.0.inner) (all.0.end ∷ []) x (subst (Has x) (but_end edge all.0) here))))
       (λ later. has_right edge.points (all_points more) x (fewer more all.1 x later))
-      (has_cases (but_last edge.points) (ring_points more) x h)
+      (has_either (but_last edge.points) (ring_points more) x h)
 
   -- the last of the edges ends at home
   abbrev EndsAt : Name → List EdgeValue → Type 0
@@ -217,7 +217,7 @@ module _ (cell : CellValue) where
 
   -- a point of an edge is not its end, or it is
   point_of_edge : (edge : EdgeValue) (h : HasEnds edge) (x : Pt) → Has x edge.points → Has x (but_last edge.points) ⊎ (h.end ≡ x)
-  point_of_edge edge h x there = go (has_cases (h.start ∷ h.inner) (h.end ∷ []) x (subst (Has x) h.points there))
+  point_of_edge edge h x there = go (has_either (h.start ∷ h.inner) (h.end ∷ []) x (subst (Has x) h.points there))
     where
       go : Has x (h.start ∷ h.inner) ⊎ Has x (h.end ∷ []) → Has x (but_last edge.points) ⊎ (h.end ≡ x)
       go (inl here) = inl (subst (Has x) (sym (but_end edge h)) here)
@@ -233,7 +233,7 @@ module _ (cell : CellValue) where
   -- a point of linked edges is not the end of its edge, or it is where they end
   not_lost : (home : Name) (place : Pt) → place_of cell home ≡ Some place → (edges : List EdgeValue) → AllByRecursion HasEnds edges → IsLinked edges → EndsAt home edges → (x : Pt) → Has x (all_points edges) → Has x (ring_points edges) ⊎ (place ≡ x)
   not_lost home place at [] all linked ends x h = absurd ends
-  not_lost home place at (edge ∷ []) all linked ends x h = go (has_cases edge.points [] x h)
+  not_lost home place at (edge ∷ []) all linked ends x h = go (has_either edge.points [] x h)
     where
       go : Has x edge.points ⊎ Has x [] → Has x (ring_points (edge ∷ [])) ⊎ (place ≡ x)
       go (inl here) =
@@ -242,7 +242,7 @@ module _ (cell : CellValue) where
           (point_of_edge edge all.0 x here)
       go (inr none) = absurd none
   not_lost home place at (edge ∷ next ∷ more) all linked ends x h =
-      go (not_lost home place at (next ∷ more) all.1 linked.1 ends x) (has_cases edge.points (all_points (next ∷ more)) x h)
+      go (not_lost home place at (next ∷ more) all.1 linked.1 ends x) (has_either edge.points (all_points (next ∷ more)) x h)
     where
       later : Has x (ring_points (next ∷ more)) → Has x (ring_points (edge ∷ next ∷ more)) ⊎ (place ≡ x)
       later kept = inl (has_right (but_last edge.points) (ring_points (next ∷ more)) x kept)

@@ -1,6 +1,5 @@
 -- The boxes of the features of a chart, as functions.
 use Rattle.std.specs.Prelude.{false, if◌then◌else◌, List, [], map, Option, Some, None}
-use Rattle.std.specs.Int.{int_min, int_max}
 use Rattle.std.specs.List.{fold, filter_map}
 use Rattle.std.specs.FinMap as finite
 use Rattle.chart_model.specs.declared.name.Name.{Name}
@@ -14,12 +13,8 @@ use Rattle.area_rings.specs.declared.shape.Shape.{Shape}
 use Rattle.area_rings.specs.Edge.{is_node, point_of}
 use Rattle.area_rings.specs.Shape.{line_of, shape_of}
 use Rattle.plane_bounds.specs.declared.bounds.Bounds.{Bounds}
-use Rattle.plane_bounds.specs.Bounds.{with_point}
+use Rattle.plane_bounds.specs.Bounds.{around, box_at, with_point}
 use Rattle.spatial_grid.specs.Box.{points_in}
-
--- the box of a point alone
-abbrev pub box_at : Pt → Bounds
-box_at p = record { x0 = p.x; y0 = p.y; x1 = p.x; y1 = p.y }
 
 -- the box with one more point; without a box, that of the point
 abbrev pub box_with : Option Bounds → Pt → Option Bounds
@@ -29,16 +24,7 @@ box_with (Some box) p = Some (with_point box p)
 abbrev pub box_of : List Pt → Option Bounds
 box_of points = fold box_with None points
 
--- the least box round two
-abbrev pub around : Bounds → Bounds → Bounds
-around one other = record {
-  x0 = int_min one.x0 other.x0;
-  y0 = int_min one.y0 other.y0;
-  x1 = int_max one.x1 other.x1;
-  y1 = int_max one.y1 other.y1;
-}
-
--- round two of which each may be missing
+-- the least box round two of which each may be missing
 abbrev pub around_both : Option Bounds → Option Bounds → Option Bounds
 around_both None other = other
 around_both (Some one) None = Some one

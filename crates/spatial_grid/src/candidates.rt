@@ -4,7 +4,7 @@
 //! beside the area. One that stands in several of these buckets is found several times, so names are put in order at
 //! the end.
 
-ghost use Rattle.std.specs.Prelude.{◌≡◌, ◌↔◌, OnOk, IfOk, Contains, AllPairs};
+ghost use Rattle.std.specs.Prelude.{◌≡◌, ◌↔◌, OnOk, Contains, AllPairs};
 ghost use Rattle.std.specs.declared.cmp.Ordering.TheVariants.{Less};
 ghost use Rattle.std.specs.List.Sorted.{IsNonDecreasingBy};
 ghost use Rattle.chart_model.specs.Names.{name_cmp};
@@ -15,7 +15,7 @@ use crate::axis::{Axis, Span};
 use crate::entry::{BESIDE, Entry, between};
 use chart_model::Name;
 use plane_bounds::Bounds;
-use std::alloc::{AllocError, Global};
+use std::alloc::AllocError;
 
 /// Adds the name of the box at a place, where the box meets the area.
 fn push_at(
@@ -50,7 +50,8 @@ fn push_entries(
     Ok(())
 }
 
-/// Adds the names of the boxes that meet the area and stand in the buckets from one up to another.
+/// Adds the names of the boxes that meet the area and stand in the buckets from one up to another. Returns how many
+/// boxes it looked at.
 fn push_between(
     names: &mut Vec<Name>,
     boxes: &[(Name, Bounds)],
@@ -58,16 +59,18 @@ fn push_between(
     entries: &[Entry],
     first: u16,
     last: u16,
-) -> Result<(), AllocError>
+) -> Result<usize, AllocError>
     requires { IsNonDecreasingBy bucket_of entries.now }
     ensures { OnOk result
         (AreToldBetween boxes.now area entries.now first last names.old.items names.new.items) }
 {
-    push_entries(names, boxes, area, between(entries, first, last))?;
-    Ok(())
+    let those = between(entries, first, last);
+    push_entries(names, boxes, area, those)?;
+    Ok(those.len())
 }
 
-/// Adds the names of the boxes that meet the area and stand in some columns of some rows.
+/// Adds the names of the boxes that meet the area and stand in some columns of some rows. Returns how many boxes it
+/// looked at.
 fn push_rows(
     names: &mut Vec<Name>,
     boxes: &[(Name, Bounds)],
@@ -75,62 +78,48 @@ fn push_rows(
     entries: &[Entry],
     rows: Span,
     columns: Span,
-) -> Result<(), AllocError>
+) -> Result<usize, AllocError>
     requires { IsNonDecreasingBy bucket_of entries.now }
     ensures { OnOk result (AreToldIn boxes.now area entries.now rows.first rows.last columns.first columns.last
         names.old.items names.new.items) }
 {
+    let mut looked_at: usize = 0;
     for row in rows.first..rows.last + 1 {
         let first = row * 64 + columns.first;
         let last = row * 64 + columns.last;
-        push_between(names, boxes, area, entries, first, last)?;
+        let count = push_between(names, boxes, area, entries, first, last)?;
+        looked_at = looked_at.saturating_add(count);
     }
-    Ok(())
+    Ok(looked_at)
 }
 
-/// The names of the boxes that meet the area, some of them several times: of those that stand in the buckets that the
-/// area covers, and of those beside the buckets.
-pub(crate) fn names_met(
-    alloc: Global,
+/// Puts the names of the boxes that meet the area in the place of others, some of them several times: of those that
+/// stand in the buckets that the area covers, and of those beside the buckets. Returns how many boxes it looked at.
+pub(crate) fn find_met(
+    names: &mut Vec<Name>,
     boxes: &[(Name, Bounds)],
     area: Bounds,
     entries: &[Entry],
     rows: Axis,
     columns: Axis,
-) -> Result<Vec<Name>, AllocError>
+) -> Result<usize, AllocError>
     requires ordered { IsNonDecreasingBy bucket_of entries.now }
     requires entered { AreEntered boxes.now rows columns entries.now }
-    ensures { IfOk result (λ names. (name : Name) → Contains names.items name ↔ IsMet boxes.now area name) }
+    ensures { OnOk result ((name : Name) → Contains names.new.items name ↔ IsMet boxes.now area name) }
 {
-    let mut names = Vec::new(alloc);
-    push_between(&mut names, boxes, area, entries, BESIDE, BESIDE)?;
+    names.clear();
+    let beside = push_between(names, boxes, area, entries, BESIDE, BESIDE)?;
     let rows = rows.span(area.y0, area.y1);
     let columns = columns.span(area.x0, area.x1);
-    push_rows(&mut names, boxes, area, entries, rows, columns)?;
-    Ok(names)
+    let within = push_rows(names, boxes, area, entries, rows, columns)?;
+    Ok(beside.saturating_add(within))
 }
 
-/// How many entries are looked at for the names of the boxes that meet the area. Nothing that is answered hangs on it,
-/// but whether there is an answer. It costs a search for each row of buckets, and takes no memory.
-pub(crate) fn looked_at(area: Bounds, entries: &[Entry], rows: Axis, columns: Axis) -> usize
-    requires { IsNonDecreasingBy bucket_of entries.now }
+/// Puts the names in order, each once. It takes no memory.
+pub(crate) fn keep_each_once(names: &mut Vec<Name>)
+    ensures same { (name : Name) → Contains names.new.items name ↔ Contains names.old.items name }
+    ensures ordered { AllPairs (λ x y. name_cmp x y ≡ Less) names.new.items }
 {
-    let rows = rows.span(area.y0, area.y1);
-    let columns = columns.span(area.x0, area.x1);
-    let mut count = between(entries, BESIDE, BESIDE).len();
-    for row in rows.first..rows.last + 1 {
-        let met = between(entries, row * 64 + columns.first, row * 64 + columns.last);
-        count = count.saturating_add(met.len());
-    }
-    count
-}
-
-/// The names in order, each once.
-pub(crate) fn each_once(mut names: Vec<Name>) -> Result<Vec<Name>, AllocError>
-    ensures same { IfOk result (λ sorted. (name : Name) → Contains sorted.items name ↔ Contains names.items name) }
-    ensures ordered { IfOk result (λ sorted. AllPairs (λ x y. name_cmp x y ≡ Less) sorted.items) }
-{
-    names.sort()?;
+    names.sort_unstable();
     names.dedup();
-    Ok(names)
 }

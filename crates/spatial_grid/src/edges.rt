@@ -6,13 +6,12 @@
 ghost use Rattle.std.specs.Prelude.{◌≡◌, T, IfOk};
 ghost use Rattle.std.specs.FinMap as finite;
 ghost use Rattle.chart_model.specs.Names.{name_cmp};
-ghost use Rattle.area_rings.specs.Edge.{begins_and_ends, ends_of};
 ghost use Rattle.spatial_grid.specs.Edges.{ends_at, node_place, node_table};
 
 use crate::table::find;
-use area_rings::point;
-use chart_model::codes::{BEGIN_NODE, CONNECTED_NODE, EDGE, END_NODE, ISOLATED_NODE};
-use chart_model::{Cell, Name, Pointer, Vector};
+use area_rings::{end_names, point};
+use chart_model::codes::{CONNECTED_NODE, EDGE, ISOLATED_NODE};
+use chart_model::{Cell, Name, Vector};
 use plane_geometry::Pt;
 use std::alloc::{AllocError, Global};
 
@@ -47,29 +46,6 @@ pub(crate) fn node_table(alloc: Global, cell: &Cell) -> Result<Vec<(Name, Pt)>, 
         }
     }
     Ok(nodes)
-}
-
-/// Whether two pointers are to an edge's begin node and to its end node.
-fn begins_and_ends(begin: &Pointer, end: &Pointer) -> bool
-    ensures { result ≡ begins_and_ends begin.now end.now }
-{
-    begin.topi == BEGIN_NODE && end.topi == END_NODE
-}
-
-/// The begin node and the end node that an edge's pointers name.
-fn end_names(pointers: &[Pointer]) -> Option<(Name, Name)>
-    ensures { result ≡ ends_of pointers.now }
-{
-    let [first, second] = pointers else {
-        return None;
-    };
-    if begins_and_ends(first, second) {
-        return Some((first.target, second.target));
-    }
-    if begins_and_ends(second, first) {
-        return Some((second.target, first.target));
-    }
-    None
 }
 
 /// The ends of a vector record, if it is an edge between two nodes that have a coordinate.

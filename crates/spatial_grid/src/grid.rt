@@ -8,11 +8,10 @@ ghost use Rattle.spatial_grid.specs.Box.{IsGridOf};
 
 use crate::axis::{Axis, distance};
 use crate::boxes::boxes_of;
-use crate::candidates::{each_once, looked_at, names_met};
+use crate::candidates::{find_met, keep_each_once};
 use crate::entries::entries_of;
 use crate::entry::Entry;
 use crate::kept::keeps_boxes;
-use crate::point_box::around;
 use chart_model::{Cell, KeyMap, Name, NameList};
 use plane_bounds::Bounds;
 use std::alloc::{AllocError, Global};
@@ -56,7 +55,7 @@ pub type GridMap = KeyMap<Grid>;
 fn reach(boxes: &[(Name, Bounds)]) -> Bounds {
     let mut all = Bounds::NOTHING;
     for (_, bounds) in boxes {
-        all = around(all, *bounds);
+        all = all.around(*bounds);
     }
     all
 }
@@ -103,16 +102,22 @@ impl Grid {
     pub fn candidates(&self, alloc: Global, area: &Bounds) -> Result<NameList, AllocError>
         ensures { IfOk result (λ names. AreCandidates self.now area.now names) }
     {
-        let boxes = self.boxes.as_slice();
-        let entries = self.entries.as_slice();
-        let names = names_met(alloc, boxes, *area, entries, self.rows, self.columns)?;
-        Ok(NameList::from_vec(each_once(names)?))
+        let mut names = Vec::new(alloc);
+        self.find_candidates(&mut names, area)?;
+        Ok(NameList::from_vec(names))
     }
 
-    /// How many boxes `candidates` looks at for an area, one that stands in several buckets once for each. Nothing that
-    /// is answered hangs on it, but whether there is an answer. It takes no memory.
-    pub fn looked_at(&self, area: &Bounds) -> usize {
-        looked_at(*area, self.entries.as_slice(), self.rows, self.columns)
+    /// Puts the names that `candidates` gives for an area in the place of others, for who asks for many areas. Returns
+    /// how many boxes it looked at, one that stands in several buckets once for each: that is what it costs. Where there
+    /// is no memory the list may hold any names.
+    pub fn find_candidates(&self, names: &mut Vec<Name>, area: &Bounds) -> Result<usize, AllocError>
+        ensures { OnOk result (AreCandidates self.now area.now names.new.items) }
+    {
+        let boxes = self.boxes.as_slice();
+        let entries = self.entries.as_slice();
+        let looked_at = find_met(names, boxes, *area, entries, self.rows, self.columns)?;
+        keep_each_once(names);
+        Ok(looked_at)
     }
 
     /// Brings the grid of a chart up to date: it was the grid of the old chart and becomes that of the new one, where

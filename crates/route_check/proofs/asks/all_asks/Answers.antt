@@ -9,10 +9,10 @@ loop-before-preserved c =
     let before = c.loop-before.before in
     let legs = legs_of c.args.route.now in
     let here : (before + 1) - 1 ≡ before = omega arith in
-    next_before c.args.grid.now c.args.from.now.settings.now c.args.from.now.cell.now c.args.route.now before c.leg.result c.loop-before.asks.items c.push_leg.new.asks.items
-    (subst (λ (k : ℕ). slice_get legs k ≡ Some c.leg.result) here c.leg.ensures) c.loop-before.invariant c.in_ok-push_leg.ensures
+    next_before c.args.grid.now c.args.route.now before c.leg-leg.result c.loop-before.asks.items c.push_leg.new.asks.items
+    (subst (λ (k : ℕ). slice_get legs k ≡ Some c.leg-leg.result) here c.leg-leg.ensures) c.loop-before.invariant c.in_ok-push_leg.ensures
 
 pub returns : goal.returns
 returns c =
-    all_before c.args.grid.now c.args.from.now.settings.now c.args.from.now.cell.now c.args.route.now c.loop-before.before c.loop-before.asks.items
+    all_before c.args.grid.now c.args.route.now c.loop-before.before c.loop-before.asks.items
     (omega (arith, c.leg_count-before-end.ensures.legs, c.loop-before-test.false)) c.loop-before.invariant

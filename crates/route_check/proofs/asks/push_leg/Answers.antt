@@ -1,18 +1,15 @@
 use Rattle.std.proofs.Common.{List, ◌++◌, map, ap, ◌∙◌, subst}
-use Rattle.std.specs.List.{filter}
 use Rattle.chart_model.specs.declared.name.Name.{Name}
 use Rattle.plane_bounds.specs.declared.bounds.Bounds.{Bounds}
 use Rattle.spatial_grid.specs.Candidates.{AreCandidates}
-use Rattle.route_check.specs.Ask.{ask_for, is_suspect}
+use Rattle.route_check.specs.Ask.{ask_for}
 use Rattle.route_check.proofs.Asking.{leg_gains}
 use Rattle.route_check.proofs.asks.push_leg.Goals as goal
 
 pub returns : goal.returns
 returns c =
-    let settings = c.args.from.now.settings.now in
-    let cell = c.args.from.now.cell.now in
-    let names = c.in_ok-names.names in
+    let names = c.find_candidates.new.names.items in
     let asks = c.args.asks.now.items in
-    let candidates = subst (λ (area : Bounds). AreCandidates c.args.grid.now area names) c.reach_of.ensures c.in_ok-names.ensures in
-    leg_gains c.args.grid.now settings cell c.args.leg c.args.before names asks c.push_names.new.asks.items candidates
-    (c.in_ok-push_names.ensures ∙ ap (λ (l : List Name). asks ++ map (ask_for c.args.before) (filter (is_suspect settings cell) l)) c.as_slice-names.ensures)
+    let candidates = subst (λ (area : Bounds). AreCandidates c.args.grid.now area names) c.reach_of.ensures c.in_ok-looked_at.ensures in
+    leg_gains c.args.grid.now c.args.leg c.args.before names asks c.push_names.new.asks.items candidates
+    (c.in_ok-push_names.ensures ∙ ap (λ (l : List Name). asks ++ map (ask_for c.args.before) l) c.as_slice.ensures.value)

@@ -3,5 +3,5 @@ use Rattle.spatial_grid.proofs.candidates.push_between.Goals as goal
 pub returns : goal.returns
 returns c = record {
   adds = c.in_ok-push_entries.ensures.adds;
-  told = λ entry h a b. c.in_ok-push_entries.ensures.told entry (c.between.ensures entry h a b);
+  told = λ entry h a b. c.in_ok-push_entries.ensures.told entry (c.between-those.ensures entry h a b);
 }
