@@ -1,5 +1,6 @@
 pub mod SmallDepths
 pub mod Pointers
+pub mod Points
 pub mod Found
 pub mod Covering
 pub mod Grouped

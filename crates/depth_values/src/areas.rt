@@ -8,9 +8,11 @@ use crate::depth_area::{AreaMark, DepthArea};
 use crate::effort::Effort;
 use crate::extent::Extent;
 use crate::extents::Extents;
-use crate::twins::LikelyTwins;
+use crate::same::are_same_rings;
+use crate::twins::{LikelyTwins, number_of_pointers, number_of_rings};
 use area_rings::RingList;
 use chart_model::{Feature, Name};
+use plane_geometry::Ring;
 use std::alloc::{AllocError, Global};
 use std::marker::Model;
 
@@ -63,8 +65,10 @@ impl DepthAreas {
 pub(crate) struct AreaList {
     areas: Vec<DepthArea>,
     extents: Vec<Extent>,
-    /// The places of the areas whose rings were made.
-    twins: LikelyTwins,
+    /// Where areas with such pointers may be.
+    by_pointers: LikelyTwins,
+    /// Where areas with such rings may be.
+    by_rings: LikelyTwins,
     /// How many more segments the strips of the extents may have.
     room: Effort,
 }
@@ -82,18 +86,20 @@ impl Model for AreaList {
 }
 
 impl AreaList {
-    ghost use Rattle.std.specs.Prelude.{◌≡◌, ◌<◌, ◌++◌, ◌∷◌, [], length, slice_get, option_map, IfOk, IfSome};
+    ghost use Rattle.std.specs.Prelude.{◌≡◌, ◌<◌, ◌++◌, ◌∷◌, [], length, slice_get, option_map, Some, IfOk, IfSome};
     ghost use Rattle.depth_values.specs.Area.{d1_of};
 
     /// No area, of a chart with so many features.
     pub(crate) fn new(alloc: Global, features: usize) -> Result<AreaList, AllocError>
         ensures { IfOk result (λ list. list ≡ []) }
     {
-        let twins = LikelyTwins::new(alloc, features)?;
+        let by_pointers = LikelyTwins::new(alloc, features)?;
+        let by_rings = LikelyTwins::new(alloc, features)?;
         Ok(AreaList {
             areas: Vec::new(alloc),
             extents: Vec::new(alloc),
-            twins,
+            by_pointers,
+            by_rings,
             room: Effort::of_strips(),
         })
     }
@@ -109,7 +115,21 @@ impl AreaList {
     /// The place of an area that may have the pointers of a feature. Nothing that is answered hangs on it, but how
     /// fast.
     pub(crate) fn likely_twin(&self, feature: &Feature) -> Option<usize> {
-        self.twins.place_for(feature)
+        self.by_pointers.place_for(number_of_pointers(feature))
+    }
+
+    /// The place of an area that has just these rings, where one is found.
+    pub(crate) fn place_of(&self, rings: &[Ring]) -> Option<usize>
+        ensures { IfSome result (λ place. option_map (λ area. area.rings) (slice_get self.now place) ≡ Some rings.now) }
+    {
+        let place = self.by_rings.place_for(number_of_rings(rings))?;
+        let area = self.areas.get(place)?;
+        let extent = self.extents.get(area.extent)?;
+        if are_same_rings(extent.rings(), rings) {
+            Some(place)
+        } else {
+            None
+        }
     }
 
     /// The list with an area more, whose rings were made for it.
@@ -125,21 +145,25 @@ impl AreaList {
     {
         let mut areas = self.areas;
         let mut extents = self.extents;
-        let mut twins = self.twins;
+        let mut by_pointers = self.by_pointers;
+        let mut by_rings = self.by_rings;
         let mut room = self.room;
-        twins.keep(feature, areas.len());
+        let place = areas.len();
+        by_pointers.keep(number_of_pointers(feature), place);
+        by_rings.keep(number_of_rings(rings.as_slice()), place);
         let area = DepthArea {
             name,
             d1: least_depth(feature),
             extent: extents.len(),
         };
-        let extent = Extent::new(alloc, &mut room, rings, areas.len())?;
+        let extent = Extent::new(alloc, &mut room, rings, place)?;
         areas.push(area)?;
         extents.push(extent)?;
         Ok(AreaList {
             areas,
             extents,
-            twins,
+            by_pointers,
+            by_rings,
             room,
         })
     }
@@ -168,7 +192,8 @@ impl AreaList {
         Ok(AreaList {
             areas,
             extents,
-            twins: self.twins,
+            by_pointers: self.by_pointers,
+            by_rings: self.by_rings,
             room: self.room,
         })
     }

@@ -108,6 +108,13 @@ impl Extent {
         Ok(())
     }
 
+    /// The rings.
+    pub(crate) fn rings(&self) -> &[Ring]
+        ensures { result.now ≡ self.now.rings }
+    {
+        self.rings.as_slice()
+    }
+
     /// How many areas cover this. Nothing that is answered hangs on it, but whether there is an answer.
     pub(crate) fn count(&self) -> usize {
         self.others.len().saturating_add(1)

@@ -22,6 +22,7 @@ mod hazard;
 mod laws;
 mod made;
 mod safety;
+mod same;
 mod twins;
 mod under;
 

@@ -1,10 +1,10 @@
 //! How the depth areas of a chart are made.
 //!
-//! An area whose pointers are those of another covers what the other covers, so that no rings are made for it. How many
-//! points rings have at most is taken of the effort before they are made, since a feature may point to one edge many
-//! times.
+//! An area whose pointers are those of another covers what the other covers, so that no rings are made for it; nor are
+//! rings kept twice that come out the same. How many points rings have at most is taken of the effort before they are
+//! made, since a feature may point to one edge many times.
 
-ghost use Rattle.std.specs.Prelude.{◌≡◌, IsTrue, true, IfOk, IfSome};
+ghost use Rattle.std.specs.Prelude.{◌≡◌, true, IfOk, IfSome};
 ghost use Rattle.depth_values.specs.Made.{AreMade, IsTwin, with_feature};
 ghost use Rattle.depth_values.specs.Under.{areas_of, is_depth_area};
 
@@ -12,16 +12,10 @@ use crate::areas::{AreaList, DepthAreas};
 use crate::bounded::most_points;
 use crate::depth_area::is_depth_area;
 use crate::effort::Effort;
+use crate::same::have_same_pointers;
 use area_rings::rings;
 use chart_model::{Cell, Feature, Name};
 use std::alloc::{AllocError, Global};
-
-/// Whether two features have the same pointers.
-fn have_same_pointers(one: &Feature, other: &Feature) -> bool
-    ensures { IsTrue result → one.now.pointers ≡ other.now.pointers }
-{
-    one.pointers.as_slice() == other.pointers.as_slice()
-}
 
 /// The place of an area that has the rings of a feature, where one is found.
 fn twin_of(cell: &Cell, list: &AreaList, feature: &Feature) -> Option<usize>
@@ -53,7 +47,10 @@ fn with_rings(
     let Some(rings) = rings(alloc, cell, feature)? else {
         return Ok(list);
     };
-    list.with_rings(alloc, name, feature, rings)
+    match list.place_of(rings.as_slice()) {
+        Some(place) => list.with_twin(place, name, feature),
+        None => list.with_rings(alloc, name, feature, rings),
+    }
 }
 
 /// The list with the area that a feature is; without it, where it is none or has no rings.

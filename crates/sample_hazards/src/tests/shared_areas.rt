@@ -1,11 +1,11 @@
-//! Areas that have the same rings, among others that begin with the same edge.
+//! Areas that have the same rings, by the same pointers or by others, among others that begin with the same edge.
 
 use crate::tests::squares::{BETWEEN, DEEP, SHALLOW, SQUARES, object};
 use area_rings::{Shape, feature_shape};
 use chart_model::Cell;
 use depth_values::codes::WRECKS;
 use depth_values::{Effort, areas_under, depth_areas, hazard_depth, is_danger_over_safe_area};
-use sample_rows::{Item, Row, Setting, add_rows, chart, feature, name};
+use sample_rows::{Item, Row, Setting, add_rows, chart, feature, name, vector};
 use std::alloc::Global;
 use std::test::Fail;
 
@@ -20,20 +20,25 @@ const DEEPEST: u32 = 1_151;
 
 const SHOAL: u32 = 1_200;
 
-/// The squares, and 300 areas of 2 metres by turns in the place of one and of the other: all begin with the edge
-/// between the squares. A wreck at their bottom has its node at a place.
+/// Another edge between the squares, as long and wide as the first.
+const SAME_EDGE: Row = vector!(130, 6, [(120, 1, 1), (120, 2, 2)], []);
+
+/// The squares, and 300 areas of 2 metres by turns in the place of one and of the other: all begin with an edge between
+/// the squares, and half of those in the first square with another than the others. A wreck at their bottom has its node
+/// at a place.
 fn shared_areas(alloc: Global, place: &'static [Item]) -> Result<Cell, Fail> {
     let mut cell = chart(alloc, &SQUARES)?;
+    add_rows(alloc, &mut cell, &[SAME_EDGE])?;
     for number in FIRST..=LAST {
         let depth: &'static [Setting] = match number {
             DEEPEST => &[(87, b"30")],
             SHOAL => &[(87, b"1")],
             _ => &[(87, b"2")],
         };
-        let pointers: &'static [Item] = if number % 2 == 1 {
-            &[(130, 1, 1), (130, 2, 1)]
-        } else {
-            &[(130, 1, 2), (130, 3, 2)]
+        let pointers: &'static [Item] = match number % 4 {
+            1 => &[(130, 1, 1), (130, 2, 1)],
+            3 => &[(130, 6, 1), (130, 2, 1)],
+            _ => &[(130, 1, 2), (130, 3, 2)],
         };
         let row = Row {
             attrs: depth,

@@ -1,6 +1,6 @@
 use Rattle.std.proofs.Common.{sym, ◌∙◌}
 use Rattle.depth_values.proofs.Pointers.{pointer_lists}
-use Rattle.depth_values.proofs.made.have_same_pointers.Goals as goal
+use Rattle.depth_values.proofs.same.have_same_pointers.Goals as goal
 
 pub returns : goal.returns
 returns c = λ so.
