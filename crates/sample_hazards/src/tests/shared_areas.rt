@@ -60,14 +60,15 @@ fn wreck_shape(alloc: Global, cell: &Cell) -> Result<Shape, Fail> {
 
 /// Whether those areas are under the wreck whose numbers leave these rests by two, and some squares first.
 fn are_under(alloc: Global, cell: &Cell, squares: usize, rests: &[u32]) -> Result<bool, Fail> {
-    let names = areas_under(alloc, cell, &wreck_shape(alloc, cell)?)?;
-    let mut others = names.as_slice().iter().skip(squares);
+    let mut wanted = Vec::new(alloc);
     for number in FIRST..=LAST {
-        if rests.contains(&(number % 2)) && others.next() != Some(&name!(100, number)) {
-            return Ok(false);
+        if rests.contains(&(number % 2)) {
+            wanted.push(name!(100, number))?;
         }
     }
-    Ok(others.next().is_none())
+    let names = areas_under(alloc, cell, &wreck_shape(alloc, cell)?)?;
+    let others = names.as_slice().get(squares..).ok_or("the squares")?;
+    Ok(others == wanted.as_slice())
 }
 
 /// The depth over the wreck.
@@ -85,21 +86,57 @@ fn is_danger(alloc: Global, cell: &Cell, contour: i32) -> Result<bool, Fail> {
     Ok(is_danger_over_safe_area(alloc, effort, &areas, contour, feature, &shape)?)
 }
 
-// In one square, in the other and on the edge between them: the areas, the least depth, and whether one is safe.
+/// Whether the wreck is a danger at just the contours from one to another.
+fn is_danger_between(alloc: Global, cell: &Cell, least: i32, most: i32) -> Result<bool, Fail> {
+    let within = is_danger(alloc, cell, least)? && is_danger(alloc, cell, most)?;
+    let below = is_danger(alloc, cell, least.saturating_sub(1))?;
+    let above = is_danger(alloc, cell, most.saturating_add(1))?;
+    Ok(within && !below && !above)
+}
+
+/// Where the wreck is, the squares under it, the rests by two of the numbers of the areas under it, the least depth of
+/// these, and the greatest.
+struct Case {
+    place: &'static [Item],
+    squares: usize,
+    rests: &'static [u32],
+    least: i32,
+    greatest: i32,
+}
+
+/// In one square, in the other, and on the edge between them.
+static CASES: [Case; 3] = [
+    Case {
+        place: DEEP,
+        squares: 1,
+        rests: &[1],
+        least: 200,
+        greatest: 3_000,
+    },
+    Case {
+        place: SHALLOW,
+        squares: 1,
+        rests: &[0],
+        least: 100,
+        greatest: 200,
+    },
+    Case {
+        place: BETWEEN,
+        squares: 2,
+        rests: &[0, 1],
+        least: 100,
+        greatest: 3_000,
+    },
+];
+
+// A wreck has the least depth of the areas under it, and is a danger where one of them is safe.
 #[test]
 fn a_wreck_over_shared_areas(rt: HostRuntime) -> Result<(), Fail> {
-    let deep = shared_areas(rt.alloc(), DEEP)?;
-    assert!(rt; are_under(rt.alloc(), &deep, 1, &[1])?);
-    assert_eq!(rt; depth(rt.alloc(), &deep)?, 200);
-    assert!(rt; is_danger(rt.alloc(), &deep, 3_000)? && !is_danger(rt.alloc(), &deep, 3_001)?);
-    assert!(rt; is_danger(rt.alloc(), &deep, 200)? && !is_danger(rt.alloc(), &deep, 199)?);
-    let shallow = shared_areas(rt.alloc(), SHALLOW)?;
-    assert!(rt; are_under(rt.alloc(), &shallow, 1, &[0])?);
-    assert_eq!(rt; depth(rt.alloc(), &shallow)?, 100);
-    assert!(rt; is_danger(rt.alloc(), &shallow, 200)? && !is_danger(rt.alloc(), &shallow, 3_000)?);
-    let between = shared_areas(rt.alloc(), BETWEEN)?;
-    assert!(rt; are_under(rt.alloc(), &between, 2, &[0, 1])?);
-    assert_eq!(rt; depth(rt.alloc(), &between)?, 100);
-    assert!(rt; is_danger(rt.alloc(), &between, 3_000)?);
+    for case in &CASES {
+        let cell = shared_areas(rt.alloc(), case.place)?;
+        assert!(rt; are_under(rt.alloc(), &cell, case.squares, case.rests)?);
+        assert_eq!(rt; depth(rt.alloc(), &cell)?, case.least);
+        assert!(rt; is_danger_between(rt.alloc(), &cell, case.least, case.greatest)?);
+    }
     Ok(())
 }
