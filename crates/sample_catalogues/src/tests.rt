@@ -1,0 +1,9 @@
+mod descriptors;
+mod fault_texts;
+mod files;
+mod lines;
+mod orders;
+mod paths;
+mod published;
+mod records;
+mod sizes;
