@@ -50,6 +50,9 @@ Decides-short text =
     (λ n. (omega (arith, n.0.0), (n.1, n.0.1)))
     (Decides-and (nat_le 1 (length text)) (nat_le (length text) 9 && all_ascii_digits text) (Decides-le 1 (length text)) few)
 
+pub Decides-some : (number : ℕ) → Decides (nat_le 1 number) (1 ≤ number)
+Decides-some number = Decides-le 1 number
+
 pub Decides-made : (areas update : ℕ) → Decides (can_be_made areas update) (CanBeMade areas update)
 Decides-made areas update =
     let above = Decides-and (nat_le areas 20000) (nat_le update 999) (Decides-le areas 20000) (Decides-le update 999) in

@@ -15,13 +15,14 @@ ghost use Rattle.session_core.specs.Turn.{turn_of};
 
 use chart_store::commands_leave_what_is_held;
 
-/// A turn in which no command is accepted leaves all as it was; any other leaves what its command leaves. So the
-/// cells stay what their live files leave.
+/// A turn in which no command is accepted leaves what is held as it was; any other leaves what its command leaves. So
+/// the cells stay what their live files leave.
 ///
 /// `no 72` is replied only where the shelf failed.
 pub fn turns_follow_their_commands()
     ensures none { (fetches : Fetches) (model : Model) (event : Event) →
-        (turn_of fetches model event).command ≡ None → (turn_of fetches model event).model ≡ model }
+        (turn_of fetches model event).command ≡ None →
+        (turn_of fetches model event).model.state ≡ model.state }
     ensures some { (fetches : Fetches) (model : Model) (event : Event) (command : Command) →
         (turn_of fetches model event).command ≡ Some command →
         (turn_of fetches model event).model ≡ model_with model command (state_with model.state command) }

@@ -73,6 +73,9 @@ n\x01\0\0\0\xff\xff\xff\x1e";
 const CANCELLATION: &[u8] = b"00063 D   0900034   23 4DSID29000\x1e\
 AA5TEST1.002\x1f0\x1f2\x1f20240202\x02&\x02\x1e";
 
+/// A record that says nothing of a chart, but for the 70,000 bytes of its one field.
+const PADDING: &[u8] = b"70039 D     00039   5504NATF7000000000\x1e";
+
 /// What the mariner set.
 pub const SETTINGS: Settings = Settings {
     safety_contour: 3_000,
@@ -112,6 +115,17 @@ fn add_file(
     shelf.insert(String::from_str(alloc, name)?, FileBytes::from_vec(bytes))
 }
 
+/// The records of the base file, and two that say nothing.
+fn padded(alloc: Global) -> Result<Vec<u8>, AllocError> {
+    let mut records = BASE.to_vec(alloc)?;
+    let field: Vec<u8> = vec![in alloc; 0; 70_000]?;
+    for _ in 0..2 {
+        records.extend_from_slice(PADDING)?;
+        records.extend_from_slice(&field)?;
+    }
+    Ok(records)
+}
+
 /// Puts the file of a route on the shelf.
 fn put_route(
     alloc: Global,
@@ -131,6 +145,7 @@ pub fn shelf(alloc: Global, call: u64) -> Result<MemoryShelf, AllocError> {
     put_route(alloc, &mut shelf, "SHORT", b"box 0 0\n100 0\n")?;
     add_file(alloc, &mut shelf, "W", WRECK)?;
     add_file(alloc, &mut shelf, "T", BASE)?;
+    add_file(alloc, &mut shelf, "P", &padded(alloc)?)?;
     add_file(alloc, &mut shelf, "U", UPDATE)?;
     add_file(alloc, &mut shelf, "CANCEL", CANCELLATION)?;
     Ok(shelf)
@@ -165,12 +180,12 @@ pub fn replies<C: Ledger>(
     Ok(said)
 }
 
-/// The replies to lines over a new store, where a call of the shelf and one of the desk fail.
+/// The replies to lines over the store of a desk, where a call of the shelf fails.
 fn replies_with<C: Ledger>(
     alloc: Global,
     lines: &[&[u8]],
     fetch: u64,
-    call: u64,
+    desk: &mut MemoryDesk,
     blank: Blank,
 ) -> Result<Vec<u8>, AllocError>
     requires name { blank.name ≡ C.name }
@@ -179,25 +194,28 @@ fn replies_with<C: Ledger>(
 {
     let mut steps = Steps::<C>::new(blank);
     let mut shelf = shelf(alloc, fetch)?;
-    let mut desk = MemoryDesk::new(alloc, failing(alloc, call)?);
-    match open_store(alloc, &mut desk, &mut steps) {
+    match open_store(alloc, desk, &mut steps) {
         Ok(store) => {
             let mut session = Session::new(alloc, store, table(alloc)?, SETTINGS, &mut steps)?;
-            replies(
-                alloc,
-                &mut session,
-                &mut shelf,
-                &mut desk,
-                &mut steps,
-                lines,
-            )
+            replies(alloc, &mut session, &mut shelf, desk, &mut steps, lines)
         }
         Err(_) => Vec::from_slice(alloc, b"not opened"),
     }
 }
 
+/// The same where no call of the shelf fails.
+pub fn said_on(
+    alloc: Global,
+    lines: &[&[u8]],
+    desk: &mut MemoryDesk,
+) -> Result<Vec<u8>, AllocError> {
+    replies_with::<Brand>(alloc, lines, 0, desk, Blank::new(1))
+}
+
+/// The replies over a new store, where a call of the shelf and one of the desk fail.
 fn said(alloc: Global, lines: &[&[u8]], fetch: u64, call: u64) -> Result<Vec<u8>, AllocError> {
-    replies_with::<Brand>(alloc, lines, fetch, call, Blank::new(1))
+    let mut desk = MemoryDesk::new(alloc, failing(alloc, call)?);
+    replies_with::<Brand>(alloc, lines, fetch, &mut desk, Blank::new(1))
 }
 
 /// Lines of a session, from one that asks about a file to one that lists the cells when the last is gone.
