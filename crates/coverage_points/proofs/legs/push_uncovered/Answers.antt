@@ -1,0 +1,9 @@
+use Rattle.std.proofs.Common.{inl, inr, sym, ◌∙◌, refl}
+use Rattle.std.proofs.lemmas.Bool.{false≢true}
+use Rattle.coverage_points.proofs.legs.push_uncovered.Goals as goal
+
+pub returns-then-is_covered : goal.returns-then-is_covered
+returns-then-is_covered c = inl (c.is_covered.ensures.0 c.if-is_covered.true, refl)
+
+pub returns : goal.returns
+returns c = inr (λ any. false≢true (sym c.if-is_covered.false ∙ c.is_covered.ensures.1 any), c.in_ok-push.ensures.ok)
