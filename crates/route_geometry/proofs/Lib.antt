@@ -12,3 +12,5 @@ pub mod Open
 pub mod Directions
 pub mod Apart
 pub mod Tested
+pub mod Points
+pub mod AreaPoints

@@ -5,3 +5,4 @@ pub mod Slope
 pub mod Side
 pub mod Band
 pub mod Parted
+pub mod Points

@@ -5,6 +5,7 @@
 ghost use Rattle.std.specs.Prelude.{◌↔◌, IsTrue};
 ghost use Rattle.plane_geometry.specs.EvenOdd.{segments, all_segments};
 ghost use Rattle.route_geometry.specs.Area.{MeetsSome, MeetsArea};
+ghost use Rattle.route_geometry.specs.Points.{ReachesInside};
 
 use crate::leg::{Leg, leg_meets_segment};
 use plane_geometry::{Pt, Ring, inside_even_odd};
@@ -26,8 +27,8 @@ fn meets_ring(leg: &Leg, ring: &[Pt]) -> bool
     false
 }
 
-/// Whether the leg meets a segment of the rings.
-fn meets_boundary(leg: &Leg, rings: &[Ring]) -> bool
+/// Whether the leg meets a segment of the rings. It takes no memory.
+pub fn leg_meets_boundary(leg: &Leg, rings: &[Ring]) -> bool
     ensures { IsTrue result ↔ MeetsSome leg.now (all_segments rings.now) }
 {
     for ring in rings {
@@ -41,7 +42,9 @@ fn meets_boundary(leg: &Leg, rings: &[Ring]) -> bool
 /// Whether the leg meets an area: a segment of its rings, or with the leg's first point inside them by
 /// the even-odd rule or on one. It takes no memory.
 pub fn leg_meets_area(leg: &Leg, rings: &[Ring]) -> bool
-    ensures { IsTrue result ↔ MeetsArea leg.now rings.now }
+    ensures segments { IsTrue result ↔ MeetsArea leg.now rings.now }
+    // That is so exactly where a point of the widened leg is inside the rings or on one, of all rational points.
+    ensures points { IsTrue result ↔ ReachesInside leg.now rings.now }
 {
-    inside_even_odd(leg.a, rings) || meets_boundary(leg, rings)
+    inside_even_odd(leg.a, rings) || leg_meets_boundary(leg, rings)
 }

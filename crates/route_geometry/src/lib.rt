@@ -16,6 +16,6 @@ mod slope;
 #[cfg(test)]
 mod tests;
 
-pub use area::leg_meets_area;
+pub use area::{leg_meets_area, leg_meets_boundary};
 pub use laws::{meetings_are_tested, wider_legs_meet_more};
 pub use leg::{Leg, leg_meets_point, leg_meets_segment};

@@ -2,7 +2,7 @@ use Rattle.std.proofs.Common.{sym, ◌∙◌, refl, arith}
 use Rattle.std.proofs.lemmas.Bool.{false≢true}
 use Rattle.route_geometry.specs.Leg.{MeetsSegment}
 use Rattle.route_geometry.proofs.Walk.{found_in_ring, passed_ring, rings_walked}
-use Rattle.route_geometry.proofs.area.meets_boundary.Goals as goal
+use Rattle.route_geometry.proofs.area.leg_meets_boundary.Goals as goal
 
 pub returns-then-meets_ring : goal.returns-then-meets_ring
 returns-then-meets_ring c =
