@@ -1,0 +1,6 @@
+pub mod Members
+pub mod Numbered
+pub mod Held
+pub mod Covering
+pub mod Charted
+pub mod Numbers

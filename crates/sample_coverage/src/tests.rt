@@ -1,0 +1,4 @@
+mod areas;
+mod charts;
+mod figures;
+mod search;
