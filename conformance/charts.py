@@ -11,6 +11,10 @@ WORDS = ["--catalogue", "catalogue", "--table", "table"]
 CATALOGUE = b"O 42 DEPARE\nO 129 SOUNDG\nO 159 WRECKS\nA 87 DRVAL1\nA 88 DRVAL2\nA 179 VALSOU\n"
 TABLE = b"DEPARE A 1 - AC(DEPVS)\nWRECKS P 4 - SY(WRECKS01)\nSOUNDG P 6 - -\n"
 CELLS = 6
+# The bytes of another program.
+OTHER = b"SQLite format 3\x00" + bytes(84)
+# A record that says nothing of a chart, so that what is held of a cell takes more than one slice of a save.
+PADDING = b"%05d D     00039   5504NATF%05d00000\x1e" % (39 + 70000, 70000) + bytes(70000)
 
 
 def program(description):
@@ -43,6 +47,8 @@ def make_room(folder, script=b""):
     for cell in range(1, CELLS + 1):
         key = b"AA5TEST%d." % cell
         base = changed(sample["AA5TEST1.000"], b"AA5TEST1.", key)
+        if cell == 1:
+            base += PADDING
         write(folder, "base%d" % cell, base)
         write(folder, "again%d" % cell, changed(base, b"\x1f1\x1f0\x1f2024", b"\x1f2\x1f0\x1f2024"))
         for number in range(1, 4):
@@ -57,12 +63,16 @@ def make_room(folder, script=b""):
 
 
 def lines(rounds):
-    """The lines of a script: loads, cancels, rollbacks and drops, with remarks, bad lines and refusals between."""
+    """The lines of a script: loads, cancels, rollbacks and drops, with remarks, bad lines and refusals between, and with
+    saves: of three turns one has a whole save, one begins a save, and one ends it. The last may be left unended."""
     for turn in range(rounds):
         cell = turn % CELLS + 1
         yield "# turn %d" % turn
         yield "load base%d" % cell
+        yield "save"
         yield "load update%d.1" % cell
+        if turn % 3 != 1:
+            yield "save-step 1"
         yield "load update%d.3" % cell
         yield "load update%d.2" % cell
         yield "load update%d.3" % cell
@@ -70,6 +80,8 @@ def lines(rounds):
         yield "rollback AA5TEST%d %d" % (cell, turn % 3)
         yield "load it"
         yield "load cancel%d" % cell
+        if turn % 3 == 0:
+            yield "save-step 9"
         yield "load update%d.1" % cell
         yield "rollback AA5TEST%d 0" % cell
         yield "load again%d" % cell if turn % 4 == 1 else "hello"

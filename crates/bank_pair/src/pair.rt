@@ -40,3 +40,23 @@ pub struct Pair {
         gate ≡ 8 + length save.checkpoint + sum_by (λ frame. length frame) since.items) },
     ghost gate_in: { gate < 268435456 },
 }
+
+impl Pair {
+    ghost use Rattle.std.specs.Prelude.{option_map};
+    ghost use Rattle.bank_pair.specs.Handle.{value_of};
+
+    /// The file of the current bank, 1 or 2. It takes no memory.
+    pub fn file(&self) -> u8
+        ensures { result ≡ (value_of self.now).file }
+    {
+        self.bank.file()
+    }
+
+    /// How many slices of the save that is under way are written, and in how many it is written. It takes no memory.
+    pub fn progress(&self) -> Option<(u32, u32)>
+        ensures { result ≡ option_map (λ save. (save.written, save.slices)) (value_of self.now).save }
+    {
+        let save = self.save.as_ref()?;
+        Some((save.written, save.slices))
+    }
+}

@@ -18,7 +18,6 @@ use Rattle.iso8211_records.specs.RecordFile.{data_records_in}
 use Rattle.update_sequence.specs.Reading.{data_set_in, tags_read}
 use Rattle.update_sequence.specs.Judged.{judged}
 use Rattle.update_sequence.specs.Built.{built}
-use Rattle.update_sequence.specs.Rebuilt.{held_by}
 use Rattle.update_sequence.specs.declared.effect.Effect.{Effect}
 use Rattle.update_sequence.specs.declared.effect.Effect.TheVariants.{Replace, Extend, Cancel}
 use Rattle.update_sequence.specs.declared.fault.ReadFault.{ReadFault}
@@ -26,12 +25,13 @@ use Rattle.chart_store.specs.declared.refusal.Refusal.{Refusal}
 use Rattle.chart_store.specs.declared.refusal.Refusal.TheVariants.{FileLong, StoreFull}
 use Rattle.chart_store.specs.Refusal.{refusal_of_read, refusal_of_sequence, refusal_of_build}
 use Rattle.chart_store.specs.Fault.{or_refused}
-use Rattle.chart_store.specs.Loaded.{HoldingsByKey, files_of, files_after, buildable, holding_of}
+use Rattle.chart_store.specs.Loaded.{HoldingsByKey, files_of}
 use Rattle.chart_store.specs.Loaded.{FILE_LIMIT, STORE_LIMIT, live_bytes, store_within, within_limit, cells_within, come_to}
-use Rattle.chart_store.specs.Loaded.{Outcome, held_with, accepted_file, loaded}
+use Rattle.chart_store.specs.ByFiles.{accepted_file, loaded_by_files}
+use Rattle.chart_store.specs.Loaded.{Outcome, loaded}
 use Rattle.chart_store.specs.Live.{IsLive, AreLive}
-use Rattle.chart_store.specs.Taken.{held_of, chart_of, held_after, chart_after, cell_after, state_by_effect}
-use Rattle.chart_store.specs.Taken.{outcome_of_data_set}
+use Rattle.chart_store.specs.Loaded.{held_of, chart_of, held_after, chart_after, cell_after, cell_by, state_by_effect}
+use Rattle.chart_store.specs.Loaded.{outcome_of_data_set}
 use Rattle.chart_store.proofs.Holdings.{AreLive-insert}
 use Rattle.chart_store.proofs.Loading.{Laws, WasLive, live-replace, live-extend, live-cancel, accepted-data_set}
 
@@ -89,22 +89,12 @@ store_within-is cells after e = go (leb (live_bytes cells) STORE_LIMIT) e
 
 -- ---- what a file is that is accepted
 
-held_with-is : (state : StateValue) (key : List ℕ) (here : Holding) (done : Outcome) → held_with state key here ≡ Ok done →
-    (key ≡ done.key) × (map.insert state.cells key here ≡ done.state.cells)
-held_with-is state key here done e =
-    let b = bound_is (store_within (map.insert state.cells key here)) _ done e in
-    let same = ok_is b.2 in (
-      ap (λ (d : Outcome). d.key) same,
-      ap (λ (s : StateValue). s.cells)
-          (store_within-is (map.insert state.cells key here) b.0 b.1 ∙ ap (λ (d : Outcome). d.state) same),
-    )
-
 -- a file that was accepted is a data set, and its cell alone is put in
 pub record IsLoaded (state : StateValue) (file : List ℕ) (done : Outcome) : Type 0 where
   pub dataset : DatasetValue
   pub short : IsFileLength (length file)
   pub reads : data_set_in file ≡ Ok dataset
-  pub accepts : accepted_file state dataset file (files_of (map.get state.cells dataset.header.key)) ≡ Ok done
+  pub accepts : outcome_of_data_set state dataset file (map.get state.cells dataset.header.key) ≡ Ok done
 
 pub loaded-is : (state : StateValue) (file : List ℕ) (done : Outcome) → loaded state file ≡ Ok done →
     IsLoaded state file done
@@ -117,7 +107,7 @@ loaded-is state file done e =
       dataset = r.0;
       short = w.1;
       reads = ap data_set_in w.0 ∙ refused_is refusal_of_read (data_set_in b.0) r.0 r.1;
-      accepts = ap (λ (l : List ℕ). accepted_file state r.0 l (files_of (map.get state.cells r.0.header.key))) w.0 ∙ r.2;
+      accepts = ap (λ (l : List ℕ). outcome_of_data_set state r.0 l (map.get state.cells r.0.header.key)) w.0 ∙ r.2;
     }
 
 pub record IsPut (state : StateValue) (dataset : DatasetValue) (done : Outcome) : Type 0 where
@@ -125,31 +115,38 @@ pub record IsPut (state : StateValue) (dataset : DatasetValue) (done : Outcome) 
   pub keyed : dataset.header.key ≡ done.key
   pub cells : map.insert state.cells dataset.header.key here ≡ done.state.cells
 
-pub accepted-is : (state : StateValue) (dataset : DatasetValue) (file : List ℕ) (files : List (List ℕ))
-    (done : Outcome) → accepted_file state dataset file files ≡ Ok done → IsPut state dataset done
-accepted-is state dataset file files done e =
-    judging (or_fault_as refusal_of_sequence (judged (held_by files) dataset))
-    (cells_within state.cells dataset.header.key)
-    (λ effect. or_refused refusal_of_build (buildable files effect dataset))
-    (λ effect. holding_of (files_after files effect file) dataset.header) e
-  where
-    key : List ℕ
-    key = dataset.header.key
+-- what is put in, with the effect that the file had, and the chart that it left
+record IsTaken (state : StateValue) (dataset : DatasetValue) (file : List ℕ) (before : Option Holding) (done : Outcome)
+    : Type 0 where
+  effect : Effect
+  chart : Option CellValue
+  judges : judged (held_of before) dataset ≡ Ok effect
+  builds : chart_after (chart_of before) effect dataset ≡ Ok chart
+  keyed : dataset.header.key ≡ done.key
+  cells : map.insert state.cells dataset.header.key (cell_by before effect dataset.header chart file) ≡ done.state.cells
 
-    building : (r : Result (Unit {0}) Refusal) (here : Holding) → (r >>= λ _. held_with state key here) ≡ Ok done →
-        IsPut state dataset done
-    building r here e =
-        let b = bound_is r (λ _. held_with state key here) done e in
-        let p = held_with-is state key here done b.2 in
-        record { here = here; keyed = p.0; cells = p.1 }
+taken-is : (state : StateValue) (dataset : DatasetValue) (file : List ℕ) (before : Option Holding) (done : Outcome) →
+    outcome_of_data_set state dataset file before ≡ Ok done → IsTaken state dataset file before done
+taken-is state dataset file before done e =
+    let j = bound_is (or_fault_as refusal_of_sequence (judged (held_of before) dataset)) _ done e in
+    let w = bound_is (cells_within state.cells dataset.header.key) _ done j.2 in
+    let p = bound_is (state_by_effect state dataset file before j.0) _ done w.2 in
+    let c = bound_is (chart_after (chart_of before) j.0 dataset) _ p.0 p.1 in
+    record {
+      effect = j.0;
+      chart = c.0;
+      judges = fault_is refusal_of_sequence (judged (held_of before) dataset) j.0 j.1;
+      builds = c.1;
+      keyed = ap (λ (d : Outcome). d.key) (ok_is p.2);
+      cells = ap (λ (s : StateValue). s.cells) (store_within-is _ p.0 c.2)
+          ∙ ap (λ (d : Outcome). d.state.cells) (ok_is p.2);
+    }
 
-    judging : (r : Result Effect Refusal) (room : Result (Unit {0}) Refusal) (builds : Effect →
-        Result (Unit {0}) Refusal) (here : Effect → Holding) →
-        (r >>= λ effect. room >>= λ _. builds effect >>= λ _. held_with state key (here effect)) ≡ Ok done → IsPut state
-        dataset done
-    judging (Ok effect) (Ok done') builds here e = building (builds effect) (here effect) e
-    judging (Ok effect) (Err refusal) builds here e = absurd cc
-    judging (Err refusal) room builds here e = absurd cc
+pub accepted-is : (state : StateValue) (dataset : DatasetValue) (file : List ℕ) (before : Option Holding)
+    (done : Outcome) → outcome_of_data_set state dataset file before ≡ Ok done → IsPut state dataset done
+accepted-is state dataset file before done e =
+    let t = taken-is state dataset file before done e in
+    record { here = cell_by before t.effect dataset.header t.chart file; keyed = t.keyed; cells = t.cells }
 
 -- ---- another key
 
@@ -174,17 +171,17 @@ loaded-alone state file done key e other =
     ∙ ap (λ (b : Bool). cond b (Some p.here) (map.get state.cells key))
     (apart key l.dataset.header.key (λ same. other (same ∙ p.keyed)))
 
--- ---- the step by whole files
+-- ---- the step by what is held of the cell
 
 pub loaded-reads : (state : StateValue) (file : List ℕ) (dataset : DatasetValue) → length file ≤ FILE_LIMIT →
     data_set_in file ≡ Ok dataset →
-    loaded state file ≡ accepted_file state dataset file (files_of (map.get state.cells dataset.header.key))
+    loaded state file ≡ outcome_of_data_set state dataset file (map.get state.cells dataset.header.key)
 unfolding loaded
 loaded-reads state file dataset short reads =
     ap (λ (r : Result (List ℕ) Refusal). r >>= λ bytes. or_refused refusal_of_read (data_set_in bytes) >>= λ ds.
-    accepted_file state ds bytes (files_of (map.get state.cells ds.header.key))) (within-short file short)
-    ∙ ap (λ (r : Result DatasetValue ReadFault). or_refused refusal_of_read r >>= λ ds. accepted_file state ds file
-    (files_of (map.get state.cells ds.header.key))) reads
+    outcome_of_data_set state ds bytes (map.get state.cells ds.header.key)) (within-short file short)
+    ∙ ap (λ (r : Result DatasetValue ReadFault). or_refused refusal_of_read r >>= λ ds. outcome_of_data_set state ds file
+    (map.get state.cells ds.header.key)) reads
 
 module _ (laws : Laws) where
   pub next-live : (before : Option Holding) (dataset : DatasetValue) (file : List ℕ) (effect : Effect)
@@ -209,37 +206,50 @@ module _ (laws : Laws) where
       (held_after before Cancel dataset.header) c file)) (ok_is e)
       (live-cancel laws before dataset file h reads short judges)
 
-  data_set-live : (state : StateValue) (dataset : DatasetValue) (file : List ℕ) (before : Option Holding)
-      (done : Outcome) → AreLive state.cells → WasLive dataset.header.key before → data_set_in file ≡ Ok dataset →
-      IsFileLength (length file) → outcome_of_data_set state dataset file before ≡ Ok done → AreLive done.state.cells
-  data_set-live state dataset file before done live h reads short e =
-      let j = bound_is (or_fault_as refusal_of_sequence (judged (held_of before) dataset)) _ done e in
-      let w = bound_is (cells_within state.cells dataset.header.key) _ done j.2 in
-      let p = bound_is (state_by_effect state dataset file before j.0) _ done w.2 in
-      let c = bound_is (chart_after (chart_of before) j.0 dataset) _ p.0 p.1 in
-      subst AreLive
-      (ap (λ (s : StateValue). s.cells) (store_within-is _ p.0 c.2) ∙ ap (λ (d : Outcome). d.state.cells) (ok_is p.2))
-      (AreLive-insert state.cells dataset.header.key _ live
-      (next-live before dataset file j.0 c.0 h reads short (fault_is refusal_of_sequence
-      (judged (held_of before) dataset) j.0 j.1) c.1))
-
   -- a file that is accepted keeps all cells what their files leave
   pub loaded-live : (state : StateValue) (file : List ℕ) (done : Outcome) → AreLive state.cells →
       loaded state file ≡ Ok done → AreLive done.state.cells
   loaded-live state file done live e =
       let l = loaded-is state file done e in
       let before = map.get state.cells l.dataset.header.key in
-      data_set-live state l.dataset file before done live (live l.dataset.header.key) l.reads l.short
-      (sym (accepted-data_set laws state l.dataset file before (live l.dataset.header.key) l.reads l.short) ∙ l.accepts)
+      let t = taken-is state l.dataset file before done l.accepts in
+      subst AreLive t.cells
+      (AreLive-insert state.cells l.dataset.header.key _ live
+      (next-live before l.dataset file t.effect t.chart (live l.dataset.header.key) l.reads l.short t.judges t.builds))
 
-  -- by what is held of the cell
-  pub loaded-data_set : (state : StateValue) (file : List ℕ) (dataset : DatasetValue) → AreLive state.cells →
-      length file ≤ FILE_LIMIT → data_set_in file ≡ Ok dataset →
-      loaded state file ≡ outcome_of_data_set state dataset file (map.get state.cells dataset.header.key)
-  loaded-data_set state file dataset live short reads =
-      loaded-reads state file dataset short reads
-      ∙ accepted-data_set laws state dataset file (map.get state.cells dataset.header.key) (live dataset.header.key)
-      reads short
+  -- ---- the same by whole files
+
+  by-files : (state : StateValue) (file : List ℕ) → AreLive state.cells → length file ≤ FILE_LIMIT →
+      (r : Result DatasetValue ReadFault) → data_set_in file ≡ r →
+      (or_refused refusal_of_read r >>= λ ds. outcome_of_data_set state ds file (map.get state.cells ds.header.key))
+      ≡ (or_refused refusal_of_read r >>= λ ds. accepted_file state ds file
+      (files_of (map.get state.cells ds.header.key)))
+  by-files state file live short (Ok dataset) reads =
+      sym (accepted-data_set laws state dataset file (map.get state.cells dataset.header.key)
+      (live dataset.header.key) reads short)
+  by-files state file live short (Err fault) reads = refl
+
+  pub loaded-by-files : (state : StateValue) (file : List ℕ) → AreLive state.cells →
+      loaded state file ≡ loaded_by_files state file
+  unfolding loaded loaded_by_files
+  loaded-by-files state file live =
+      elim (cases_Bool (leb (length file) FILE_LIMIT)) [
+        | inl is_so ↦
+            let short : length file ≤ FILE_LIMIT = grind (arith, nat_tests, is_so) in
+            ap (λ (r : Result (List ℕ) Refusal). r >>= λ bytes. or_refused refusal_of_read (data_set_in bytes) >>= λ ds.
+            outcome_of_data_set state ds bytes (map.get state.cells ds.header.key)) (within-short file short)
+            ∙ by-files state file live short (data_set_in file) refl
+            ∙ sym (ap (λ (r : Result (List ℕ) Refusal). r >>= λ bytes. or_refused refusal_of_read (data_set_in bytes)
+            >>= λ ds. accepted_file state ds bytes (files_of (map.get state.cells ds.header.key)))
+            (within-short file short))
+        | inr is_not ↦
+            let long : within_limit file ≡ Err (FileLong FILE_LIMIT) =
+            ap (λ (b : Bool). cond b (Ok file) (Err (FileLong FILE_LIMIT))) is_not in
+            ap (λ (r : Result (List ℕ) Refusal). r >>= λ bytes. or_refused refusal_of_read (data_set_in bytes) >>= λ ds.
+            outcome_of_data_set state ds bytes (map.get state.cells ds.header.key)) long
+            ∙ sym (ap (λ (r : Result (List ℕ) Refusal). r >>= λ bytes. or_refused refusal_of_read (data_set_in bytes)
+            >>= λ ds. accepted_file state ds bytes (files_of (map.get state.cells ds.header.key))) long)
+      ]
 
 -- ---- the data records that are come to
 

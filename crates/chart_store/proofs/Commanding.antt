@@ -4,15 +4,17 @@ use Rattle.std.proofs.Common.{◌∙◌, ap, subst, fold, Bool, cond}
 use Rattle.std.specs.Prelude.{unwrap_or}
 use Rattle.std.specs.FinMap as map
 use Rattle.chart_model.specs.Answers.{◌>>=◌, or_fault}
+use Rattle.chart_model.specs.Cell.{CellValue}
 use Rattle.chart_model.specs.State.{StateValue}
 use Rattle.chart_model.specs.declared.command.Command.{Command}
 use Rattle.chart_model.specs.declared.command.Command.TheVariants.{Load, Rollback, Drop}
 use Rattle.chart_model.specs.declared.state.Held.{Held}
 use Rattle.chart_model.specs.declared.state.Holding.{Holding}
-use Rattle.update_sequence.specs.Rebuilt.{held_by, rebuilt}
+use Rattle.update_sequence.specs.Rebuilt.{rebuilt}
 use Rattle.update_sequence.specs.Sequence.{IsUpdateSequence}
 use Rattle.chart_store.specs.declared.refusal.Refusal.{Refusal}
 use Rattle.chart_store.specs.declared.refusal.Refusal.TheVariants.{NoCell, NoUpdate}
+use Rattle.chart_store.specs.Images.{AreAccepted}
 use Rattle.chart_store.specs.KeptFiles.{kept_by}
 use Rattle.chart_store.specs.Live.{IsLive, AreLive, state_or, state_after, state_by}
 use Rattle.chart_store.specs.Loaded.{Outcome, HoldingsByKey, nothing_held}
@@ -20,7 +22,7 @@ use Rattle.chart_store.specs.Next.{cells_with, outcome_by}
 use Rattle.chart_store.specs.declared.next.Next.{Next}
 use Rattle.chart_store.specs.Outcome.{left_by, outcome_of_rollback, outcome_of_drop, outcome, state_with, after, charts}
 use Rattle.chart_store.specs.Outcome.{IsKeyOf}
-use Rattle.chart_store.specs.Taken.{chart_of}
+use Rattle.chart_store.specs.Loaded.{chart_of}
 use Rattle.chart_model.proofs.Keys.{key_cmp-total}
 use Rattle.chart_store.proofs.Accepting.{loaded-is, accepted-is, loaded-alone, loaded-live, apart}
 use Rattle.chart_store.proofs.Holdings.{AreLive-nothing, AreLive-with}
@@ -70,23 +72,19 @@ outcome_of_rollback-is state key number done e = held (map.get state.cells key) 
     held (Some here) there e = found here there (kept_by key number here.files) refl e
 
 -- what is held once these files are kept
-pub rolled-by : (state : StateValue) (key : List ℕ) (number : ℕ) (here : Holding) (kept : List (List ℕ)) (held : Held)
-    (next : Next) → map.get state.cells key ≡ Some here → kept_by key number here.files ≡ Some kept →
-    held_by kept ≡ Some held → next.key ≡ key → next.held ≡ held →
-    next.holding ≡ Some (record { held = held; files = kept; chart = rebuilt kept }) →
+pub rolled-by : (state : StateValue) (key : List ℕ) (number : ℕ) (here kept : Holding) (next : Next) →
+    map.get state.cells key ≡ Some here → kept_by key number here.files ≡ Some kept.files → IsLive key kept →
+    next.key ≡ key → next.held ≡ kept.held → next.holding ≡ Some kept →
     outcome_of_rollback state key number ≡ Ok (outcome_by state next)
-rolled-by state key number here kept held next there keeps numbers keyed holds is =
+rolled-by state key number here kept next there keeps live keyed holds is =
     ap (λ (o : Option Holding). or_fault (NoCell key) o >>= λ h. or_fault (NoUpdate key number)
     (kept_by key number h.files) >>= λ k. Ok (left h k)) there
     ∙ ap (λ (o : Option (List (List ℕ))). or_fault (NoUpdate key number) o >>= λ k. Ok (left here k)) keeps
-    ∙ ap (λ (o : Option Held). Ok (record {
+    ∙ ap (λ (h : Holding). Ok (record {
       key = key;
-      held = unwrap_or o here.held;
-      state = record {
-        cells = map.insert state.cells key (record
-            { held = unwrap_or o here.held; files = kept; chart = rebuilt kept });
-      };
-    })) numbers
+      held = h.held;
+      state = record { cells = map.insert state.cells key h };
+    })) (live-left key here.held kept live)
     ∙ (λ i. Ok (record {
       key = sym keyed i;
       held = sym holds i;
@@ -99,6 +97,15 @@ rolled-by state key number here kept held next there keeps numbers keyed holds i
       held = (left_by h.held k).held;
       state = record { cells = map.insert state.cells key (left_by h.held k) };
     }
+
+    live-left : (key : List ℕ) (before : Held) (kept : Holding) → IsLive key kept → left_by before kept.files ≡ kept
+    live-left key before kept h =
+        ap (λ (held : Option Held). record {
+          held = unwrap_or held before;
+          files = kept.files;
+          chart = rebuilt kept.files;
+        }) h.numbers
+        ∙ ap (λ (chart : Option CellValue). record { held = kept.held; files = kept.files; chart = chart }) h.builds
 
 pub record IsDropped (state : StateValue) (key : List ℕ) (done : Outcome) : Type 0 where
   pub here : Holding
@@ -167,6 +174,16 @@ module _ (laws : Laws) (sequences : Sequences) (holds : Holds) where
   pub after-live : (commands : List Command) → AreLive (after nothing_held commands).cells
   unfolding after
   after-live commands = commands-live nothing_held commands AreLive-nothing
+
+-- ---- commands that were accepted
+
+pub reached-live : ((state : StateValue) (command : Command) → AreLive state.cells →
+    AreLive (state_with state command).cells) → (state : StateValue) (commands : List Command) (last : StateValue) →
+    AreLive state.cells → AreAccepted state commands last → AreLive last.cells
+reached-live stay state [] last live is = subst (λ (s : StateValue). AreLive s.cells) is live
+reached-live stay state (command ∷ commands) last live (done, leaves, are) =
+    reached-live stay done.state commands last
+    (subst (λ (s : StateValue). AreLive s.cells) (ap (state_or state) leaves) (stay state command live)) are
 
 -- ---- files are loaded in turn, each by a command
 

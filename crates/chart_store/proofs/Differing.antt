@@ -14,7 +14,7 @@ use Rattle.update_sequence.specs.Built.{built}
 use Rattle.update_sequence.specs.declared.fault.BuildFault.{BuildFault}
 use Rattle.chart_store.specs.Refusal.{refusal_of_build}
 use Rattle.chart_store.specs.Fault.{or_refused}
-use Rattle.chart_store.specs.Taken.{chart_built}
+use Rattle.chart_store.specs.Loaded.{chart_built}
 use Rattle.chart_store.proofs.Keeping.{some_is}
 
 abbrev pub targets_of : List Change → List Name

@@ -17,9 +17,9 @@ use Rattle.chart_model.proofs.Maps.{each-empty, each-insert, each-remove}
 use Rattle.chart_model.proofs.Trees.{entries-empty}
 use Rattle.update_sequence.specs.declared.effect.Effect.{Effect}
 use Rattle.update_sequence.specs.declared.effect.Effect.TheVariants.{Replace, Extend, Cancel}
-use Rattle.chart_store.specs.Loaded.{HoldingsByKey, files_of, files_after, bytes_of, live_bytes, STORE_LIMIT}
+use Rattle.chart_store.specs.Loaded.{HoldingsByKey, files_of, files_after, bytes_of, live_bytes, STORE_LIMIT, HELD_LIMIT}
 use Rattle.chart_store.specs.Loaded.{store_within, nothing_held}
-use Rattle.chart_store.specs.Live.{IsLive, AreLive, IsCounted, IsStore}
+use Rattle.chart_store.specs.Live.{IsLive, AreLive, HasClosedChart, AreClosed, IsCounted, IsStore}
 use Rattle.chart_store.specs.Next.{cells_with, CanStand}
 use Rattle.chart_store.specs.Taken.{replaced_bytes}
 use Rattle.chart_store.specs.declared.refusal.Refusal.TheVariants.{StoreFull}
@@ -177,26 +177,33 @@ pub AreLive-with : (cells : HoldingsByKey) (key : List ℕ) (holding : Option Ho
 AreLive-with cells key None h x = each-remove key_cmp-total IsLive cells key h
 AreLive-with cells key (Some here) h x = AreLive-insert cells key here h x
 
+AreClosed-with : (cells : HoldingsByKey) (key : List ℕ) (holding : Option Holding) → AreClosed cells →
+    IfSome holding (HasClosedChart key) → AreClosed (cells_with cells key holding)
+AreClosed-with cells key None h x = each-remove key_cmp-total HasClosedChart cells key h
+AreClosed-with cells key (Some here) h x =
+    each-insert key_cmp-total key_cmp-IsAntisymmetric HasClosedChart cells key here h x
+
 pub IsStore-with : (state : StateValue) (key : List ℕ) (holding : Option Holding) (old bytes : ℕ) →
     IsStore state old → CanStand state.cells key holding bytes →
     IsStore (record { cells = cells_with state.cells key holding }) bytes
 IsStore-with state key holding old bytes h can = record {
   count = record { counted = can.counted; within = can.within };
-  live = AreLive-with state.cells key holding h.live can.live;
+  closed = AreClosed-with state.cells key holding h.closed can.closed;
 }
 
 -- a cell of which the first files are kept
 pub can-keep : (cells : HoldingsByKey) (key : List ℕ) (here next : Holding) (rest : List (List ℕ)) (all own less : ℕ)
-    → map.get cells key ≡ Some here → here.files ≡ next.files ++ rest → IsLive key next → all ≡ live_bytes cells →
-    all ≤ STORE_LIMIT → own ≡ bytes_of here.files → less ≡ bytes_of next.files →
+    → map.get cells key ≡ Some here → here.files ≡ next.files ++ rest → IsHolding key next → HasClosedChart key next →
+    all ≡ live_bytes cells → all ≤ HELD_LIMIT → own ≡ bytes_of here.files → less ≡ bytes_of next.files →
     CanStand cells key (Some next) (all - own + less)
-can-keep cells key here next rest all own less there parts live counted within owns keeps =
+can-keep cells key here next rest all own less there parts holds closed counted within owns keeps =
     let put = live_bytes-insert cells key next in
     let was = ap (λ (o : Option Holding). bytes_of (files_of o)) there in
     let kept = ap bytes_of parts ∙ sum_by-append length next.files rest in
     let held = bytes_of-held cells key here there in
     record {
-      live = live;
+      holds = holds;
+      closed = closed;
       there = λ none. absurd (let f : true ≡ false = none in cc);
       counted = omega (arith, put, was, counted, owns, keeps, held);
       within = omega (arith, counted, within, owns, keeps, held, kept);
@@ -204,10 +211,11 @@ can-keep cells key here next rest all own less there parts live counted within o
 
 -- a cell that is taken away
 pub can-drop : (cells : HoldingsByKey) (key : List ℕ) (here : Holding) (all own : ℕ)
-    → map.get cells key ≡ Some here → all ≡ live_bytes cells → all ≤ STORE_LIMIT → own ≡ bytes_of here.files →
+    → map.get cells key ≡ Some here → all ≡ live_bytes cells → all ≤ HELD_LIMIT → own ≡ bytes_of here.files →
     CanStand cells key None (all - own)
 can-drop cells key here all own there counted within owns = record {
-  live = tt;
+  holds = tt;
+  closed = tt;
   there = λ _. ap is_some there;
   counted = omega (arith, live_bytes-remove cells key here there, counted, owns);
   within = omega (arith, within);
@@ -215,18 +223,19 @@ can-drop cells key here all own there counted within owns = record {
 
 -- a file that is taken over
 pub can-take : (cells : HoldingsByKey) (key : List ℕ) (effect : Effect) (file : List ℕ) (here : Holding) (bytes : ℕ)
-    → here.files ≡ files_after (files_of (map.get cells key)) effect file → IsLive key here →
-    bytes ≡ live_bytes cells - replaced_bytes (map.get cells key) effect + length file → bytes ≤ STORE_LIMIT →
+    → here.files ≡ files_after (files_of (map.get cells key)) effect file → IsHolding key here →
+    HasClosedChart key here → bytes ≡ live_bytes cells - replaced_bytes (map.get cells key) effect + length file → bytes ≤ STORE_LIMIT →
     CanStand cells key (Some here) bytes
-can-take cells key effect file here bytes files live counted within = record {
-  live = live;
+can-take cells key effect file here bytes files holds closed counted within = record {
+  holds = holds;
+  closed = closed;
   there = λ none. absurd (let f : true ≡ false = none in cc);
   counted = counted ∙ sym (live_bytes-put cells key effect file here (live_bytes cells) refl files);
-  within = within;
+  within = omega (arith, within);
 }
 
 pub IsStore-nothing : IsStore nothing_held 0
-IsStore-nothing = record { count = IsCounted-nothing; live = AreLive-nothing }
+IsStore-nothing = record { count = IsCounted-nothing; closed = each-empty key_cmp HasClosedChart }
 
 -- ---- limits
 

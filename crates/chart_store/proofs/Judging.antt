@@ -1,5 +1,5 @@
 -- What an effect says of the data set and of what is held.
-use Rattle.std.proofs.Common.{◌≡◌, ◌+◌, Bool, true, false, not, eqb, Option, Some, None, Result, Ok, Err, refl}
+use Rattle.std.proofs.Common.{◌≡◌, ◌+◌, true, false, not, eqb, Option, Some, None, Result, Ok, Err, refl}
 use Rattle.std.proofs.Common.{sym, ◌∙◌, subst, inl, inr}
 use Rattle.std.proofs.lemmas.Bool.{true≢false, cases_Bool}
 use Rattle.common_lemmas.proofs.Choices.{chosen}

@@ -1,10 +1,10 @@
 -- What a rollback keeps of a list of files.
 use Rattle.std.proofs.Common.{◌≡◌, ◌≢◌, ℕ, ◌+◌, ◌<◌, ◌≤◌, Bool, true, false, cond, not, ◌&&◌, ◌==◌, List, [], ◌∷◌, ◌++◌}
 use Rattle.std.proofs.Common.{length, get_or, take, drop, map, Option, Some, None, option_map, Result, Ok, Err, refl, sym}
-use Rattle.std.proofs.Common.{◌∙◌, ap, subst, arith}
-use Rattle.std.proofs.lemmas.Bool.{true≢false, and_parts, and_from, not-true, eqb-true}
+use Rattle.std.proofs.Common.{◌∙◌, ap, subst, arith, inl, inr, zero, suc}
+use Rattle.std.proofs.lemmas.Bool.{true≢false, and_parts, and_from, not-true, eqb-true, cases_Bool, cases_lt}
 use Rattle.std.proofs.lemmas.Bool.Decides.{nat_tests}
-use Rattle.std.proofs.lemmas.List.{append_assoc, take_more, take-append-drop}
+use Rattle.std.proofs.lemmas.List.{append_assoc, take_more, take-append-drop, take-append-le, length-append, get_or_append_left}
 use Rattle.std.proofs.lemmas.List.Sums.{sum_by-append, sum_by_more_le}
 use Rattle.std.specs.List.{AllByRecursion}
 use Rattle.std.specs.Prelude.{find, ◌↔◌}
@@ -12,7 +12,7 @@ use Rattle.chart_model.specs.Dataset.{DatasetValue}
 use Rattle.iso8211_records.specs.RecordFile.{data_records_in}
 use Rattle.update_sequence.specs.Reading.{data_set_in, tags_read}
 use Rattle.update_sequence.specs.Rebuilt.{data_records_of}
-use Rattle.update_sequence.specs.Sequence.{IsUpdateSequence, is_update_sequence}
+use Rattle.update_sequence.specs.Sequence.{Follows, IsUpdateSequence, is_update_sequence}
 use Rattle.update_sequence.specs.declared.fault.ReadFault.{ReadFault}
 use Rattle.chart_store.specs.Loaded.{bytes_of}
 use Rattle.chart_store.specs.KeptFiles.{is_update, has_update, ends_with, beginnings, may_keep, kept_by}
@@ -39,28 +39,29 @@ agree-next : {A : Type 0} (p : List A → Bool) (q : A → Bool) (z : A) (xs : L
 agree-next {A} p q z xs agree before after x e = agree (z ∷ before) after x (ap (λ (l : List A). z ∷ l) e)
 
 first-passes : {A : Type 0} (p : List A → Bool) (q : A → Bool) (before : List A) (x : A) (after : List A) →
-    Agree p q (before ++ x ∷ after) → AllByRecursion (λ y. q y ≡ false) before → q x ≡ true →
+    Agree p q (before ++ x ∷ []) → AllByRecursion (λ y. q y ≡ false) before → q x ≡ true →
     find p (beginnings (before ++ x ∷ after)) ≡ Some (before ++ x ∷ [])
 first-passes {A} p q [] x after agree none passes =
     ap (λ b. cond b (Some (x ∷ [])) (find p (map (λ (l : List A). x ∷ l) (beginnings after))))
-    (agree [] after x refl ∙ passes)
+    (agree [] [] x refl ∙ passes)
 first-passes {A} p q (z ∷ before) x after agree none passes =
     ap (λ b. cond b (Some (z ∷ [])) (find p (map (λ (l : List A). z ∷ l) (beginnings (before ++ x ∷ after)))))
-    (agree [] (before ++ x ∷ after) z refl ∙ none.0)
+    (agree [] (before ++ x ∷ []) z refl ∙ none.0)
     ∙ find-map p (λ (l : List A). z ∷ l) (beginnings (before ++ x ∷ after))
     ∙ ap (option_map (λ (l : List A). z ∷ l))
-    (first-passes (λ (l : List A). p (z ∷ l)) q before x after (agree-next p q z (before ++ x ∷ after) agree) none.1
+    (first-passes (λ (l : List A). p (z ∷ l)) q before x after (agree-next p q z (before ++ x ∷ []) agree) none.1
     passes)
 
-none-passes : {A : Type 0} (p : List A → Bool) (q : A → Bool) (xs : List A) → Agree p q xs →
-    AllByRecursion (λ y. q y ≡ false) xs → find p (beginnings xs) ≡ None
-none-passes p q [] agree none = refl
-none-passes {A} p q (z ∷ xs) agree none =
+none-passes : {A : Type 0} (p : List A → Bool) (xs : List A) →
+    ((begun rest : List A) → xs ≡ begun ++ rest → begun ≢ [] → p begun ≡ false) → find p (beginnings xs) ≡ None
+none-passes p [] none = refl
+none-passes {A} p (z ∷ xs) none =
     ap (λ b. cond b (Some (z ∷ [])) (find p (map (λ (l : List A). z ∷ l) (beginnings xs))))
-    (agree [] xs z refl ∙ none.0)
+    (none (z ∷ []) xs refl (λ e. cc))
     ∙ find-map p (λ (l : List A). z ∷ l) (beginnings xs)
     ∙ ap (option_map (λ (l : List A). z ∷ l))
-    (none-passes (λ (l : List A). p (z ∷ l)) q xs (agree-next p q z xs agree) none.1)
+    (none-passes (λ (l : List A). p (z ∷ l)) xs
+    (λ begun rest parts some. none (z ∷ begun) rest (ap (λ (l : List A). z ∷ l) parts) (λ e. cc)))
 
 -- ---- the end of a list
 
@@ -103,21 +104,14 @@ pub take-next : (files : List (List ℕ)) (i : ℕ) (file : List ℕ) → i < le
 take-next files i file below is = take_more files i file below ∙ ap (λ (f : List ℕ). take i files ++ f ∷ []) (sym is)
 
 pub kept-first : (sequences : Sequences) (key : List ℕ) (number : ℕ) (files : List (List ℕ)) (i : ℕ) (file : List ℕ) →
-    IsUpdateSequence key files → i < length files → file ≡ get_or files i file →
+    IsUpdateSequence key (take i files ++ file ∷ []) → i < length files → file ≡ get_or files i file →
     AllByRecursion (λ f. has_update number f ≡ false) (take i files) → has_update number file ≡ true →
     kept_by key number files ≡ Some (take i files ++ file ∷ [])
 unfolding kept_by
 kept-first sequences key number files i file sequence below is none has =
-    let parts = around files i file below is in
-    ap (λ (l : List (List ℕ)). find (may_keep key number) (beginnings l)) parts
+    ap (λ (l : List (List ℕ)). find (may_keep key number) (beginnings l)) (around files i file below is)
     ∙ first-passes (may_keep key number) (has_update number) (take i files) file (drop (i + 1) files)
-    (subst (Agree (may_keep key number) (has_update number)) parts (agree-keep sequences key number files sequence)) none has
-
-pub kept-none : (sequences : Sequences) (key : List ℕ) (number : ℕ) (files : List (List ℕ)) → IsUpdateSequence key files →
-    AllByRecursion (λ f. has_update number f ≡ false) files → kept_by key number files ≡ None
-unfolding kept_by
-kept-none sequences key number files sequence none =
-    none-passes (may_keep key number) (has_update number) files (agree-keep sequences key number files sequence) none
+    (agree-keep sequences key number (take i files ++ file ∷ []) sequence) none has
 
 -- one more file that has not the number
 pub none-next : (number : ℕ) (files : List (List ℕ)) (file : List ℕ) →
@@ -328,3 +322,57 @@ unfolding kept_by
 kept-not sequences key number files e kept rest parts may =
     true≢false (sym (may-tested sequences key number kept may)
     ∙ none-found (may_keep key number) files e kept rest parts may.sequence.some)
+
+-- ---- lists that keep nothing
+
+in_front : {A : Type 0} (P : A → Type 0) (i : ℕ) (before : List A) (x : A) (more : List A) → length before < i →
+    AllByRecursion P (take i (before ++ x ∷ more)) → P x
+in_front P zero before x more below all = absurd (omega (arith, below))
+in_front P (suc i) [] x more below all = all.0
+in_front P (suc i) (first ∷ before) x more below all = in_front P i before x more (omega (arith, below)) all.1
+
+-- the list ends at this place, or the file there may not follow those before it
+pub record Ends (key : List ℕ) (files : List (List ℕ)) (i : ℕ) : Type 0 where
+  pub stops : i < length files → (file : List ℕ) × (file ≡ get_or files i file) × (¬ Follows key (take i files) file)
+
+-- what begins the files has the file at each of its places
+same-place : (files begun rest : List (List ℕ)) (i : ℕ) (file : List ℕ) → files ≡ begun ++ rest → i < length begun →
+    file ≡ get_or files i file → begun ≡ take i files ++ file ∷ drop (i + 1) begun
+same-place files begun rest i file parts below is =
+    around begun i file below
+    (is ∙ ap (λ (l : List (List ℕ)). get_or l i file) parts ∙ get_or_append_left begun rest file i below)
+    ∙ ap (λ (l : List (List ℕ)). l ++ file ∷ drop (i + 1) begun)
+    (sym (ap (take i) parts ∙ take-append-le i begun rest (omega (arith, below))))
+
+no-keep : (key : List ℕ) (number : ℕ) (files : List (List ℕ)) (i : ℕ) →
+    AllByRecursion (λ f. has_update number f ≡ false) (take i files) → Ends key files i →
+    (begun rest : List (List ℕ)) → files ≡ begun ++ rest → ¬ MayKeep key number begun
+no-keep key number files i none ends begun rest parts may =
+    let last = may.ends in
+    let whole : files ≡ last.before ++ last.last ∷ rest =
+    parts ∙ ap (λ (l : List (List ℕ)). l ++ rest) last.parts ∙ append_assoc last.before (last.last ∷ []) rest in
+    elim (cases_lt (length last.before) i) [
+      | inl h ↦ true≢false
+          (sym (has-number number last.last last.dataset last.reads last.stands last.numbered)
+          ∙ in_front (λ f. has_update number f ≡ false) i last.before last.last rest h
+          (subst (λ (l : List (List ℕ)). AllByRecursion (λ f. has_update number f ≡ false) (take i l)) whole none))
+      | inr h ↦
+          let long = ap (λ (l : List (List ℕ)). length l) last.parts ∙ length-append last.before (last.last ∷ []) in
+          let below : i < length begun = omega (arith, h, long) in
+          let all = ap (λ (l : List (List ℕ)). length l) parts ∙ length-append begun rest in
+          let stop = ends.stops (omega (arith, below, all)) in
+          stop.2 (may.sequence.each (take i files) (drop (i + 1) begun) stop.0
+          (same-place files begun rest i stop.0 parts below stop.1))
+    ]
+
+pub kept-none : (sequences : Sequences) (key : List ℕ) (number : ℕ) (files : List (List ℕ)) (i : ℕ) →
+    AllByRecursion (λ f. has_update number f ≡ false) (take i files) → Ends key files i →
+    kept_by key number files ≡ None
+unfolding kept_by
+kept-none sequences key number files i none ends =
+    none-passes (may_keep key number) files (λ begun rest parts some.
+    elim (cases_Bool (may_keep key number begun)) [
+      | inl is_so ↦ absurd (no-keep key number files i none ends begun rest parts
+          (may-is sequences key number begun is_so))
+      | inr is_not ↦ is_not
+    ])

@@ -24,11 +24,13 @@ use Rattle.update_sequence.specs.declared.fault.BuildFault.{BuildFault}
 use Rattle.chart_store.specs.declared.refusal.Refusal.{Refusal}
 use Rattle.chart_store.specs.Refusal.{refusal_of_sequence, refusal_of_build}
 use Rattle.chart_store.specs.Fault.{or_refused}
-use Rattle.chart_store.specs.Loaded.{files_of, files_after, buildable, holding_of}
-use Rattle.chart_store.specs.Loaded.{cells_within, store_within, Outcome, held_with, accepted_file}
+use Rattle.chart_store.specs.ByFiles.{buildable, holding_of}
+use Rattle.chart_store.specs.Loaded.{files_of, files_after}
+use Rattle.chart_store.specs.ByFiles.{accepted_file}
+use Rattle.chart_store.specs.Loaded.{cells_within, store_within, Outcome, held_with}
 use Rattle.chart_store.specs.Live.{IsLive}
-use Rattle.chart_store.specs.Taken.{held_of, chart_of, held_after, cell_after, state_by_effect}
-use Rattle.chart_store.specs.Taken.{outcome_of_data_set}
+use Rattle.chart_store.specs.Loaded.{held_of, chart_of, held_after, cell_after, state_by_effect}
+use Rattle.chart_store.specs.Loaded.{outcome_of_data_set}
 use Rattle.chart_store.proofs.Judging.{effect_says}
 
 -- what is held of the cell before, if anything, is what its files leave

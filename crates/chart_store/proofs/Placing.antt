@@ -1,4 +1,4 @@
--- What is put in as it was judged is what the files of its cell leave.
+-- What is put in as it was judged: it can be held, and its chart is built.
 use Rattle.std.proofs.Common.{◌≡◌, ◌≢◌, ℕ, false, List, length, Option, Some, None, IfSome, IsSome, IfOk}
 use Rattle.std.proofs.Common.{Result, Ok, Err, refl, sym, ◌∙◌, ap, subst}
 use Rattle.std.proofs.lemmas.Bool.{true≢false}
@@ -23,11 +23,12 @@ use Rattle.chart_store.specs.declared.fault.TakeFault.{TakeFault}
 use Rattle.chart_store.specs.declared.next.Next.{Next}
 use Rattle.chart_store.specs.Next.{GivesNextState}
 use Rattle.chart_store.specs.Loaded.{HoldingsByKey, store_within}
-use Rattle.chart_store.specs.Live.{IsLive}
-use Rattle.chart_store.specs.Taken.{held_of, chart_of, held_after, chart_after, cell_after, state_by_effect, MayBuild}
+use Rattle.chart_store.specs.Live.{IsLive, HasClosedChart}
+use Rattle.chart_store.specs.Loaded.{held_of, chart_of, held_after, chart_after, cell_after, state_by_effect}
+use Rattle.chart_store.specs.Taken.{MayBuild}
 use Rattle.chart_store.proofs.Judging.{effect_says, stands_by_base}
-use Rattle.chart_store.proofs.Accepting.{next-live}
-use Rattle.chart_store.proofs.Loading.{Laws, WasLive}
+use Rattle.chart_store.proofs.CanBeHeld.{Builds, IsKeepable, next-held}
+use Rattle.chart_store.proofs.Loading.{WasLive}
 use Rattle.chart_store.proofs.Keeping.{some_is}
 
 -- ---- what is live
@@ -57,17 +58,27 @@ closed-before closed key (Some here) h =
     subst (λ (chart : Option CellValue). IfSome chart IsClosed) h.builds (closed key here.files h.sequence)
 
 -- a cell that isn't cancelled has a chart
-has_chart : (key : List ℕ) (before : Option Holding) (here : Held) → ((holding : Holding) → IsLive key holding →
-    IsHolding key holding) → WasLive key before →
+has_chart : (key : List ℕ) (before : Option Holding) (here : Held) → IfSome before (IsHolding key) →
     held_of before ≡ Some here → here.cancelled ≡ false → IsSome (chart_of before)
-has_chart key None here holds live is stands = absurd (let none = is in cc)
-has_chart key (Some holding) here holds live is stands = is_there holding.chart
-    (λ none. true≢false (sym ((holds holding live).cancelled.0 none) ∙ ap (λ (x : Held). x.cancelled) (some_is is)
-    ∙ stands))
+has_chart key None here holds is stands = absurd (let none = is in cc)
+has_chart key (Some holding) here holds is stands = is_there holding.chart
+    (λ none. true≢false (sym (holds.cancelled.0 none) ∙ ap (λ (x : Held). x.cancelled) (some_is is) ∙ stands))
   where
     is_there : (o : Option CellValue) → o ≢ None → IsSome o
     is_there None h = absurd (h refl)
     is_there (Some chart) h = refl
+
+-- the chart of what is held is closed
+pub closed-chart : (key : List ℕ) (before : Option Holding) → IfSome before (HasClosedChart key) →
+    IfSome (chart_of before) IsClosed
+closed-chart key None h = tt
+closed-chart key (Some here) h = h
+
+-- what is live has a closed chart
+pub closed-held-if : ((key : List ℕ) (files : List (List ℕ)) → IsUpdateSequence key files → IfSome (rebuilt files) IsClosed)
+    → (key : List ℕ) (before : Option Holding) → WasLive key before → IfSome before (HasClosedChart key)
+closed-held-if closed key None h = tt
+closed-held-if closed key (Some here) h = closed-before closed key (Some here) h
 
 -- ---- what was judged
 
@@ -77,30 +88,30 @@ pub record Holds : Type 0 where
       (held_by files ≡ Some held) × IsHolding key (record { held = held; files = files; chart = rebuilt files })
   pub closed : (key : List ℕ) (files : List (List ℕ)) → IsUpdateSequence key files → IfSome (rebuilt files) IsClosed
 
-pub may-build : (holds : Holds) (key : List ℕ) (before : Option Holding) (dataset : DatasetValue) (effect : Effect) →
-    IsDataset dataset → WasLive key before → judged (held_of before) dataset ≡ Ok effect →
-    MayBuild (chart_of before) effect dataset
-may-build holds key before dataset Replace is live judges =
+pub may-build : (key : List ℕ) (before : Option Holding) (dataset : DatasetValue) (effect : Effect) →
+    IsDataset dataset → IfSome before (IsHolding key) → IfSome before (HasClosedChart key) →
+    judged (held_of before) dataset ≡ Ok effect → MayBuild (chart_of before) effect dataset
+may-build key before dataset Replace is holds closed judges =
     let says = effect_says (held_of before) dataset Replace judges in
     record {
       stands = λ _. stands_by_base dataset is says;
       base = λ _. says;
       there = λ e. absurd cc;
-      closed = closed-before holds.closed key before live;
+      closed = closed-chart key before closed;
     }
-may-build holds key before dataset Extend is live judges =
+may-build key before dataset Extend is holds closed judges =
     let says = effect_says (held_of before) dataset Extend judges in
     record {
       stands = λ _. says.stands;
       base = λ e. absurd cc;
-      there = λ _. has_chart key before says.here (λ holding h. live-held holds.held key holding h) live says.is says.lives;
-      closed = closed-before holds.closed key before live;
+      there = λ _. has_chart key before says.here holds says.is says.lives;
+      closed = closed-chart key before closed;
     }
-may-build holds key before dataset Cancel is live judges = record {
+may-build key before dataset Cancel is holds closed judges = record {
   stands = λ other. absurd (other refl);
   base = λ e. absurd cc;
   there = λ e. absurd cc;
-  closed = closed-before holds.closed key before live;
+  closed = closed-chart key before closed;
 }
 
 -- what is put in, where the chart is built
@@ -128,15 +139,15 @@ module _ (state : StateValue) (dataset : DatasetValue) (file : List ℕ) (effect
     (chart : Option CellValue) (key : List ℕ) (keyed : key ≡ dataset.header.key)
     (numbers : held ≡ held_after (map.get state.cells dataset.header.key) effect dataset.header)
     (builds : chart_after (chart_of (map.get state.cells dataset.header.key)) effect dataset ≡ Ok chart) where
-  pub live-by : (laws : Laws) → WasLive dataset.header.key (map.get state.cells dataset.header.key) →
+  pub held-by : (laws : Builds) → IfSome (map.get state.cells dataset.header.key) (IsHolding dataset.header.key) →
       data_set_in file ≡ Ok dataset → IsFileLength (length file) →
       judged (held_of (map.get state.cells dataset.header.key)) dataset ≡ Ok effect →
-      IsLive key (cell_after (map.get state.cells key) effect held chart file)
-  live-by laws live reads short judges =
-      subst (λ (k : List ℕ). IsLive k (cell_after (map.get state.cells k) effect held chart file)) (sym keyed)
-      (subst (λ (h : Held). IsLive dataset.header.key
+      IsKeepable key (cell_after (map.get state.cells key) effect held chart file)
+  held-by laws holds reads short judges =
+      subst (λ (k : List ℕ). IsKeepable k (cell_after (map.get state.cells k) effect held chart file)) (sym keyed)
+      (subst (λ (h : Held). IsKeepable dataset.header.key
       (cell_after (map.get state.cells dataset.header.key) effect h chart file)) (sym numbers)
-      (next-live laws (map.get state.cells dataset.header.key) dataset file effect chart live reads short judges builds))
+      (next-held laws (map.get state.cells dataset.header.key) dataset file effect chart holds reads short judges builds))
 
   pub state_by_effect-in : (r : Result Next TakeFault)
       → GivesNextState r state (store_within (map.insert state.cells key

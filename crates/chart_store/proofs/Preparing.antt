@@ -7,7 +7,7 @@ use Rattle.std.specs.FinMap as map
 use Rattle.chart_model.specs.Keys.{key_cmp}
 use Rattle.chart_model.specs.declared.state.Holding.{Holding}
 use Rattle.chart_model.proofs.Keys.{key_cmp-total, key_cmp-IsAntisymmetric}
-use Rattle.chart_store.specs.Loaded.{HoldingsByKey, live_bytes, STORE_LIMIT}
+use Rattle.chart_store.specs.Loaded.{HoldingsByKey, live_bytes, HELD_LIMIT}
 use Rattle.chart_store.specs.Next.{cells_with, CanStand}
 use Rattle.chart_store.proofs.Holdings.{get-put, tied}
 
@@ -49,9 +49,10 @@ put-there cells key (Some here) bytes absent stands = ap is_some (get-put cells 
 -- it can be given up
 pub can-give_up : (cells : HoldingsByKey) (key : List ℕ) (holding : Option Holding) (bytes before : ℕ) →
     map.contains_key cells key ≡ false → CanStand cells key holding bytes → before ≡ live_bytes cells →
-    before ≤ STORE_LIMIT → CanStand (cells_with cells key holding) key None before
+    before ≤ HELD_LIMIT → CanStand (cells_with cells key holding) key None before
 can-give_up cells key holding bytes before absent stands counted within = record {
-  live = tt;
+  holds = tt;
+  closed = tt;
   there = λ _. put-there cells key holding bytes absent stands;
   counted = counted ∙ sym (ap live_bytes (put-taken cells key holding bytes absent stands));
   within = within;

@@ -11,88 +11,76 @@ use Rattle.chart_ports.specs.declared.images.Images.{Images}
 use Rattle.command_codec.specs.Reading.{command_in}
 use Rattle.command_codec.specs.Spelling.{Spells}
 use Rattle.bank_journal.specs.declared.content.BankContent.{BankContent}
-use Rattle.bank_journal.specs.Bank.{gate_of}
+use Rattle.bank_journal.specs.Bank.{empty_content, gate_of}
 use Rattle.bank_journal.specs.Reading.{bank_of}
+use Rattle.bank_pair.specs.Head.{content_named, current_of}
+use Rattle.bank_pair.specs.Pair.{SaysAsRead}
 use Rattle.chart_store.specs.declared.open_fault.OpenFault.{OpenFault}
 use Rattle.chart_store.specs.declared.open_fault.OpenFault.TheVariants.{DeskFault, Foreign, NoMemory}
 use Rattle.chart_store.specs.declared.refusal.Refusal.{Refusal}
-use Rattle.chart_store.specs.Images.{Place, Reading, AreAccepted, AreSpelled, HasCommands, StandFor, empty_checkpoint}
-use Rattle.chart_store.specs.Images.{content_in}
-use Rattle.chart_store.specs.Images.{empty_head, in_bank, left_by_outcome, read_of, state_after_record}
-use Rattle.chart_store.specs.Images.{state_after_records}
+use Rattle.chart_store.specs.Checkpoint.{checkpoint_in}
+use Rattle.chart_store.specs.Images.{Place, Reading, AreAccepted, AreSpelled, Holds, Lead, StandFor, first_gate, in_bank}
+use Rattle.chart_store.specs.Images.{left_by_outcome, read_of, reading_by, state_after_record, state_after_records, state_by}
 use Rattle.chart_store.specs.Loaded.{Outcome, nothing_held}
 use Rattle.chart_store.specs.Opened.{ForeignHas}
 use Rattle.chart_store.specs.Outcome.{outcome}
 
 -- ---- by the parts
 
+-- what is read of what the bank of a file says
+abbrev reading_named : ℕ → Result BankContent ℕ → Result Reading Place
+reading_named file found = or_fault_as (in_bank file) (found >>= reading_by)
+
 -- what is read behind the checkpoint
-abbrev state_read : BankContent → Result StateValue ℕ → Result Reading Place
-state_read content replay =
-    or_fault_as in_bank replay >>= λ state. Ok (record { state = state; used = gate_of content + 1 })
+abbrev reading_with : ℕ → BankContent → Result StateValue ℕ → Result Reading Place
+reading_with file content held =
+    or_fault_as (in_bank file) (held >>= λ state. Ok (record { state = state; used = gate_of content + 1 }))
 
--- what is read of a bank's content
-abbrev content_read : Result BankContent Place → Result Reading Place
-content_read found =
-    found >>= λ content. empty_checkpoint content.checkpoint >>= λ first.
-    state_read content (state_after_records nothing_held 8 content.bodies)
-
-pub read_by_content : (images : Images) → read_of images ≡ content_read (content_in images.head images.bank1)
+read_by_content : (images : Images) → read_of images ≡ reading_named (current_of images) (content_named images)
 unfolding read_of
 read_by_content images = refl
 
--- files with the same head whose banks read the same are read the same
-pub same_reading : (a b : Images) → a.head ≡ b.head → bank_of a.bank1 ≡ bank_of b.bank1 → read_of a ≡ read_of b
-same_reading a b head bank =
-    read_by_content a
-    ∙ ap (λ (h : List ℕ). content_read (empty_head h >>= λ none. or_fault_as in_bank (bank_of a.bank1))) head
-    ∙ ap (λ (r : Result BankContent ℕ). content_read (empty_head b.head >>= λ none. or_fault_as in_bank r)) bank
-    ∙ sym (read_by_content b)
+-- files that name the same bank, which says the same, are read the same
+pub same_reading : (a b : Images) → SaysAsRead a b → read_of a ≡ read_of b
+same_reading a b same =
+    read_by_content a ∙ ap (λ (file : ℕ). reading_named file (content_named a)) same.file
+    ∙ ap (reading_named (current_of b)) same.content ∙ sym (read_by_content b)
 
--- an empty head, before a bank that has a content
-pub content_behind : (head bank1 : List ℕ) (content : BankContent) → head ≡ [] → bank_of bank1 ≡ Ok content
-    → content_in head bank1 ≡ Ok content
-content_behind head bank1 content empty reads =
-    ap (λ (h : List ℕ). empty_head h >>= λ none. or_fault_as in_bank (bank_of bank1)) empty
-    ∙ ap (λ (r : Result BankContent ℕ). or_fault_as in_bank r) reads
-
-pub state_in : (images : Images) (content : BankContent) (state : StateValue)
-    → content_in images.head images.bank1 ≡ Ok content → content.checkpoint ≡ []
-    → state_after_records nothing_held 8 content.bodies ≡ Ok state
-    → read_of images ≡ Ok (record { state = state; used = gate_of content + 1 })
-state_in images content state found none replays =
-    read_by_content images ∙ ap content_read found
-    ∙ ap (λ (c : List ℕ).
-    empty_checkpoint c >>= λ first. state_read content (state_after_records nothing_held 8 content.bodies)) none
-    ∙ ap (state_read content) replays
+pub state_in : (images : Images) (content : BankContent) (state : StateValue) → content_named images ≡ Ok content
+    → state_by content ≡ Ok state → read_of images ≡ Ok (record { state = state; used = gate_of content + 1 })
+state_in images content state says holds =
+    read_by_content images ∙ ap (reading_named (current_of images)) says
+    ∙ ap (reading_with (current_of images) content) holds
 
 -- ---- the first fault
 
-pub no_content : (images : Images) (place : Place) → content_in images.head images.bank1 ≡ Err place
-    → read_of images ≡ Err place
-no_content images place none = read_by_content images ∙ ap content_read none
+pub no_content : (images : Images) (at : ℕ) → content_named images ≡ Err at
+    → read_of images ≡ Err (in_bank (current_of images) at)
+no_content images at none = read_by_content images ∙ ap (reading_named (current_of images)) none
 
-pub not_begun : (images : Images) (content : BankContent) (place : Place)
-    → content_in images.head images.bank1 ≡ Ok content → empty_checkpoint content.checkpoint ≡ Err place
-    → read_of images ≡ Err place
-not_begun images content place found some =
-    read_by_content images ∙ ap content_read found
-    ∙ ap (λ (r : Result (Unit {0}) Place).
-    r >>= λ first. state_read content (state_after_records nothing_held 8 content.bodies)) some
+pub not_held : (images : Images) (content : BankContent) (at : ℕ) → content_named images ≡ Ok content
+    → state_by content ≡ Err at → read_of images ≡ Err (in_bank (current_of images) at)
+not_held images content at says none =
+    read_by_content images ∙ ap (reading_named (current_of images)) says
+    ∙ ap (reading_with (current_of images) content) none
 
-not_replayed : (content : BankContent) (replay : Result StateValue ℕ) (place : Place)
-    → or_fault_as in_bank replay ≡ Err place → state_read content replay ≡ Err place
-not_replayed content replay place none =
-    ap (λ (r : Result StateValue Place). r >>= λ state. Ok (record { state = state; used = gate_of content + 1 })) none
+-- ---- what the content of a bank holds
 
-pub not_carried : (images : Images) (content : BankContent) (place : Place)
-    → content_in images.head images.bank1 ≡ Ok content → content.checkpoint ≡ []
-    → or_fault_as in_bank (state_after_records nothing_held 8 content.bodies) ≡ Err place → read_of images ≡ Err place
-not_carried images content place found none replays =
-    read_by_content images ∙ ap content_read found
-    ∙ ap (λ (c : List ℕ).
-    empty_checkpoint c >>= λ first. state_read content (state_after_records nothing_held 8 content.bodies)) none
-    ∙ not_replayed content (state_after_records nothing_held 8 content.bodies) place replays
+-- what is held after the records, where the checkpoint says so much
+abbrev state_behind : BankContent → Option StateValue → Result StateValue ℕ
+state_behind content first =
+    or_fault 8 first >>= λ state. state_after_records state (first_gate content) content.bodies
+
+by_checkpoint : (content : BankContent) → state_by content ≡ state_behind content (checkpoint_in content.checkpoint)
+unfolding state_by
+by_checkpoint content = refl
+
+pub not_begun : (content : BankContent) → checkpoint_in content.checkpoint ≡ None → state_by content ≡ Err 8
+not_begun content none = by_checkpoint content ∙ ap (state_behind content) none
+
+pub carried_from : (content : BankContent) (first : StateValue) → checkpoint_in content.checkpoint ≡ Some first
+    → state_by content ≡ state_after_records first (first_gate content) content.bodies
+carried_from content first starts = by_checkpoint content ∙ ap (state_behind content) starts
 
 -- what holds of the place of a fault
 pub foreign_leads : (P Q : Place → Type 0) → ((place : Place) → P place → Q place) → (fault : OpenFault)
@@ -144,13 +132,13 @@ is_carried : (state next : StateValue) (body : List ℕ) → state_after_record 
 is_carried state next body e = spelled_by state next body (command_in body) refl e
 
 -- a list of records begins with one that is carried out
-record GoesOn (state : StateValue) (gate : ℕ) (body : List ℕ) (bodies : List (List ℕ)) (last : StateValue)
+pub record GoesOn (state : StateValue) (gate : ℕ) (body : List ℕ) (bodies : List (List ℕ)) (last : StateValue)
     : Type 0 where
-  next : StateValue
-  carried : state_after_record state body ≡ Some next
-  rest : state_after_records next (gate + (5 + length body)) bodies ≡ Ok last
+  pub next : StateValue
+  pub carried : state_after_record state body ≡ Some next
+  pub rest : state_after_records next (gate + (5 + length body)) bodies ≡ Ok last
 
-goes_on_by : (state : StateValue) (gate : ℕ) (body : List ℕ) (bodies : List (List ℕ)) (last : StateValue)
+pub goes_on_by : (state : StateValue) (gate : ℕ) (body : List ℕ) (bodies : List (List ℕ)) (last : StateValue)
     (o : Option StateValue) → state_after_record state body ≡ o
     → (or_fault gate o >>= λ next. state_after_records next (gate + (5 + length body)) bodies) ≡ Ok last
     → GoesOn state gate body bodies last
@@ -202,62 +190,89 @@ accepted-records law state gate (body ∷ bodies) last e =
     one_more law state more.next last body bodies (is_carried state more.next body more.carried)
     (accepted-records law more.next (gate + (5 + length body)) bodies last more.rest)
 
-pub has_commands : SpelledLaw → (content : BankContent) (state : StateValue) → content.checkpoint ≡ []
-    → state_after_records nothing_held 8 content.bodies ≡ Ok state → HasCommands content state
-has_commands law content state none replays =
-    let found = accepted-records law nothing_held 8 content.bodies state replays in
-    record { first = none; commands = found.commands; spelled = found.spelled; accepted = found.accepted }
+-- ---- what a bank holds, by its commands
+
+pub leads-held : SpelledLaw → (first : StateValue) (gate : ℕ) (bodies : List (List ℕ)) (last : StateValue)
+    → Lead first bodies last → state_after_records first gate bodies ≡ Ok last
+leads-held law first gate bodies last leads =
+    records-accepted law first gate bodies leads.commands last leads.spelled leads.accepted
+
+pub held-leads : SpelledLaw → (first : StateValue) (gate : ℕ) (bodies : List (List ℕ)) (last : StateValue)
+    → state_after_records first gate bodies ≡ Ok last → Lead first bodies last
+held-leads law first gate bodies last replays =
+    let found = accepted-records law first gate bodies last replays in
+    record { commands = found.commands; spelled = found.spelled; accepted = found.accepted }
+
+pub holds-state : SpelledLaw → (content : BankContent) (state : StateValue) → Holds content state
+    → state_by content ≡ Ok state
+holds-state law content state h =
+    carried_from content h.first h.starts
+    ∙ leads-held law h.first (first_gate content) content.bodies state h.leads
+
+state-held : SpelledLaw → (content : BankContent) (state : StateValue) (first : Option StateValue)
+    → checkpoint_in content.checkpoint ≡ first → state_behind content first ≡ Ok state → Holds content state
+state-held law content state None starts e = absurd cc
+state-held law content state (Some first) starts e =
+    record { first = first; starts = starts; leads = held-leads law first (first_gate content) content.bodies state e }
+
+pub state-holds : SpelledLaw → (content : BankContent) (state : StateValue) → state_by content ≡ Ok state
+    → Holds content state
+state-holds law content state e =
+    state-held law content state (checkpoint_in content.checkpoint) refl (sym (by_checkpoint content) ∙ e)
 
 -- ---- files that stand for what is held
 
+pub holds-read : SpelledLaw → (images : Images) (content : BankContent) (state : StateValue)
+    → content_named images ≡ Ok content → Holds content state
+    → read_of images ≡ Ok (record { state = state; used = gate_of content + 1 })
+holds-read law images content state says holds =
+    state_in images content state says (holds-state law content state holds)
+
 pub stands-read : SpelledLaw → (images : Images) (state : StateValue) → StandFor images state
     → (used : ℕ) × (read_of images ≡ Ok (record { state = state; used = used }))
-stands-read law images state h = (
-  gate_of h.content + 1,
-  state_in images h.content state
-      (content_behind images.head images.bank1 h.content h.head h.reads) h.has.first
-      (records-accepted law nothing_held 8 h.content.bodies h.has.commands state h.has.spelled h.has.accepted),
-)
+stands-read law images state h = (gate_of h.content + 1, holds-read law images h.content state h.says h.holds)
+
+-- the bank that the head names holds a state
+abbrev pub HoldsNamed : Images → StateValue → Type 0
+HoldsNamed images state = (content : BankContent) × (content_named images ≡ Ok content) × Holds content state
 
 by_state : SpelledLaw → (images : Images) (content : BankContent) (state : StateValue) (used : ℕ)
-    → images.head ≡ [] → bank_of images.bank1 ≡ Ok content → content.checkpoint ≡ []
-    → (replay : Result StateValue ℕ) → state_after_records nothing_held 8 content.bodies ≡ replay
-    → state_read content replay ≡ Ok (record { state = state; used = used }) → StandFor images state
-by_state law images content state used empty reads none (Err gate) replays e = absurd cc
-by_state law images content state used empty reads none (Ok last) replays e =
+    → content_named images ≡ Ok content → (held : Result StateValue ℕ) → state_by content ≡ held
+    → reading_with (current_of images) content held ≡ Ok (record { state = state; used = used })
+    → HoldsNamed images state
+by_state law images content state used says (Err at) held e = absurd cc
+by_state law images content state used says (Ok last) held e =
     let same : last ≡ state = ap (λ (r : Reading). r.state) (ok_is e) in
-    record {
-      head = empty;
-      content = content;
-      reads = reads;
-      has = has_commands law content state none (replays ∙ ap Ok same);
-    }
+    (content, says, state-holds law content state (held ∙ ap Ok same))
   where
     ok_is : {A E : Type 0} {x y : A} → ◌≡◌ {A = Result A E} (Ok x) (Ok y) → x ≡ y
     ok_is e = cc
 
-by_checkpoint : SpelledLaw → (images : Images) (checkpoint : List ℕ) (bodies : List (List ℕ)) (state : StateValue)
-    (used : ℕ) → images.head ≡ [] → bank_of images.bank1 ≡ Ok (record { checkpoint = checkpoint; bodies = bodies })
-    → content_read (Ok (record { checkpoint = checkpoint; bodies = bodies })) ≡ Ok (record { state = state; used = used })
-    → StandFor images state
-by_checkpoint law images (byte ∷ bytes) bodies state used empty reads e = absurd cc
-by_checkpoint law images [] bodies state used empty reads e =
-    by_state law images (record { checkpoint = []; bodies = bodies }) state used empty reads refl
-    (state_after_records nothing_held 8 bodies) refl e
+by_content : SpelledLaw → (images : Images) (found : Result BankContent ℕ) (state : StateValue) (used : ℕ)
+    → content_named images ≡ found
+    → reading_named (current_of images) found ≡ Ok (record { state = state; used = used }) → HoldsNamed images state
+by_content law images (Err at) state used says e = absurd cc
+by_content law images (Ok content) state used says e =
+    by_state law images content state used says (state_by content) refl e
 
-by_bank : SpelledLaw → (images : Images) (found : Result BankContent ℕ) (state : StateValue) (used : ℕ)
-    → images.head ≡ [] → bank_of images.bank1 ≡ found
-    → content_read (or_fault_as in_bank found) ≡ Ok (record { state = state; used = used }) → StandFor images state
-by_bank law images (Err place) state used empty reads e = absurd cc
-by_bank law images (Ok content) state used empty reads e =
-    by_checkpoint law images content.checkpoint content.bodies state used empty reads e
+pub read-holds : SpelledLaw → (images : Images) (state : StateValue) (used : ℕ)
+    → read_of images ≡ Ok (record { state = state; used = used }) → HoldsNamed images state
+read-holds law images state used e =
+    by_content law images (content_named images) state used refl (sym (read_by_content images) ∙ e)
 
-by_head : SpelledLaw → (images : Images) (head : List ℕ) (state : StateValue) (used : ℕ) → images.head ≡ head
-    → content_read (content_in head images.bank1) ≡ Ok (record { state = state; used = used }) → StandFor images state
-by_head law images (byte ∷ bytes) state used is e = absurd cc
-by_head law images [] state used is e = by_bank law images (bank_of images.bank1) state used is refl e
+-- three empty files
+abbrev pub empty_files : Images
+empty_files = record { head = []; bank1 = []; bank2 = [] }
 
-pub read-stands : SpelledLaw → (images : Images) (state : StateValue) (used : ℕ)
-    → read_of images ≡ Ok (record { state = state; used = used }) → StandFor images state
-read-stands law images state used e =
-    by_head law images images.head state used refl (sym (read_by_content images) ∙ e)
+pub empty-stands : StandFor empty_files nothing_held
+unfolding content_named bank_of checkpoint_in
+empty-stands = record {
+  content = empty_content;
+  says = refl;
+  holds = record {
+    first = nothing_held;
+    starts = refl;
+    leads = record { commands = []; spelled = tt; accepted = refl };
+  };
+  reached = ([], refl);
+}

@@ -7,7 +7,7 @@ use Rattle.std.specs.FinMap as map
 use Rattle.chart_model.specs.Answers.{◌>>=◌, or_fault_as}
 use Rattle.chart_model.specs.Cell.{CellValue}
 use Rattle.chart_model.specs.Dataset.{DatasetValue}
-use Rattle.chart_model.specs.State.{StateValue, IsChartOf, IsHolding}
+use Rattle.chart_model.specs.State.{StateValue, IsState, IsChartOf, IsHolding}
 use Rattle.chart_model.specs.declared.dataset.Header.{Header}
 use Rattle.chart_model.specs.declared.state.Held.{Held}
 use Rattle.chart_model.specs.declared.state.Holding.{Holding}
@@ -23,12 +23,10 @@ use Rattle.chart_store.specs.declared.refusal.Refusal.TheVariants.{CellsFull}
 use Rattle.chart_store.specs.Refusal.{refusal_of_sequence, refusal_of_build}
 use Rattle.chart_store.specs.Fault.{or_refused}
 use Rattle.chart_store.specs.Loaded.{HoldingsByKey, CELLS_LIMIT, Outcome, cells_within, held_with, loaded}
-use Rattle.chart_store.specs.Live.{AreLive, IsLive}
 use Rattle.chart_store.specs.Reissued.{IsReissueOf, held_by_file}
-use Rattle.chart_store.specs.Taken.{held_of, chart_of, chart_after, held_after, state_by_effect, outcome_of_data_set}
-use Rattle.chart_store.proofs.Accepting.{loaded-data_set}
-use Rattle.chart_store.proofs.Loading.{Laws}
-use Rattle.chart_store.proofs.Placing.{Holds, live-held, state_by_effect-by}
+use Rattle.chart_store.specs.Loaded.{held_of, chart_of, chart_after, held_after, state_by_effect, outcome_of_data_set}
+use Rattle.chart_store.proofs.Accepting.{loaded-reads}
+use Rattle.chart_store.proofs.Placing.{state_by_effect-by}
 
 -- the numbers of a chart that is held are those of its header
 numbers_kept : (key : List ℕ) (here : Holding) (chart : CellValue) → IsHolding key here → here.chart ≡ Some chart →
@@ -110,17 +108,15 @@ same_taken state dataset file here chart found has base same builds =
     builds_chart =
         ap (λ (r : Result CellValue BuildFault). or_refused refusal_of_build r >>= λ after. Ok (Some after)) builds
 
-module _ (laws : Laws) (holds : Holds) where
-  pub reissue-loaded : (state : StateValue) (key : List ℕ) (here : Holding) (chart : CellValue) (file : List ℕ) →
-      AreLive state.cells → map.get state.cells key ≡ Some here → here.chart ≡ Some chart → IsReissueOf chart file →
-      loaded state file ≡ held_with state key (held_by_file here file)
-  reissue-loaded state key here chart file live found has is =
-      let lives : IsLive key here = subst (λ (o : Option Holding). IfSome o (IsLive key)) found (live key) in
-      let stands = live-held holds.held key here lives in
-      let keyed : is.dataset.header.key ≡ key =
-      ap (λ (h : Header). h.key) is.header ∙ (numbers_kept key here chart stands has).keyed in
-      let numbers : numbers_of is.dataset.header ≡ here.held =
-      ap numbers_of is.header ∙ held_numbers key here chart stands has in
-      loaded-data_set laws state file is.dataset live is.short is.reads
-      ∙ same_taken state is.dataset file here chart (ap (map.get state.cells) keyed ∙ found) has is.base numbers is.builds
-      ∙ ap (λ (k : List ℕ). held_with state k (held_by_file here file)) keyed
+pub reissue-loaded : (state : StateValue) (key : List ℕ) (here : Holding) (chart : CellValue) (file : List ℕ) →
+    IsState state → map.get state.cells key ≡ Some here → here.chart ≡ Some chart → IsReissueOf chart file →
+    loaded state file ≡ held_with state key (held_by_file here file)
+reissue-loaded state key here chart file held found has is =
+    let stands : IsHolding key here = subst (λ (o : Option Holding). IfSome o (IsHolding key)) found (held.cells key) in
+    let keyed : is.dataset.header.key ≡ key =
+    ap (λ (h : Header). h.key) is.header ∙ (numbers_kept key here chart stands has).keyed in
+    let numbers : numbers_of is.dataset.header ≡ here.held =
+    ap numbers_of is.header ∙ held_numbers key here chart stands has in
+    loaded-reads state file is.dataset is.short is.reads
+    ∙ same_taken state is.dataset file here chart (ap (map.get state.cells) keyed ∙ found) has is.base numbers is.builds
+    ∙ ap (λ (k : List ℕ). held_with state k (held_by_file here file)) keyed

@@ -9,8 +9,9 @@ use Rattle.command_codec.specs.Reading.{command_in}
 use Rattle.command_codec.specs.Spelling.{Spells}
 use Rattle.bank_journal.specs.declared.content.BankContent.{BankContent}
 use Rattle.bank_journal.specs.Bank.{gate_of}
-use Rattle.bank_journal.specs.Reading.{bank_of}
+use Rattle.bank_pair.specs.Head.{content_named, current_of}
 use Rattle.chart_store.specs.declared.refusal.Refusal.{Refusal}
+use Rattle.chart_store.specs.Checkpoint.{checkpoint_in}
 use Rattle.chart_store.specs.Loaded.{Outcome, nothing_held}
 use Rattle.chart_store.specs.Outcome.{outcome, most_steps}
 
@@ -36,37 +37,36 @@ state_after_records state gate [] = Ok state
 state_after_records state gate (body ∷ bodies) =
     or_fault gate (state_after_record state body) >>= λ next. state_after_records next (gate + (5 + length body)) bodies
 
--- the head is empty, and names bank 1
-abbrev pub empty_head : List ℕ → Result (Unit {0}) Place
-empty_head [] = Ok tt
-empty_head (byte ∷ bytes) = Err (record { bank = 0; at = 0 })
+-- the place of the first record's gate
+abbrev pub first_gate : BankContent → ℕ
+first_gate content = 8 + length content.checkpoint
 
--- the checkpoint is that of the empty store
-abbrev pub empty_checkpoint : List ℕ → Result (Unit {0}) Place
-empty_checkpoint [] = Ok tt
-empty_checkpoint (byte ∷ bytes) = Err (record { bank = 1; at = 8 })
+-- what is held by the content of a bank: by its checkpoint, whose place is 8, and then after its records; or the first
+-- place where it is none
+unfoldable pub state_by : BankContent → Result StateValue ℕ
+state_by content = do
+  first ← or_fault 8 (checkpoint_in content.checkpoint)
+  state_after_records first (first_gate content) content.bodies
 
-abbrev pub in_bank : ℕ → Place
-in_bank at = record { bank = 1; at = at }
+abbrev pub in_bank : ℕ → ℕ → Place
+in_bank bank at = record { bank = bank; at = at }
 
--- What is read of a store's files: what is held, and how many bytes of its bank are used, up to and with the closed
--- gate.
+-- What is read of a store's files: what is held, and how many bytes of the current bank are used, up to and with the
+-- closed gate.
 pub record Reading : Type 0 where
   pub state : StateValue
   pub used : ℕ
 
--- the content of the bank that the head names, or the first place where head or bank are none
-abbrev pub content_in : List ℕ → List ℕ → Result BankContent Place
-content_in head bank1 = empty_head head >>= λ none. or_fault_as in_bank (bank_of bank1)
-
--- what is read of them, or the first place where they are no store's: the bank as a whole comes first, then its
--- checkpoint, then the records
-unfoldable pub read_of : Images → Result Reading Place
-read_of images = do
-  content ← content_in images.head images.bank1
-  first ← empty_checkpoint content.checkpoint
-  state ← or_fault_as in_bank (state_after_records nothing_held 8 content.bodies)
+-- what is read of the content of a bank
+abbrev pub reading_by : BankContent → Result Reading ℕ
+reading_by content = do
+  state ← state_by content
   Ok (record { state = state; used = gate_of content + 1 })
+
+-- what is read of them, or the first place where they are no store's: the bank that the head names as a whole comes
+-- first, then its checkpoint, then the records
+unfoldable pub read_of : Images → Result Reading Place
+read_of images = or_fault_as (in_bank (current_of images)) (content_named images >>= reading_by)
 
 -- ---- what they stand for
 
@@ -76,6 +76,10 @@ AreAccepted state [] last = state ≡ last
 AreAccepted state (command ∷ commands) last =
     (done : Outcome) × (outcome state command ≡ Ok done) × AreAccepted done.state commands last
 
+-- commands that are accepted, one after the other from nothing held, leave it
+abbrev pub IsReached : StateValue → Type 0
+IsReached state = (commands : List Command) × AreAccepted nothing_held commands state
+
 -- each body spells the command in its place
 abbrev pub AreSpelled : List (List ℕ) → List Command → Type 0
 AreSpelled [] [] = Unit {0}
@@ -83,20 +87,25 @@ AreSpelled [] (command ∷ commands) = ⊥
 AreSpelled (body ∷ bodies) [] = ⊥
 AreSpelled (body ∷ bodies) (command ∷ commands) = Spells body command × AreSpelled bodies commands
 
--- the content of a bank has no checkpoint, and the records of commands that were accepted one after the other from
--- nothing held
-pub record HasCommands (content : BankContent) (state : StateValue) : Type 0 where
-  pub first : content.checkpoint ≡ []
+-- bodies spell commands that are accepted one after the other from a first state, and lead to a last one
+pub record Lead (first : StateValue) (bodies : List (List ℕ)) (last : StateValue) : Type 0 where
   pub commands : List Command
-  pub spelled : AreSpelled content.bodies commands
-  pub accepted : AreAccepted nothing_held commands state
+  pub spelled : AreSpelled bodies commands
+  pub accepted : AreAccepted first commands last
 
--- The files stand for what is held: the head is empty, and bank 1 has the records of the commands that left it.
+-- the content of a bank holds a state: its checkpoint says one, from which its records lead there
+pub record Holds (content : BankContent) (state : StateValue) : Type 0 where
+  pub first : StateValue
+  pub starts : checkpoint_in content.checkpoint ≡ Some first
+  pub leads : Lead first content.bodies state
+
+-- The files stand for what is held: the bank that the head names holds it, and its checkpoint says what accepted commands
+-- left.
 pub record StandFor (images : Images) (state : StateValue) : Type 0 where
-  pub head : images.head ≡ []
   pub content : BankContent
-  pub reads : bank_of images.bank1 ≡ Ok content
-  pub has : HasCommands content state
+  pub says : content_named images ≡ Ok content
+  pub holds : Holds content state
+  pub reached : IsReached holds.first
 
 -- ---- steps
 
@@ -114,6 +123,11 @@ most_steps_by state [] = 0
 most_steps_by state (body ∷ bodies) =
     most_steps_of state (command_in body) + most_steps_by (state_or_same state (state_after_record state body)) bodies
 
+-- the same from what a checkpoint says; none of its own files is read
+abbrev pub most_steps_from : Option StateValue → List (List ℕ) → ℕ
+most_steps_from None bodies = 0
+most_steps_from (Some first) bodies = most_steps_by first bodies
+
 abbrev pub most_steps_in : Result BankContent ℕ → ℕ
-most_steps_in (Ok content) = most_steps_by nothing_held content.bodies
+most_steps_in (Ok content) = most_steps_from (checkpoint_in content.checkpoint) content.bodies
 most_steps_in (Err place) = 0

@@ -1,8 +1,10 @@
--- A file that is loaded: by the live files of its cell it is accepted, or refused.
+-- A file that is loaded: by what is held of its cell it is accepted, or refused.
 use Rattle.std.specs.Prelude.{ℕ, Bool, ◌&&◌, not, nat_le, if◌then◌else◌, List, [], ◌∷◌, ◌++◌, length, sum_by}
 use Rattle.std.specs.Prelude.{Option, Some, None, unwrap_or, Result, Ok, Err}
+use Rattle.std.specs.Option.{option_map, option_and_then}
 use Rattle.std.specs.FinMap as map
 use Rattle.chart_model.specs.Answers.{◌>>=◌, or_fault_as}
+use Rattle.chart_model.specs.Cell.{CellValue}
 use Rattle.chart_model.specs.Dataset.{DatasetValue}
 use Rattle.chart_model.specs.Keys.{key_cmp}
 use Rattle.chart_model.specs.State.{StateValue}
@@ -13,10 +15,9 @@ use Rattle.iso8211_records.specs.RecordFile.{data_records_in}
 use Rattle.update_sequence.specs.Reading.{tags_read, data_set_in}
 use Rattle.update_sequence.specs.Judged.{judged}
 use Rattle.update_sequence.specs.Built.{built}
-use Rattle.update_sequence.specs.Rebuilt.{numbers_of, held_by, rebuilt}
+use Rattle.update_sequence.specs.Rebuilt.{numbers_of, cancelled_numbers}
 use Rattle.update_sequence.specs.declared.effect.Effect.{Effect}
 use Rattle.update_sequence.specs.declared.effect.Effect.TheVariants.{Replace, Extend, Cancel}
-use Rattle.update_sequence.specs.declared.fault.BuildFault.{BuildFault}
 use Rattle.chart_store.specs.declared.refusal.Refusal.{Refusal}
 use Rattle.chart_store.specs.declared.refusal.Refusal.TheVariants.{FileLong, CellsFull, StoreFull}
 use Rattle.chart_store.specs.declared.fault.TakeFault.{TakeFault}
@@ -44,20 +45,40 @@ files_after files Replace file = file ∷ []
 files_after files Extend file = files ++ file ∷ []
 files_after files Cancel file = files ++ file ∷ []
 
--- a base file has to build a chart on nothing, and an update on the chart of the files; one that cancels builds none
-abbrev pub buildable : List (List ℕ) → Effect → DatasetValue → Result (Unit {0}) BuildFault
-buildable files Replace dataset = built None dataset >>= λ chart. Ok tt
-buildable files Extend dataset = built (rebuilt files) dataset >>= λ chart. Ok tt
-buildable files Cancel dataset = Ok tt
+-- ---- what a file leaves of one cell
 
--- What is held of a cell by its live files: the numbers and the chart that the whole files leave. Live files leave
--- numbers; the header is that of the last.
-abbrev pub holding_of : List (List ℕ) → Header → Holding
-holding_of files header = record {
-  held = unwrap_or (held_by files) (numbers_of header);
-  files = files;
-  chart = rebuilt files;
-}
+abbrev pub held_of : Option Holding → Option Held
+held_of before = option_map (λ (here : Holding). here.held) before
+
+abbrev pub chart_of : Option Holding → Option CellValue
+chart_of before = option_and_then (λ (here : Holding). here.chart) before
+
+-- the numbers after a file: one that cancels leaves edition and update as they were
+abbrev pub held_after : Option Holding → Effect → Header → Held
+held_after before Replace header = numbers_of header
+held_after before Extend header = numbers_of header
+held_after before Cancel header = cancelled_numbers (unwrap_or (held_of before) (numbers_of header))
+
+-- the chart that a data set builds
+abbrev pub chart_built : Option CellValue → DatasetValue → Result (Option CellValue) Refusal
+chart_built chart dataset = do
+  after ← or_refused refusal_of_build (built chart dataset)
+  Ok (Some after)
+
+-- a base file has to build a chart on nothing, and an update on the chart that is held; one that cancels leaves none
+abbrev pub chart_after : Option CellValue → Effect → DatasetValue → Result (Option CellValue) Refusal
+chart_after chart Replace dataset = chart_built None dataset
+chart_after chart Extend dataset = chart_built chart dataset
+chart_after chart Cancel dataset = Ok None
+
+-- the cell with another file
+abbrev pub cell_after : Option Holding → Effect → Held → Option CellValue → List ℕ → Holding
+cell_after before effect held chart file =
+    record { held = held; files = files_after (files_of before) effect file; chart = chart }
+
+-- the same with the numbers after the file
+abbrev pub cell_by : Option Holding → Effect → Header → Option CellValue → List ℕ → Holding
+cell_by before effect header chart file = cell_after before effect (held_after before effect header) chart file
 
 -- ---- the limits
 
@@ -88,9 +109,13 @@ bytes_of files = sum_by length files
 abbrev pub live_bytes : HoldingsByKey → ℕ
 live_bytes cells = sum_by (λ (here : Holding). bytes_of here.files) (map.values cells)
 
--- the most bytes of all live files
+-- the most bytes of all live files once a file is loaded
 abbrev pub STORE_LIMIT : ℕ
 STORE_LIMIT = 67108864
+
+-- the most that are ever held: a checkpoint, whose bytes are in memory when it is read, has no more
+abbrev pub HELD_LIMIT : ℕ
+HELD_LIMIT = 9223372036854775807
 
 -- cells whose live files have no more bytes
 abbrev pub store_within : HoldingsByKey → Result StateValue Refusal
@@ -112,20 +137,26 @@ held_with state key here = do
   after ← store_within (map.insert state.cells key here)
   Ok (record { key = key; held = here.held; state = after })
 
--- a file and the data set that it is, by the live files of the cell
-abbrev pub accepted_file : StateValue → DatasetValue → List ℕ → List (List ℕ) → Result Outcome Refusal
-accepted_file state dataset file files = do
-  effect ← or_fault_as refusal_of_sequence (judged (held_by files) dataset)
+-- what is held once a data set and its file are put in, as they were judged
+abbrev pub state_by_effect : StateValue → DatasetValue → List ℕ → Option Holding → Effect → Result StateValue Refusal
+state_by_effect state dataset file before effect = do
+  chart ← chart_after (chart_of before) effect dataset
+  store_within (map.insert state.cells dataset.header.key (cell_by before effect dataset.header chart file))
+
+-- a file and the data set that it is, by what is held of the cell
+abbrev pub outcome_of_data_set : StateValue → DatasetValue → List ℕ → Option Holding → Result Outcome Refusal
+outcome_of_data_set state dataset file before = do
+  effect ← or_fault_as refusal_of_sequence (judged (held_of before) dataset)
   _ ← cells_within state.cells dataset.header.key
-  _ ← or_refused refusal_of_build (buildable files effect dataset)
-  held_with state dataset.header.key (holding_of (files_after files effect file) dataset.header)
+  after ← state_by_effect state dataset file before effect
+  Ok (record { key = dataset.header.key; held = held_after before effect dataset.header; state = after })
 
 -- what is held once the file is accepted, or the first refusal
 unfoldable pub loaded : StateValue → List ℕ → Result Outcome Refusal
 loaded state file = do
   bytes ← within_limit file
   dataset ← or_refused refusal_of_read (data_set_in bytes)
-  accepted_file state dataset bytes (files_of (map.get state.cells dataset.header.key))
+  outcome_of_data_set state dataset bytes (map.get state.cells dataset.header.key)
 
 -- the data records that are come to: of a file of more bytes none
 abbrev pub come_to : List ℕ → ℕ

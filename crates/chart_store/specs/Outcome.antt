@@ -1,6 +1,6 @@
--- A command that is given: by the live files it is accepted, or refused.
+-- A command that is given: by what is held it is accepted, or refused.
 use Rattle.std.specs.Prelude.{◌≡◌, ◌+◌, ◌*◌, ℕ, nat_lt, if◌then◌else◌, List, fold, length}
-use Rattle.std.specs.Prelude.{Option, Some, None, unwrap_or, Result, Ok, Err}
+use Rattle.std.specs.Prelude.{Option, Some, None, option_map, unwrap_or, Result, Ok, Err}
 use Rattle.std.specs.FinMap as map
 use Rattle.chart_model.specs.Answers.{◌>>=◌, or_fault}
 use Rattle.chart_model.specs.Cell.{CellValue}
@@ -91,6 +91,10 @@ abbrev pub room_within : Room → ℕ → Result (Unit {0}) Refusal
 room_within room more = do
   _ ← bank_within room.used more
   other_within room.other more
+
+-- the room once so many more bytes are taken
+abbrev pub room_after : Room → ℕ → Room
+room_after room more = record { used = room.used + more; other = option_map (λ used. used + more) room.other }
 
 -- what is held once the command is accepted, or its first refusal: want of room comes last
 unfoldable pub accepted : StateValue → Room → Command → Result Outcome Refusal

@@ -6,7 +6,7 @@ use Rattle.chart_model.specs.State.{StateValue}
 use Rattle.chart_store.specs.declared.prepared.Prepared.{Prepared}
 use Rattle.chart_store.specs.declared.prepared.Prepared.TheVariants.{New, Known}
 use Rattle.chart_store.specs.Next.{cells_with, CanStand}
-use Rattle.chart_store.specs.Taken.{chart_of}
+use Rattle.chart_store.specs.Loaded.{chart_of}
 
 -- what is held once it is put in place
 abbrev pub with_prepared : StateValue → Prepared → StateValue

@@ -1,32 +1,36 @@
 -- What contracts see of a store, and how a desk keeps it.
-use Rattle.std.specs.Prelude.{◌≡◌, ◌⊎◌, ℕ, ◌+◌, Bool, List, [], None}
+use Rattle.std.specs.Prelude.{◌≡◌, ◌⊎◌, ℕ, ◌+◌, Bool, List, ◌++◌, option_map, Option, Some, IfSome}
 use Rattle.chart_model.specs.State.{StateValue}
 use Rattle.chart_ports.specs.declared.images.Images.{Images}
-use Rattle.chart_ports.specs.Disk.{Only}
 use Rattle.chart_ports.specs.Moments.{MayBeLeft, images_of}
-use Rattle.bank_journal.specs.declared.bank.Bank.{Bank}
 use Rattle.bank_journal.specs.declared.content.BankContent.{BankContent}
-use Rattle.bank_journal.specs.Handle.{file_of, place_of}
-use Rattle.bank_journal.specs.Moments.{IsInStep}
+use Rattle.bank_pair.specs.Handle.{value_of}
+use Rattle.bank_pair.specs.Pair.{AreFramed, IsPairInStep, PairValue}
+use Rattle.bank_pair.specs.Saving.{SaveValue, gate_of_save}
 use Rattle.chart_store.specs.declared.store.Store.{Store}
-use Rattle.chart_store.specs.Images.{HasCommands, StandFor, read_of}
+use Rattle.chart_store.specs.Checkpoint.{checkpoint_in}
+use Rattle.chart_store.specs.Images.{Holds, StandFor, read_of}
 use Rattle.chart_store.specs.Outcome.{Room}
 
 -- what is held
 abbrev pub state_of : Store → StateValue
 state_of store = store.live
 
--- the bank that keeps it
-abbrev pub bank_in : Store → Bank
-bank_in store = store.bank
+-- the two banks that keep it, with the save that is under way
+abbrev pub pair_of : Store → PairValue
+pair_of store = value_of store.pair
 
--- how many bytes of the bank are used, up to and with its closed gate
+-- the save that is under way
+abbrev pub save_of : Store → Option SaveValue
+save_of store = (pair_of store).save
+
+-- how many bytes of the current bank are used, up to and with its closed gate
 abbrev pub used_of : Store → ℕ
-used_of store = place_of store.bank + 1
+used_of store = (pair_of store).gate + 1
 
--- no save is under way
+-- the room in the two banks: of the other one while a save is under way
 abbrev pub room_of : Store → Room
-room_of store = record { used = used_of store; other = None }
+room_of store = record { used = used_of store; other = option_map (λ save. gate_of_save save + 1) (save_of store) }
 
 -- how many commands were accepted since it was opened
 abbrev pub count_of : Store → ℕ
@@ -36,17 +40,45 @@ count_of store = store.count
 abbrev pub is_sound : Store → Bool
 is_sound store = store.sound
 
--- A desk keeps the store: the head is empty, bank 1 has the records of the commands that left what is held, and a crash
--- leaves of both files what a read gives.
+-- what a store is, but for the room that it has taken for records to come
+pub record StoreValue : Type 0 where
+  pub state : StateValue
+  pub pair : PairValue
+  pub count : ℕ
+  pub sound : Bool
+
+abbrev pub store_of : Store → StoreValue
+store_of store = record { state = state_of store; pair = pair_of store; count = count_of store; sound = is_sound store }
+
+-- ---- the save under way
+
+-- The save under way is of what the current bank holds: its checkpoint says what the first of the records there led to,
+-- and its frames are those of the other records.
+pub record IsSaveOf (content : BankContent) (save : SaveValue) : Type 0 where
+  pub saved : StateValue
+  pub starts : checkpoint_in save.checkpoint ≡ Some saved
+  pub before : List (List ℕ)
+  pub since : List (List ℕ)
+  pub parts : content.bodies ≡ before ++ since
+  pub framed : AreFramed save.since since
+  pub holds : Holds (record { checkpoint = content.checkpoint; bodies = before }) saved
+
+-- ---- a desk that keeps it
+
+-- A desk is in step with a store: it is in step with the pair, whose current bank holds what is held, and a save that is
+-- under way is of that.
 pub record IsKept (contents : ℕ → List ℕ) (may_leave : ℕ → List ℕ → Type 0) (store : Store) : Type 0 where
-  pub file : file_of store.bank ≡ 1
-  pub head : contents 0 ≡ []
-  pub settled : Only (contents 0) (may_leave 0)
   pub content : BankContent
-  pub bank : IsInStep (contents 1) (may_leave 1) (place_of store.bank) content
-  pub has : HasCommands content (state_of store)
+  pub pair : IsPairInStep contents may_leave (pair_of store) content
+  pub holds : Holds content (state_of store)
+  pub save : IfSome (save_of store) (IsSaveOf content)
 
 -- ---- what a crash leaves
+
+-- nothing more is said, and the files stand for this state
+pub record StandsForSame (said : List ℕ) (state : StateValue) (images : Images) (so_far : List ℕ) : Type 0 where
+  pub silent : so_far ≡ said
+  pub stands : StandFor images state
 
 -- nothing more is said, and the files stand for one of these states
 pub record StandsForEither (said : List ℕ) (before after : StateValue) (images : Images) (so_far : List ℕ)
@@ -60,8 +92,13 @@ pub record LeavesBefore (may_leave : ℕ → List ℕ → Type 0) (said : List �
   pub silent : so_far ≡ said
   pub left : MayBeLeft may_leave images
 
--- nothing more is said, and the files are as a crash might have left them before, or read as a read of them gave
+-- files that are read as others are, and stand for what those stand for
+pub record SaysAs (images others : Images) : Type 0 where
+  pub reads : read_of images ≡ read_of others
+  pub stands : (state : StateValue) → StandFor others state → StandFor images state
+
+-- nothing more is said, and the files are as a crash might have left them before, or say what a read of them gave
 pub record LeavesReading (contents : ℕ → List ℕ) (may_leave : ℕ → List ℕ → Type 0) (said : List ℕ)
     (images : Images) (so_far : List ℕ) : Type 0 where
   pub silent : so_far ≡ said
-  pub either : MayBeLeft may_leave images ⊎ (read_of images ≡ read_of (images_of contents))
+  pub either : MayBeLeft may_leave images ⊎ SaysAs images (images_of contents)

@@ -5,6 +5,8 @@ use Rattle.chart_model.specs.declared.command.Command.{Command}
 use Rattle.chart_model.specs.declared.command.Command.TheVariants.{Load}
 use Rattle.bank_journal.specs.declared.fault.AppendFault.{AppendFault}
 use Rattle.bank_journal.specs.declared.fault.AppendFault.TheVariants as appends
+use Rattle.bank_pair.specs.declared.fault.SaveFault.{SaveFault}
+use Rattle.bank_pair.specs.declared.fault.SaveFault.TheVariants as saves
 use Rattle.chart_store.specs.declared.accepted.Accepted.{Accepted}
 use Rattle.chart_store.specs.declared.fault.TakeFault.{TakeFault}
 use Rattle.chart_store.specs.declared.fault.TakeFault.TheVariants as takes
@@ -38,6 +40,10 @@ fault_of_taking takes.NoMemory = NoMemory
 abbrev pub fault_of_appending : AppendFault → SubmitFault
 fault_of_appending appends.DeskFault = DeskFault
 fault_of_appending (appends.Full used need) = Refused (BankFull used need)
+
+-- nothing of the other bank is used when a save begins
+abbrev pub fault_of_saving : SaveFault → SubmitFault
+fault_of_saving (saves.Full need) = Refused (BankFull 0 need)
 
 abbrev pub accepted_with : StateValue → Accepted → Outcome
 accepted_with state done = record { key = done.key; held = done.held; state = state }

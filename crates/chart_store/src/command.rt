@@ -9,7 +9,7 @@ ghost use Rattle.chart_difference.specs.Difference.{AreChanged};
 ghost use Rattle.chart_store.specs.Loaded.{loaded, GivesLoaded, come_to};
 ghost use Rattle.chart_store.specs.Next.{IsNext, GivesNext};
 ghost use Rattle.chart_store.specs.Outcome.{most_steps, outcome, outcome_of_drop};
-ghost use Rattle.chart_store.specs.Taken.{chart_of};
+ghost use Rattle.chart_store.specs.Loaded.{chart_of};
 ghost use Rattle.chart_store.specs.declared.next.Naming.TheVariants as Naming;
 
 use crate::changed::changed_between;

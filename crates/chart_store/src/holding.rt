@@ -7,7 +7,7 @@ ghost use Rattle.std.specs.Option.{option_copied};
 ghost use Rattle.std.specs.FinMap as map;
 ghost use Rattle.chart_store.specs.Loaded.{files_of, files_after};
 ghost use Rattle.chart_store.specs.Next.{cells_with};
-ghost use Rattle.chart_store.specs.Taken.{held_of, chart_of};
+ghost use Rattle.chart_store.specs.Loaded.{held_of, chart_of};
 
 use chart_model::{Cell, FileList, Held, Holding, HoldingMap, Key, Octets, Shared};
 use std::alloc::{AllocError, Global};

@@ -1,23 +1,24 @@
 //! Laws of the definitions.
 //!
-//! What is held follows from the live files alone, so that a chart can be trusted without a look at
-//! how it came to be.
+//! Where accepted commands left what is held, it follows from the live files alone, so that a chart can be trusted
+//! without a look at how it came to be.
 
 ghost use Rattle.std.specs.Prelude.{◌≡◌, ◌≢◌, ℕ, List, [], ◌∷◌, ◌++◌, Some, None, Ok, Err};
 ghost use Rattle.std.specs.FinMap as map;
 ghost use Rattle.chart_model.specs.Dataset.{DatasetValue};
-ghost use Rattle.chart_model.specs.State.{StateValue};
+ghost use Rattle.chart_model.specs.State.{IsState, StateValue};
 ghost use Rattle.chart_model.specs.declared.command.Command.{Command};
 ghost use Rattle.update_sequence.specs.Reading.{data_set_in};
 ghost use Rattle.chart_store.specs.declared.refusal.Refusal.{Refusal};
 ghost use Rattle.chart_model.specs.Cell.{CellValue};
 ghost use Rattle.chart_model.specs.declared.state.Holding.{Holding};
+ghost use Rattle.chart_store.specs.ByFiles.{loaded_by_files};
 ghost use Rattle.chart_store.specs.Loaded.{Outcome, held_with, nothing_held, loaded};
 ghost use Rattle.chart_store.specs.Reissued.{IsReissueOf, held_by_file};
 ghost use Rattle.chart_store.specs.KeptFiles.{MayKeep, IsShortestKept, kept_by};
 ghost use Rattle.chart_store.specs.Live.{AreLive, state_after, state_by};
 ghost use Rattle.chart_store.specs.Outcome.{IsKeyOf, outcome, state_with, after, charts};
-ghost use Rattle.chart_store.specs.Taken.{chart_of};
+ghost use Rattle.chart_store.specs.Loaded.{chart_of};
 
 use update_sequence::{
     accepted_files_follow, one_file_more, sequences_are_held, sequences_are_tested, sequences_grow,
@@ -31,6 +32,15 @@ pub fn live_files_leave_what_is_held()
     ensures more { (state : StateValue) (file : List ℕ) → AreLive state.cells → AreLive (state_after state file).cells }
 {
     commands_leave_what_is_held();
+}
+
+/// Where each cell is what its live files leave, these files alone say whether a file is accepted, and what is held then.
+pub fn live_files_decide()
+    ensures { (state : StateValue) (file : List ℕ) → AreLive state.cells →
+        loaded state file ≡ loaded_by_files state file }
+{
+    one_file_more();
+    accepted_files_follow();
 }
 
 /// A file that is accepted is one of its key, and changes the cell of that key alone. A refused one changes none.
@@ -94,10 +104,6 @@ pub fn rollbacks_keep_the_shortest_list()
 /// too many bytes, and the numbers and the chart stay as they were.
 pub fn reissues_keep_the_chart()
     ensures { (state : StateValue) (key : List ℕ) (here : Holding) (chart : CellValue) (file : List ℕ) →
-        AreLive state.cells → map.get state.cells key ≡ Some here → here.chart ≡ Some chart → IsReissueOf chart file →
+        IsState state → map.get state.cells key ≡ Some here → here.chart ≡ Some chart → IsReissueOf chart file →
         loaded state file ≡ held_with state key (held_by_file here file) }
-{
-    one_file_more();
-    accepted_files_follow();
-    sequences_are_held();
-}
+{}

@@ -6,24 +6,24 @@
 ghost use Rattle.std.specs.Prelude.{◌≡◌, ◌≤◌, ℕ, List, IfOk, IfSome, IsSome, IsOk, OnOk, OnErr};
 ghost use Rattle.std.specs.FinMap as map;
 ghost use Rattle.chart_model.specs.State.{IsHolding};
-ghost use Rattle.chart_store.specs.Loaded.{nothing_held, bytes_of, live_bytes, is_full_for};
-ghost use Rattle.chart_store.specs.Live.{AreLive};
+ghost use Rattle.chart_store.specs.Loaded.{HELD_LIMIT, nothing_held, bytes_of, live_bytes, is_full_for};
+ghost use Rattle.chart_store.specs.Live.{AreClosed};
 ghost use Rattle.chart_store.specs.Next.{cells_with, CanStand};
-ghost use Rattle.chart_store.specs.Taken.{chart_of};
+ghost use Rattle.chart_store.specs.Loaded.{chart_of};
 
 use crate::holding::set_in;
 use chart_model::{Cell, Holding, HoldingMap, Key, Octets, Shared, State};
 use std::alloc::{AllocError, Global};
 use std::marker::Model;
-use update_sequence::sequences_are_held;
 
 /// The most cells that are held, cancelled ones too.
 pub(crate) const CELLS_LIMIT: usize = 32;
 
-/// The most bytes of all live files.
+/// The most bytes of all live files once a file is loaded.
 pub(crate) const STORE_LIMIT: u64 = 67_108_864;
 
-/// The cells that are held. Each is what its live files leave, and these have at most 67,108,864 bytes in all.
+/// The cells that are held, with closed charts. The bytes of their live files are counted: once a file is loaded they are
+/// at most 67,108,864, and what a checkpoint says has no more than its bytes.
 #[derive(Debug, Drop)]
 pub struct LiveCells {
     state: State,
@@ -46,12 +46,24 @@ impl Model for LiveCells {
 
 /// The bytes of whole files.
 pub(crate) fn bytes_of(files: &[Shared<Octets>]) -> u64
-    requires { bytes_of files.now ≤ STORE_LIMIT }
+    requires { bytes_of files.now ≤ HELD_LIMIT }
     ensures { result ≡ bytes_of files.now }
 {
     let mut sum = 0;
     for file in files {
         sum += file.get().as_slice().len() as u64;
+    }
+    sum
+}
+
+/// The bytes of all live files of the cells.
+fn bytes_in(cells: &HoldingMap) -> u64
+    requires { live_bytes cells.now ≤ HELD_LIMIT }
+    ensures { result ≡ live_bytes cells.now }
+{
+    let mut sum = 0;
+    for (_, here) in cells.iter() {
+        sum += bytes_of(here.files.as_slice());
     }
     sum
 }
@@ -84,11 +96,21 @@ impl LiveCells {
         }
     }
 
-    /// The cells by their keys: each is what its live files leave. It takes no memory.
+    /// The cells of a state, whose charts are closed. It takes no memory.
+    pub(crate) fn of_state(state: State) -> LiveCells
+        requires closed { AreClosed state.cells }
+        requires within { live_bytes state.cells ≤ HELD_LIMIT }
+        ensures { result ≡ state }
+    {
+        let bytes = bytes_in(&state.cells);
+        LiveCells { state, bytes }
+    }
+
+    /// The cells by their keys. It takes no memory.
     pub fn cells(&self) -> &HoldingMap
         ensures cells { result.now ≡ self.now.cells }
         ensures holdings { (key : List ℕ) → IfSome (map.get result.now key) (IsHolding key) }
-        ensures live { AreLive result.now }
+        ensures closed { AreClosed result.now }
     {
         &self.state.cells
     }
@@ -96,7 +118,7 @@ impl LiveCells {
     /// What is held. It takes no memory.
     pub fn state(&self) -> &State
         ensures state { result.now ≡ self.now }
-        ensures live { AreLive result.now.cells }
+        ensures closed { AreClosed result.now.cells }
     {
         &self.state
     }
@@ -104,7 +126,7 @@ impl LiveCells {
     /// The bytes of all live files.
     pub(crate) fn bytes(&self) -> u64
         ensures bytes { result ≡ live_bytes self.now.cells }
-        ensures within { result ≤ STORE_LIMIT }
+        ensures within { result ≤ HELD_LIMIT }
     {
         self.bytes
     }
@@ -131,7 +153,6 @@ impl LiveCells {
         ensures err { OnErr result (self.new ≡ self.old) }
         ensures free { IsSome (map.get self.old.cells key) → IsOk result }
     {
-        sequences_are_held();
         let before = set(&mut self.state, key, holding)?;
         self.bytes = bytes;
         Ok(before)

@@ -6,15 +6,17 @@
 ghost use Rattle.std.specs.Prelude.{◌≡◌, ◌≢◌, ◌+◌, ◌-◌, ◌≤◌, Ok, Err, length, IfOk, IfSome};
 ghost use Rattle.std.specs.Option.{option_copied};
 ghost use Rattle.std.specs.FinMap as map;
-ghost use Rattle.chart_model.specs.State.{IsFileLength};
+ghost use Rattle.chart_closure.specs.Closed.{IsClosed};
+ghost use Rattle.chart_model.specs.State.{IsFileLength, IsHolding};
 ghost use Rattle.update_sequence.specs.Reading.{data_set_in};
 ghost use Rattle.update_sequence.specs.Judged.{judged};
 ghost use Rattle.chart_difference.specs.Difference.{AreChanged};
-ghost use Rattle.chart_store.specs.Loaded.{loaded, bytes_of, files_of, live_bytes, store_within, come_to};
-ghost use Rattle.chart_store.specs.Live.{IsLive, AreLive};
+ghost use Rattle.chart_store.specs.Loaded.{HELD_LIMIT, loaded, bytes_of, files_of, live_bytes, store_within, come_to};
+ghost use Rattle.chart_store.specs.Live.{HasClosedChart};
 ghost use Rattle.chart_store.specs.Next.{IsNext, GivesNext, GivesNextState};
-ghost use Rattle.chart_store.specs.Taken.{held_of, chart_of, held_after, cell_after, outcome_of_data_set};
-ghost use Rattle.chart_store.specs.Taken.{replaced_bytes, state_by_effect};
+ghost use Rattle.chart_store.specs.Loaded.{held_of, chart_of, held_after, cell_after, outcome_of_data_set};
+ghost use Rattle.chart_store.specs.Loaded.{state_by_effect};
+ghost use Rattle.chart_store.specs.Taken.{replaced_bytes};
 ghost use Rattle.chart_store.specs.declared.next.Naming.TheVariants as Naming;
 
 use crate::fault::TakeFault;
@@ -28,8 +30,8 @@ use chart_ports::Steps;
 use std::alloc::Global;
 use std::sync::ledger::Ledger;
 use update_sequence::{
-    Effect, accepted_files_follow, files_are_data_sets, judge, one_file_more, read_data_set,
-    sequences_are_held,
+    Effect, charts_are_cells, charts_are_closed, files_are_data_sets, headers_follow, judge,
+    read_data_set,
 };
 
 /// The most bytes of a file that is loaded.
@@ -43,7 +45,7 @@ fn key_of(dataset: &Dataset) -> Key
 }
 
 /// The numbers that are held of a cell after a file.
-fn held_after(before: Option<&Holding>, effect: Effect, header: &Header) -> Held
+pub(crate) fn held_after(before: Option<&Holding>, effect: Effect, header: &Header) -> Held
     ensures { result ≡ held_after (option_copied before.entry) effect header.now }
 {
     let own = Held {
@@ -63,7 +65,7 @@ fn held_after(before: Option<&Holding>, effect: Effect, header: &Header) -> Held
 
 /// The bytes of the live files that a file replaces.
 fn replaced_bytes(before: Option<&Holding>, effect: Effect) -> u64
-    requires { bytes_of (files_of (option_copied before)) ≤ STORE_LIMIT }
+    requires { bytes_of (files_of (option_copied before)) ≤ HELD_LIMIT }
     ensures { result ≡ replaced_bytes (option_copied before.entry) effect }
 {
     match (before, effect) {
@@ -92,7 +94,8 @@ fn with_file(
     file: Octets,
 ) -> Result<Next, TakeFault>
     requires short { IsFileLength (length file) }
-    requires live { IsLive key (cell_after (map.get live.now.cells key) effect made.held made.chart file) }
+    requires holds { IsHolding key (cell_after (map.get live.now.cells key) effect made.held made.chart file) }
+    requires closed { IfSome made.chart IsClosed }
     ensures after { GivesNextState result live.now (store_within (map.insert live.now.cells key
         (cell_after (map.get live.now.cells key) effect made.held made.chart file))) }
     ensures stands { IfOk result (IsNext live.now) }
@@ -133,7 +136,8 @@ fn next_by_effect(
 ) -> Result<Next, TakeFault>
     requires reads { data_set_in file ≡ Ok dataset }
     requires short { IsFileLength (length file) }
-    requires live { IfSome (map.get live.now.cells dataset.header.key) (IsLive dataset.header.key) }
+    requires holds { IfSome (map.get live.now.cells dataset.header.key) (IsHolding dataset.header.key) }
+    requires closed { IfSome (map.get live.now.cells dataset.header.key) (HasClosedChart dataset.header.key) }
     requires judged { judged (held_of (map.get live.now.cells dataset.header.key)) dataset ≡ Ok effect }
     requires held { held ≡ held_after (map.get live.now.cells dataset.header.key) effect dataset.header }
     ensures after { GivesNextState result live.now
@@ -145,9 +149,9 @@ fn next_by_effect(
         AreChanged (chart_of (map.get live.now.cells dataset.header.key)) (chart_of next.holding) next.changed) }
 {
     files_are_data_sets();
-    one_file_more();
-    accepted_files_follow();
-    sequences_are_held();
+    charts_are_closed();
+    charts_are_cells();
+    headers_follow();
     let key = key_of(&dataset);
     let before = chart_of(live.cells().get(key));
     let made = made_by(alloc, before, dataset, effect, held, naming)?;
@@ -169,7 +173,6 @@ fn next_of_data_set(
     ensures stands { IfOk result (IsNext live.now) }
     ensures changed { naming ≡ Naming.Named → IfOk result (λ next.
         AreChanged (chart_of (map.get live.now.cells next.key)) (chart_of next.holding) next.changed) }
-    ensures live { AreLive live.now.cells }
 {
     let key = key_of(&dataset);
     let before = live.cells().get(key);
@@ -197,8 +200,6 @@ pub(crate) fn next_of_file<C: Ledger>(
     ensures read { result ≢ Err TakeFault.NoMemory → steps.new ≡ steps.old + come_to file }
     ensures at_most { steps.new ≤ steps.old + come_to file }
 {
-    one_file_more();
-    accepted_files_follow();
     if file.as_slice().len() as u64 > FILE_LIMIT {
         return Err(TakeFault::Refused(Refusal::FileLong(FILE_LIMIT)));
     }

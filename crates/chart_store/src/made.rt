@@ -7,7 +7,8 @@ ghost use Rattle.std.specs.Option.{option_copied};
 ghost use Rattle.chart_difference.specs.Difference.{AreChanged};
 ghost use Rattle.update_sequence.specs.declared.effect.Effect.TheVariants as Effect;
 ghost use Rattle.chart_store.specs.Fault.{GivesBy};
-ghost use Rattle.chart_store.specs.Taken.{chart_after, MayBuild};
+ghost use Rattle.chart_store.specs.Loaded.{chart_after};
+ghost use Rattle.chart_store.specs.Taken.{MayBuild};
 ghost use Rattle.chart_store.specs.declared.next.Naming.TheVariants as Naming;
 
 use crate::changed::{changed_between, changed_by_update};

@@ -7,7 +7,7 @@ ghost use Rattle.std.specs.Prelude.{◌≡◌, IfOk, IsSome, OnErr};
 ghost use Rattle.std.specs.FinMap as map;
 ghost use Rattle.chart_store.specs.Next.{cells_with, CanStand};
 ghost use Rattle.chart_store.specs.Prepared.{IsPrepared, chart_before, with_prepared, without_prepared};
-ghost use Rattle.chart_store.specs.Taken.{chart_of};
+ghost use Rattle.chart_store.specs.Loaded.{chart_of};
 
 use crate::live::LiveCells;
 use chart_model::{Cell, Holding, Key};

@@ -5,12 +5,10 @@
 
 ghost use Rattle.std.specs.Prelude.{◌≡◌, ◌+◌, ◌<◌, ◌≤◌, Ok, Err, Some, None, IfOk, IfErr, IsErrOf, OnOk, length};
 ghost use Rattle.std.specs.List.{sum_by};
-ghost use Rattle.chart_model.specs.Answers.{or_fault_as};
 ghost use Rattle.command_codec.specs.Reading.{command_in};
 ghost use Rattle.chart_store.specs.declared.open_fault.OpenFault.TheVariants.{DeskFault};
-ghost use Rattle.chart_store.specs.Images.{in_bank, most_steps_by, most_steps_of};
+ghost use Rattle.chart_store.specs.Images.{most_steps_by, most_steps_of};
 ghost use Rattle.chart_store.specs.Images.{state_after_record, state_after_records};
-ghost use Rattle.chart_store.specs.Loaded.{nothing_held};
 ghost use Rattle.chart_store.specs.Opened.{ForeignHas};
 
 use crate::fault::TakeFault;
@@ -23,13 +21,10 @@ use command_codec::decode_command;
 use std::alloc::Global;
 use std::sync::ledger::Ledger;
 
-/// The place of the first gate behind a header without a checkpoint.
-const FIRST_GATE: u64 = 8;
-
 /// The bytes of a record beside its body: its gate, and the body's length.
 const RECORD: u64 = 5;
 
-/// Carries out the command of one record.
+/// Carries out the command of one record of a bank.
 ///
 /// # Errors
 ///
@@ -37,17 +32,18 @@ const RECORD: u64 = 5;
 fn replay_one<C: Ledger>(
     alloc: Global,
     live: &mut LiveCells,
+    bank: u8,
     gate: u64,
     body: &[u8],
     steps: &mut Steps<C>,
 ) -> Result<(), OpenFault>
     ensures recorded { OnOk result (state_after_record live.old body.now ≡ Some live.new) }
     ensures foreign { IfErr result (ForeignHas (λ place.
-        (place ≡ in_bank gate) × (state_after_record live.old body.now ≡ None))) }
+        (place ≡ record { bank = bank; at = gate }) × (state_after_record live.old body.now ≡ None))) }
     ensures no_desk { ¬ IsErrOf result DeskFault }
     ensures at_most { steps.new ≤ steps.old + most_steps_of live.old (command_in body.now) }
 {
-    let foreign = OpenFault::Foreign(1, gate);
+    let foreign = OpenFault::Foreign(bank, gate);
     let command = decode_command(alloc, body)?.ok_or(foreign)?;
     match live.take_by(alloc, command, Naming::Unnamed, steps) {
         Ok(_) => Ok(()),
@@ -56,28 +52,29 @@ fn replay_one<C: Ledger>(
     }
 }
 
-/// What is held after the commands of these records, the first of which stands behind an empty checkpoint.
+/// Carries out the commands of a bank's records, the first of which has its gate at this place.
 ///
 /// # Errors
 ///
 /// `Foreign` with the place of the first gate whose record holds no command that is accepted; `NoMemory`.
 pub(crate) fn replay<C: Ledger>(
     alloc: Global,
+    mut live: LiveCells,
+    bank: u8,
+    mut gate: u64,
     bodies: &BodyList,
     steps: &mut Steps<C>,
 ) -> Result<LiveCells, OpenFault>
-    requires { 8 + sum_by (λ body. 5 + length body) bodies.now < 9223372036854775808 }
-    ensures state { IfOk result (λ live. state_after_records nothing_held 8 bodies.now ≡ Ok live) }
+    requires { gate + sum_by (λ body. 5 + length body) bodies.now < 9223372036854775808 }
+    ensures state { IfOk result (λ after. state_after_records live gate bodies.now ≡ Ok after) }
     ensures foreign { IfErr result (ForeignHas (λ place.
-        or_fault_as in_bank (state_after_records nothing_held 8 bodies.now) ≡ Err place)) }
+        (place.bank ≡ bank) × (state_after_records live gate bodies.now ≡ Err place.at))) }
     ensures no_desk { ¬ IsErrOf result DeskFault }
-    ensures at_most { steps.new ≤ steps.old + most_steps_by nothing_held bodies.now }
+    ensures at_most { steps.new ≤ steps.old + most_steps_by live bodies.now }
 {
-    let mut live = LiveCells::new(alloc);
-    let mut gate = FIRST_GATE;
     for body in bodies.as_slice() {
         let body = body.as_slice();
-        replay_one(alloc, &mut live, gate, body, steps)?;
+        replay_one(alloc, &mut live, bank, gate, body, steps)?;
         gate += RECORD + body.len() as u64;
     }
     Ok(live)

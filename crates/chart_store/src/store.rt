@@ -3,76 +3,82 @@
 //! A command that is accepted is on the disk when it is answered, and any other leaves what is held as it was. So what
 //! a crash leaves is never behind what was answered, and ahead of it by no more than the command at hand.
 
-ghost use Rattle.std.specs.Prelude.{◌≡◌};
+ghost use Rattle.std.specs.Prelude.{◌≡◌, ◌<◌, true};
+ghost use Rattle.std.specs.Option.{ForSome};
+ghost use Rattle.bank_pair.specs.Handle.{value_of};
 
 use crate::accepted::Accepted;
 use crate::command::next_of;
+use crate::laws::commands_leave_what_is_held;
 use crate::live::LiveCells;
 use crate::next::{Naming, Next};
 use crate::record::record_of;
 use crate::submit_fault::SubmitFault;
-use bank_journal::{AppendFault, Bank};
+use bank_journal::AppendFault;
+use bank_pair::Pair;
 use chart_model::{Command, State};
 use chart_ports::{Desk, Steps};
 use std::alloc::Global;
 use std::sync::ledger::Ledger;
-use update_sequence::sequences_are_held;
 
-/// What is held, and the bank that keeps the commands which left it. The desk is handed in at each call.
+/// What is held, and the pair of banks that keeps it. The desk is handed in at each call.
 #[derive(Debug, Drop)]
 pub struct Store {
-    live: LiveCells,
-    bank: Bank,
+    pub(crate) live: LiveCells,
+    pub(crate) pair: Pair,
     /// How many commands were accepted since it was opened.
-    count: u64,
-    sound: bool,
+    pub(crate) count: u64,
+    pub(crate) sound: bool,
+    ghost left: { sound ≡ true → ForSome (value_of pair).save (λ save. save.written < save.slices) },
 }
 
 impl Store {
     ghost use Rattle.std.specs.Prelude.{◌≡◌, ◌≢◌, ◌↔◌, ◌+◌, ◌<◌, ◌≤◌, List, ℕ, true, false, Err, IfOk, IsTrue, OnOk};
-    ghost use Rattle.std.specs.Prelude.{IfSome, OnErr};
+    ghost use Rattle.std.specs.Prelude.{IfSome, None, OnErr, Some};
     ghost use Rattle.std.specs.FinMap as map;
     ghost use Rattle.bank_journal.specs.Fault.{HasDeskCause};
-    ghost use Rattle.bank_journal.specs.Handle.{place_of};
+    ghost use Rattle.bank_pair.specs.Handle.{value_of};
+    ghost use Rattle.bank_pair.specs.Pair.{with_frame};
     ghost use Rattle.chart_closure.specs.Closed.{IsClosed};
     ghost use Rattle.chart_difference.specs.Difference.{AreChanged};
     ghost use Rattle.chart_model.specs.declared.command.Command.TheVariants.{Load};
     ghost use Rattle.chart_ports.specs.Disk.{LeavesNoMoreOfOthers, SameOthers};
-    ghost use Rattle.chart_ports.specs.Moments.{LeavesOnly, MayBeLeft};
+    ghost use Rattle.chart_ports.specs.Moments.{LeavesOnly, MayBeLeft, images_of};
     ghost use Rattle.chart_ports.specs.declared.images.Images.{Images};
     ghost use Rattle.chart_store.specs.declared.submit_fault.SubmitFault.TheVariants.{DeskFault, NoMemory};
-    ghost use Rattle.chart_store.specs.Images.{StandFor};
+    ghost use Rattle.chart_store.specs.Images.{IsReached, StandFor};
     ghost use Rattle.chart_store.specs.Live.{AreLive, state_or};
     ghost use Rattle.chart_store.specs.Loaded.{come_to};
-    ghost use Rattle.chart_store.specs.Outcome.{accepted, most_steps, record_size};
-    ghost use Rattle.chart_store.specs.Store.{IsKept, StandsForEither, bank_in, count_of};
-    ghost use Rattle.chart_store.specs.Store.{is_sound, room_of, state_of, used_of};
+    ghost use Rattle.chart_store.specs.Outcome.{accepted, most_steps, record_size, room_after};
+    ghost use Rattle.chart_store.specs.Store.{IsKept, StandsForEither, count_of, pair_of};
+    ghost use Rattle.chart_store.specs.Store.{is_sound, room_of, save_of, state_of, store_of};
     ghost use Rattle.chart_store.specs.Submitted.{GivesAccepted};
-    ghost use Rattle.chart_store.specs.Taken.{chart_of};
+    ghost use Rattle.chart_store.specs.Loaded.{chart_of};
 
     /// A store that was just opened.
-    pub(crate) fn opened(live: LiveCells, bank: Bank) -> Store
+    pub(crate) fn opened(live: LiveCells, pair: Pair) -> Store
+        requires { (value_of pair).save ≡ None }
         ensures state { state_of result ≡ live }
-        ensures used { used_of result ≡ place_of bank + 1 }
-        ensures bank { bank_in result ≡ bank }
+        ensures pair { pair_of result ≡ value_of pair }
         ensures count { count_of result ≡ 0 }
         ensures sound { is_sound result ≡ true }
     {
         Store {
             live,
-            bank,
+            pair,
             count: 0,
             sound: true,
         }
     }
 
-    /// What is held: each cell is what its live files leave, and its chart is closed. It takes no memory.
+    /// What is held: each chart is closed, and where accepted commands left it, each cell is what its live files leave. It
+    /// takes no memory.
     pub fn state(&self) -> &State
         ensures state { result.now ≡ state_of self.now }
-        ensures live { AreLive result.now.cells }
+        ensures live { IsReached result.now → AreLive result.now.cells }
         ensures closed { (key : List ℕ) → IfSome (chart_of (map.get result.now.cells key)) IsClosed }
     {
-        sequences_are_held();
+        commands_leave_what_is_held();
         self.live.state()
     }
 
@@ -112,27 +118,37 @@ impl Store {
             (chart_of (map.get (state_of self.new).cells done.key)) done.changed) }
         ensures old { IfOk result (λ done. done.old ≡ chart_of (map.get (state_of self.old).cells done.key)) }
         ensures count { IfOk result (λ done. (done.count ≡ count_of self.old + 1) × (count_of self.new ≡ done.count)) }
-        ensures used { OnOk result (used_of self.new ≡ used_of self.old + record_size command) }
+        // The record takes its room in the current bank, and in the other one while a save is under way.
+        ensures room { OnOk result (room_of self.new ≡ room_after (room_of self.old) (record_size command)) }
+        ensures save { OnOk result (IfSome (save_of self.old) (λ save. (frame : List ℕ) ×
+            (save_of self.new ≡ Some (with_frame frame save)))) }
 
         // A refusal and want of memory change nothing; a fault of the desk leaves what is held, and ends the store.
-        ensures unchanged { result ≢ Err DeskFault → OnErr result ((self.new ≡ self.old) × (desk.new ≡ desk.old)) }
+        ensures unchanged { result ≢ Err DeskFault →
+            OnErr result ((store_of self.new ≡ store_of self.old) × (desk.new ≡ desk.old)) }
         ensures held { OnErr result ((state_of self.new ≡ state_of self.old)
             × (count_of self.new ≡ count_of self.old)) }
         ensures sound { (is_sound self.new ≡ false) ↔ (result ≡ Err DeskFault) }
 
-        // When it returns, whatever a crash leaves stands for what is held.
         ensures kept { IsTrue D.tells → result ≢ Err DeskFault →
             IsKept (D.contents desk.new) (D.may_leave desk.new) self.new }
-        ensures stands { IsTrue D.tells → result ≢ Err DeskFault → (images : Images) →
+        // When it returns, whatever a crash leaves stands for what is held, where what a read gave before did.
+        ensures stands { IsTrue D.tells → StandFor (images_of (D.contents desk.old)) (state_of self.old) →
+            result ≢ Err DeskFault → (images : Images) →
             MayBeLeft (D.may_leave desk.new) images → StandFor images (state_of self.new) }
+        // So does what a read gives then.
+        ensures stood { IsTrue D.tells → StandFor (images_of (D.contents desk.old)) (state_of self.old) →
+            result ≢ Err DeskFault → StandFor (images_of (D.contents desk.new)) (state_of self.new) }
         // A crash at any moment of it leaves what stands for what was held, or for what the accepted command leaves.
-        ensures moments { IsTrue D.tells → LeavesOnly D.clock D.might desk.old desk.new
-            (StandsForEither (D.said desk.old) (state_of self.old)
+        ensures moments { IsTrue D.tells → StandFor (images_of (D.contents desk.old)) (state_of self.old) →
+            LeavesOnly D.clock D.might desk.old desk.new (StandsForEither (D.said desk.old) (state_of self.old)
             (state_or (state_of self.old) (accepted (state_of self.old) (room_of self.old) command))) }
 
-        // It leaves the other files and what is said.
-        ensures others { IsTrue D.tells → SameOthers 1 (D.contents desk.old) (D.contents desk.new) }
-        ensures crash_others { IsTrue D.tells → LeavesNoMoreOfOthers 1 (D.may_leave desk.old) (D.may_leave desk.new) }
+        // It leaves the head, the other bank and what is said.
+        ensures others { IsTrue D.tells →
+            SameOthers (pair_of self.old).file (D.contents desk.old) (D.contents desk.new) }
+        ensures crash_others { IsTrue D.tells →
+            LeavesNoMoreOfOthers (pair_of self.old).file (D.may_leave desk.old) (D.may_leave desk.new) }
         ensures said { IsTrue D.tells → D.said desk.new ≡ D.said desk.old }
 
         ensures cause { HasDeskCause DeskFault (D.faults desk.old) (D.faults desk.new) result }
@@ -148,8 +164,9 @@ impl Store {
             bytes,
             changed,
         } = next_of(alloc, &self.live, command, Naming::Named, steps)?;
+        self.pair.reserve()?;
         let prepared = self.live.prepare(key, holding, bytes)?;
-        if let Err(fault) = self.bank.append(desk, &framed) {
+        if let Err(fault) = self.pair.append(desk, framed) {
             self.live.withdraw(prepared);
             self.sound = fault != AppendFault::DeskFault;
             return Err(SubmitFault::from(fault));

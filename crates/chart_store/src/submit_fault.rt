@@ -9,6 +9,8 @@ ghost use Rattle.chart_store.specs.declared.submit_fault.SubmitFault.TheVariants
 use crate::fault::TakeFault;
 use crate::refusal::Refusal;
 use bank_journal::AppendFault;
+use bank_pair::SaveFault;
+use chart_ports::Failed;
 use std::alloc::AllocError;
 use thiserror::Error;
 
@@ -73,5 +75,28 @@ impl From<AppendFault> for SubmitFault {
                 SubmitFault::Refused(Refusal::BankFull { length, need })
             }
         }
+    }
+}
+
+impl From<Failed> for SubmitFault {
+    ghost use Rattle.std.specs.Prelude.{◌≡◌};
+    ghost use Rattle.chart_store.specs.declared.submit_fault.SubmitFault.TheVariants.{DeskFault};
+
+    ghost from_gives = { λ _ e. e ≡ DeskFault };
+
+    fn from(_: Failed) -> SubmitFault {
+        SubmitFault::DeskFault
+    }
+}
+
+impl From<SaveFault> for SubmitFault {
+    ghost use Rattle.std.specs.Prelude.{◌≡◌};
+    ghost use Rattle.chart_store.specs.Submitted.{fault_of_saving};
+
+    ghost from_gives = { λ fault e. e ≡ fault_of_saving fault };
+
+    fn from(fault: SaveFault) -> SubmitFault {
+        let SaveFault::Full { need } = fault;
+        SubmitFault::Refused(Refusal::BankFull { length: 0, need })
     }
 }

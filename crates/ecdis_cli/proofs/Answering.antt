@@ -6,7 +6,8 @@ use Rattle.std.proofs.lemmas.List.{append-nil}
 use Rattle.std.proofs.lemmas.List.Elements.{All-nil, All-cons}
 use Rattle.chart_model.specs.State.{StateValue}
 use Rattle.chart_model.specs.declared.command.Command.{Command}
-use Rattle.chart_ports.specs.Moments.{Elapses, LeavesOnly, MayBeLeft}
+use Rattle.chart_ports.specs.Disk.{SameFiles}
+use Rattle.chart_ports.specs.Moments.{Elapses, LeavesOnly, MayBeLeft, images_of}
 use Rattle.chart_ports.specs.Said.{SaysFront}
 use Rattle.chart_ports.specs.declared.images.Images.{Images}
 use Rattle.chart_ports.proofs.Moments.{started, goes_on, and_then, weaker}
@@ -35,14 +36,14 @@ use Rattle.ecdis_cli.proofs.Counting.{counted-one, counted-turn, counted-within}
 use Rattle.ecdis_cli.proofs.Crashes.{prefix-saying, prefix-turn}
 use Rattle.ecdis_cli.proofs.Failures.{TellsFailure, failed-one}
 use Rattle.ecdis_cli.proofs.Lists.{after-none, after-one}
-use Rattle.ecdis_cli.proofs.Taking.{front-none}
+use Rattle.ecdis_cli.proofs.Taking.{Where, front-none}
 
 -- ---- what holds of a step
 
--- a turn without a command leaves all as it was
+-- a turn without a command leaves what is held as it was
 abbrev pub Rests : Type 0
 Rests = (fetches : Fetches) (model : Model) (event : Event) → (turn_of fetches model event).command ≡ None
-    → (turn_of fetches model event).model ≡ model
+    → (turn_of fetches model event).model.state ≡ model.state
 
 -- a turn with one leaves what it leaves
 abbrev pub Follows : Type 0
@@ -54,7 +55,7 @@ Speaks = (reply : Reply) → 0 < length (bytes_of_reply reply)
 
 turn-held : Rests → Follows → (fetches : Fetches) (model : Model) (event : Event) (command : Option Command) → (turn_of fetches model event).command ≡ command
     → (turn_of fetches model event).model.state ≡ after model.state (commands_of command ++ [])
-turn-held rests follows fetches model event None e = ap (λ (m : Model). m.state) (rests fetches model event e) ∙ sym (after-none model.state)
+turn-held rests follows fetches model event None e = rests fetches model event e ∙ sym (after-none model.state)
 turn-held rests follows fetches model event (Some command) e =
     ap (λ (m : Model). m.state) (follows fetches model event command e) ∙ sym (after-one model.state command)
 
@@ -103,7 +104,7 @@ Taken-one rests follows speaks law tells files Leaves before faults count fetche
 output-replied : (step : Step) (reply : Reply) → step.reply ≡ Some reply → output_of (step ∷ []) ≡ bytes_of_reply reply
 output-replied step reply is = append-nil (said_in step) ∙ ap said_of is
 
-module _ {D : Type 0} (clock : D → ℕ) (might : D → ℕ → Images → List ℕ → Type 0)
+module _ {D : Type 0} (clock : D → ℕ) (might : D → ℕ → Images → List ℕ → Type 0) (Stood : Type 0)
     (rests : Rests) (follows : Follows) (speaks : Speaks) (law : TellsFailure)
     (tells : Bool) (files : Files) (before : Standing) (faults count : ℕ) (later : before.faults ≤ faults) where
   -- the moments of a turn
@@ -121,11 +122,11 @@ module _ {D : Type 0} (clock : D → ℕ) (might : D → ℕ → Images → List
       → AreFetched tells files before.faults faults fetches
       → TakesAtMost (step_at fetches before).most before.model.state (step_at fetches before).model.state
       before.count count
-      → LeavesOnly clock might d0 d1 (LeavesPrefix before.model.state (step_at fetches before ∷ []) before.said)
-      → StepsAreTaken tells files (LeavesOnly clock might d0 d1) before now.faults now.count (fetches ∷ [])
+      → Where Stood (LeavesOnly clock might d0 d1) (LeavesPrefix before.model.state (step_at fetches before ∷ []) before.said)
+      → StepsAreTaken tells files (Where Stood (LeavesOnly clock might d0 d1)) before now.faults now.count (fetches ∷ [])
       (step_at fetches before ∷ [])
   taken-step d0 d1 now fetches failed stepped answers counted crash =
-      let Leaves = LeavesOnly clock might d0 d1 in
+      let Leaves = Where Stood (LeavesOnly clock might d0 d1) in
       let steps : List Step = step_at fetches before ∷ [] in
       subst (λ (n : ℕ). StepsAreTaken tells files Leaves before n now.count (fetches ∷ []) steps) (sym failed)
       (subst (λ (n : ℕ). StepsAreTaken tells files Leaves before faults n (fetches ∷ []) steps) (sym stepped)
@@ -135,14 +136,14 @@ module _ {D : Type 0} (clock : D → ℕ) (might : D → ℕ → Images → List
   pub answered-silent : (IsGiven : Step → Type 0) (d0 d1 : D) (now : Standing) → now.faults ≡ faults → now.count ≡ count
       → now.said ≡ before.said
       → ((step : Step) → IsGiven step → (step.reply ≡ None) × (step.model ≡ now.model))
-      → ReplyIsFound tells files (LeavesOnly clock might d0 d1) before faults count IsGiven
-      → LineIsAnswered tells files (LeavesOnly clock might d0 d1) before now
+      → ReplyIsFound tells files (Where Stood (LeavesOnly clock might d0 d1)) before faults count IsGiven
+      → LineIsAnswered tells files (Where Stood (LeavesOnly clock might d0 d1)) before now
   answered-silent IsGiven d0 d1 now failed stepped silent gives x =
       let step : Step = step_at x.fetches before in
       let given : (step.reply ≡ None) × (step.model ≡ now.model) = gives step x.gives in
       record {
         fetches = x.fetches;
-        taken = taken-step d0 d1 now x.fetches failed stepped x.answers x.counted (turn-crash d0 d1 x.fetches x.leaves);
+        taken = taken-step d0 d1 now x.fetches failed stepped x.answers x.counted (λ stood. turn-crash d0 d1 x.fetches (x.leaves stood));
         after = record {
           said = silent ∙ sym (append-nil before.said) ∙ ap (λ (o : Option Reply). before.said ++ (said_of o ++ [])) (sym given.0);
           reached = sym given.1;
@@ -153,13 +154,13 @@ module _ {D : Type 0} (clock : D → ℕ) (might : D → ℕ → Images → List
   pub interrupted-before : (IsGiven : Step → Type 0) (d0 d1 : D) (now : Standing) → now.faults ≡ faults
       → now.count ≡ count
       → now.said ≡ before.said
-      → ReplyIsFound tells files (LeavesOnly clock might d0 d1) before faults count IsGiven
-      → ReplyIsInterrupted tells files (LeavesOnly clock might d0 d1) before now
+      → ReplyIsFound tells files (Where Stood (LeavesOnly clock might d0 d1)) before faults count IsGiven
+      → ReplyIsInterrupted tells files (Where Stood (LeavesOnly clock might d0 d1)) before now
   interrupted-before IsGiven d0 d1 now failed stepped silent x =
       let step : Step = step_at x.fetches before in
       record {
         fetches = x.fetches;
-        taken = taken-step d0 d1 now x.fetches failed stepped x.answers x.counted (turn-crash d0 d1 x.fetches x.leaves);
+        taken = taken-step d0 d1 now x.fetches failed stepped x.answers x.counted (λ stood. turn-crash d0 d1 x.fetches (x.leaves stood));
         front = front-none before.said (output_of (step ∷ [])) now.said silent;
       }
 
@@ -184,25 +185,25 @@ module _ {D : Type 0} (clock : D → ℕ) (might : D → ℕ → Images → List
   taken-said : (IsGiven : Step → Type 0) (d0 d1 d2 : D) (may_leave : ℕ → List ℕ → Type 0) (reply : Reply) (middle : List ℕ) (now : Standing)
       → now.faults ≡ faults → now.count ≡ count → middle ≡ before.said
       → ((step : Step) → IsGiven step → (step.reply ≡ Some reply) × (step.model ≡ now.model))
-      → ((images : Images) → MayBeLeft may_leave images → StandFor images now.model.state)
-      → (x : ReplyIsFound tells files (LeavesOnly clock might d0 d1) before faults count IsGiven)
+      → (Stood → (images : Images) → MayBeLeft may_leave images → StandFor images now.model.state)
+      → (x : ReplyIsFound tells files (Where Stood (LeavesOnly clock might d0 d1)) before faults count IsGiven)
       → LeavesOnly clock might d1 d2 (LeavesSaying may_leave middle (bytes_of_reply reply))
-      → StepsAreTaken tells files (LeavesOnly clock might d0 d2) before now.faults now.count (x.fetches ∷ [])
+      → StepsAreTaken tells files (Where Stood (LeavesOnly clock might d0 d2)) before now.faults now.count (x.fetches ∷ [])
       (step_at x.fetches before ∷ [])
   taken-said IsGiven d0 d1 d2 may_leave reply middle now failed stepped silent gives stands x then_said =
       let step : Step = step_at x.fetches before in
       let given : (step.reply ≡ Some reply) × (step.model ≡ now.model) = gives step x.gives in
       taken-step d0 d2 now x.fetches failed stepped x.answers x.counted
-      (said-crash d0 d1 d2 may_leave x.fetches now.model reply middle silent given.0 given.1 stands x.leaves then_said)
+      (λ stood. said-crash d0 d1 d2 may_leave x.fetches now.model reply middle silent given.0 given.1 (stands stood) (x.leaves stood) then_said)
 
   -- the reply was said
   pub answered-said : (IsGiven : Step → Type 0) (d0 d1 d2 : D) (may_leave : ℕ → List ℕ → Type 0) (reply : Reply) (middle : List ℕ) (now : Standing)
       → now.faults ≡ faults → now.count ≡ count → middle ≡ before.said → now.said ≡ middle ++ bytes_of_reply reply
       → ((step : Step) → IsGiven step → (step.reply ≡ Some reply) × (step.model ≡ now.model))
-      → ((images : Images) → MayBeLeft may_leave images → StandFor images now.model.state)
-      → ReplyIsFound tells files (LeavesOnly clock might d0 d1) before faults count IsGiven
+      → (Stood → (images : Images) → MayBeLeft may_leave images → StandFor images now.model.state)
+      → ReplyIsFound tells files (Where Stood (LeavesOnly clock might d0 d1)) before faults count IsGiven
       → LeavesOnly clock might d1 d2 (LeavesSaying may_leave middle (bytes_of_reply reply))
-      → LineIsAnswered tells files (LeavesOnly clock might d0 d2) before now
+      → LineIsAnswered tells files (Where Stood (LeavesOnly clock might d0 d2)) before now
   answered-said IsGiven d0 d1 d2 may_leave reply middle now failed stepped silent said gives stands x then_said =
       let step : Step = step_at x.fetches before in
       let given = gives step x.gives in
@@ -220,10 +221,10 @@ module _ {D : Type 0} (clock : D → ℕ) (might : D → ℕ → Images → List
       → now.faults ≡ faults → now.count ≡ count → middle ≡ before.said
       → SaysFront middle (bytes_of_reply reply) now.said
       → ((step : Step) → IsGiven step → (step.reply ≡ Some reply) × (step.model ≡ now.model))
-      → ((images : Images) → MayBeLeft may_leave images → StandFor images now.model.state)
-      → ReplyIsFound tells files (LeavesOnly clock might d0 d1) before faults count IsGiven
+      → (Stood → (images : Images) → MayBeLeft may_leave images → StandFor images now.model.state)
+      → ReplyIsFound tells files (Where Stood (LeavesOnly clock might d0 d1)) before faults count IsGiven
       → LeavesOnly clock might d1 d2 (LeavesSaying may_leave middle (bytes_of_reply reply))
-      → ReplyIsInterrupted tells files (LeavesOnly clock might d0 d2) before now
+      → ReplyIsInterrupted tells files (Where Stood (LeavesOnly clock might d0 d2)) before now
   interrupted-said IsGiven d0 d1 d2 may_leave reply middle now failed stepped silent front gives stands x then_said =
       record {
         fetches = x.fetches;
@@ -255,11 +256,11 @@ module _ {D : Type 0} (clock : D → ℕ) (might : D → ℕ → Images → List
       (λ images so_far left front. record { left = left; front = front })
 
   -- the same moments under a premise that holds
-  pub Replied-told : (T : Type 0) → T → (tells : Bool) (files : Files) (before : Standing) (faults count : ℕ)
+  pub Replied-told : (T Stood : Type 0) → T → (tells : Bool) (files : Files) (before : Standing) (faults count : ℕ)
       (IsGiven : Step → Type 0) (d0 d1 : D)
-      → ReplyIsFound tells files (λ P. T → LeavesOnly clock might d0 d1 P) before faults count IsGiven
-      → ReplyIsFound tells files (LeavesOnly clock might d0 d1) before faults count IsGiven
-  Replied-told T t tells files before faults count IsGiven d0 d1 x =
+      → ReplyIsFound tells files (λ P. T → Where Stood (LeavesOnly clock might d0 d1) P) before faults count IsGiven
+      → ReplyIsFound tells files (Where Stood (LeavesOnly clock might d0 d1)) before faults count IsGiven
+  Replied-told T Stood t tells files before faults count IsGiven d0 d1 x =
       record { fetches = x.fetches; answers = x.answers; gives = x.gives; counted = x.counted; leaves = x.leaves t }
 
   -- the files stand for what is held before and after, and nothing is called
@@ -271,6 +272,12 @@ module _ {D : Type 0} (clock : D → ℕ) (might : D → ℕ → Images → List
       started clock might desk (StandsForEither said state left)
       (λ images so_far here. let now = only_now images so_far here in record { silent = now.1; stands = inl (stands images now.0) })
 
+-- files that are read as before stand for the same
+pub same-stands : (old new : ℕ → List ℕ) (state : StateValue) → SameFiles old new → StandFor (images_of old) state → StandFor (images_of new) state
+same-stands old new state same stood =
+    subst (λ (images : Images). StandFor images state)
+    (λ i. record { head = sym (same 0) i; bank1 = sym (same 1) i; bank2 = sym (same 2) i }) stood
+
 -- ---- a line's step
 
 -- no step is given where there is no reply
@@ -279,20 +286,20 @@ gives-stopped (Ok reply) now step e = absurd (let f : false ≡ true = e in cc)
 gives-stopped (Err stop) now step e = tt
 
 -- the desk isn't called
-pub Replied-quiet : {D : Type 0} (clock : D → ℕ) (might : D → ℕ → Images → List ℕ → Type 0) (T : Type 0) (tells : Bool) (files : Files) (desk : D)
+pub Replied-quiet : {D : Type 0} (clock : D → ℕ) (might : D → ℕ → Images → List ℕ → Type 0) (T Stood : Type 0) (tells : Bool) (files : Files) (desk : D)
     (may_leave : ℕ → List ℕ → Type 0) (before : Standing) (IsGiven : Step → Type 0)
     → (T → (images : Images) (so_far : List ℕ) → might desk (clock desk) images so_far → MayBeLeft may_leave images × (so_far ≡ before.said))
-    → (T → (images : Images) → MayBeLeft may_leave images → StandFor images before.model.state)
+    → (T → Stood → (images : Images) → MayBeLeft may_leave images → StandFor images before.model.state)
     → IsGiven (step_at (fetches_of files false) before)
-    → ReplyIsFound tells files (λ P. T → LeavesOnly clock might desk desk P) before before.faults before.count IsGiven
-Replied-quiet clock might T tells files desk may_leave before IsGiven only_now stands gives = record {
+    → ReplyIsFound tells files (λ P. T → Where Stood (LeavesOnly clock might desk desk) P) before before.faults before.count IsGiven
+Replied-quiet clock might T Stood tells files desk may_leave before IsGiven only_now stands gives = record {
   fetches = fetches_of files false;
   answers = record { told = λ t. (false, refl); cause = λ limit name e. cc };
   gives = gives;
   counted = counted-within (step_at (fetches_of files false) before).most before.model.state
       (step_at (fetches_of files false) before).model.state before.count before.count (omega arith);
-  leaves = λ t. leaves-none clock might desk may_leave before.said before.model.state
-      (step_at (fetches_of files false) before).model.state (only_now t) (stands t);
+  leaves = λ t stood. leaves-none clock might desk may_leave before.said before.model.state
+      (step_at (fetches_of files false) before).model.state (only_now t) (stands t stood);
 }
 
 -- a turn is taken

@@ -10,7 +10,7 @@ use Rattle.script_reader.specs.Reading.{event_in}
 use Rattle.script_reader.specs.declared.event.Event.{Event}
 use Rattle.script_reader.specs.declared.fault.LineFault.{LineFault}
 use Rattle.script_reader.specs.declared.reply.Reply.{Reply}
-use Rattle.script_reader.specs.declared.reply.Reply.TheVariants.{Info, Load, Cancel, Rollback, Drop, Cells, Draw, Route, Make, Reissue, Refused}
+use Rattle.script_reader.specs.declared.reply.Reply.TheVariants.{Info, Load, Cancel, Rollback, Drop, Cells, Draw, Route, Save, SaveStep, Saved, Make, Reissue, Refused}
 use Rattle.session_core.specs.Fetch.{Fetches}
 use Rattle.session_core.specs.Model.{Model}
 use Rattle.session_core.specs.Turn.{turn_of}
@@ -37,6 +37,9 @@ told-failure (Drop key) h = absurd (let e : false ≡ true = h in cc)
 told-failure (Cells count lines) h = absurd (let e : false ≡ true = h in cc)
 told-failure (Draw key count lines) h = absurd (let e : false ≡ true = h in cc)
 told-failure (Route legs count lines) h = absurd (let e : false ≡ true = h in cc)
+told-failure (Save slices) h = absurd (let e : false ≡ true = h in cc)
+told-failure (SaveStep done slices) h = absurd (let e : false ≡ true = h in cc)
+told-failure Saved h = absurd (let e : false ≡ true = h in cc)
 told-failure (Make key edition update records) h = absurd (let e : false ≡ true = h in cc)
 told-failure (Reissue key edition update) h = absurd (let e : false ≡ true = h in cc)
 

@@ -1,23 +1,23 @@
 -- The run over a store that was opened, or that wasn't.
 use Rattle.std.proofs.Common.{◌≡◌, ℕ, ◌+◌, ◌<◌, ◌≤◌, ◌⊎◌, Bool, true, false, List, [], length, refl, sym, ◌∙◌, ap}
 use Rattle.std.proofs.Common.{subst, arith, inl, inr, ⊎_elim}
-use Rattle.std.specs.Prelude.{IsTrue, Option, Some, None, Result, Ok, Err}
+use Rattle.std.specs.Prelude.{IsTrue, Option, Some, None, option_map, Result, Ok, Err}
 use Rattle.std.specs.Str.Lines.{lines}
 use Rattle.std.proofs.lemmas.List.{append-nil, length-replicate}
-use Rattle.chart_model.specs.Answers.{or_fault_as}
 use Rattle.chart_model.specs.State.{StateValue}
 use Rattle.chart_ports.specs.Count.{IsSteady, Rose, RoseBy}
 use Rattle.chart_ports.specs.Moments.{LeavesOnly, MayBeLeft, images_of}
 use Rattle.chart_ports.specs.declared.images.Images.{Images}
 use Rattle.chart_ports.proofs.Moments.{and_then, started, weaker}
-use Rattle.chart_store.specs.Images.{Place, Reading, StandFor, in_bank, read_of}
+use Rattle.chart_store.specs.Images.{Place, Reading, StandFor}
 use Rattle.chart_store.specs.Opened.{ForeignHas}
-use Rattle.chart_store.specs.Store.{LeavesBefore, LeavesReading, room_of, state_of}
+use Rattle.bank_pair.specs.Saving.{SaveValue, gate_of_save}
+use Rattle.chart_store.specs.Store.{LeavesBefore, LeavesReading, SaysAs, save_of, state_of, used_of}
 use Rattle.chart_store.specs.declared.store.Store.{Store}
 use Rattle.session_core.specs.Fetch.{Files, fetches_of}
 use Rattle.session_core.specs.Kept.{feature_count}
 use Rattle.session_core.specs.Model.{Model, Portrayal}
-use Rattle.session_core.specs.Session.{model_of, portrayal_of, store_of}
+use Rattle.session_core.specs.Session.{model_of, portrayal_of, progress_of, store_of}
 use Rattle.session_core.specs.declared.session.Session.{Session}
 use Rattle.chart_store.specs.declared.open_fault.OpenFault.{OpenFault}
 use Rattle.chart_store.specs.declared.open_fault.OpenFault.TheVariants as of_opening
@@ -39,11 +39,7 @@ use Rattle.ecdis_cli.proofs.Failures.{TellsFailure}
 use Rattle.ecdis_cli.proofs.Runs.{Covers, IsOther, covers-none, other-says, padding, padding-told}
 use Rattle.ecdis_cli.proofs.Taking.{answers-same, front-none, rose-none, upto-whole}
 
--- files that read stand for what they read as
-abbrev pub ReadStands : Type 0
-ReadStands = (images : Images) (state : StateValue) (used : ℕ) → read_of images ≡ Ok (record { state = state; used = used }) → StandFor images state
-
-ok-same : (a b : Reading) → ◌≡◌ {A = Result Reading Place} (Ok a) (Ok b) → a ≡ b
+pub ok-same : (a b : Reading) → ◌≡◌ {A = Result Reading Place} (Ok a) (Ok b) → a ≡ b
 ok-same a b e = cc
 
 err-same : (a b : Place) → ◌≡◌ {A = Result Reading Place} (Err a) (Err b) → a ≡ b
@@ -81,14 +77,8 @@ or_early ended bank at (inr (inr e)) = inr (inr (inl e))
 -- what is read at the opening, as the model of what was opened
 pub opened-model : (portrayal : Portrayal) (found : Result Reading Place) (opening : Reading) (state : StateValue) (used : ℕ) → found ≡ Ok opening
     → found ≡ Ok (record { state = state; used = used })
-    → record { state = state; room = record { used = used; other = None }; portrayal = portrayal } ≡ model_at portrayal opening
+    → record { state = state; room = record { used = used; other = None }; save = None; portrayal = portrayal } ≡ model_at portrayal opening
 opened-model portrayal found opening state used e f = ap (model_at portrayal) (ok-same (record { state = state; used = used }) opening (sym f ∙ e))
-
--- where the head is empty the bank tells its fault as its own place
-pub bank-within : {A : Type 0} (most : Result A ℕ → ℕ) (bank : Result A ℕ) (a b : ℕ) → b ≤ a + most bank
-    → b ≤ a + most (or_fault_as (λ (place : Place). place.at) (or_fault_as in_bank bank))
-bank-within most (Ok content) a b h = h
-bank-within most (Err at) a b h = h
 
 -- an opening that fails counts no more than its bank has
 pub unopened-within : (bank features a b : ℕ) → b ≤ a + bank → b ≤ a + (bank + features)
@@ -105,13 +95,23 @@ opened-within found opening state used bank a b c e f h k =
     (ok-same (record { state = state; used = used }) opening (sym f ∙ e)) in
     subst (λ (n : ℕ). c ≤ a + (bank + n)) same (omega (arith, h, k))
 
--- the model of a session over a store
+-- the model of a session over a store with no save under way
 pub session-model : (session : Session) (store : Store) (portrayal : Portrayal) → store_of session ≡ store
-    → portrayal_of session ≡ portrayal
-    → model_of session ≡ record { state = state_of store; room = room_of store; portrayal = portrayal }
-session-model session store portrayal same drawn =
-    ap (λ (s : Store). record { state = state_of s; room = room_of s; portrayal = portrayal_of session }) same
-    ∙ ap (λ (p : Portrayal). record { state = state_of store; room = room_of store; portrayal = p }) drawn
+    → portrayal_of session ≡ portrayal → save_of store ≡ None
+    → model_of session
+    ≡ record { state = state_of store; room = record { used = used_of store; other = None }; save = None; portrayal = portrayal }
+session-model session store portrayal same drawn idle =
+    ap (λ (s : Store). model_by s (save_of s) (portrayal_of session)) same
+    ∙ ap (λ (p : Portrayal). model_by store (save_of store) p) drawn
+    ∙ ap (λ (s : Option SaveValue). model_by store s portrayal) idle
+  where
+    model_by : Store → Option SaveValue → Portrayal → Model
+    model_by store save portrayal = record {
+      state = state_of store;
+      room = record { used = used_of store; other = option_map (λ (s : SaveValue). gate_of_save s + 1) save };
+      save = option_map progress_of save;
+      portrayal = portrayal;
+    }
 
 -- what a run says is the same, however often the shelf had failed before it, and whatever the count was
 says-later : (status : Status) (steps : List ℕ → List Step) (left said : List ℕ) (faults faults' count count' : ℕ)
@@ -137,26 +137,27 @@ counted-later model steps left said faults faults' count count' now within x = r
   counted = counted-from model x.taken count count' now.count within x.counted;
 }
 
-module _ {D : Type 0} (clock : D → ℕ) (might : D → ℕ → Images → List ℕ → Type 0) (reads : ReadStands)
-    (contents : ℕ → List ℕ) (may_leave : ℕ → List ℕ → Type 0) (said : List ℕ) (portrayal : Portrayal) (opening : Reading)
-    (read : read_of (images_of contents) ≡ Ok opening) where
+module _ {D : Type 0} (clock : D → ℕ) (might : D → ℕ → Images → List ℕ → Type 0)
+    (contents : ℕ → List ℕ) (may_leave : ℕ → List ℕ → Type 0) (said : List ℕ) (portrayal : Portrayal) (opening : Reading) where
   -- the moments of an opening
-  opening-crash : (d0 d1 : D) (steps : List Step) → LeavesOnly clock might d0 d1 (LeavesReading contents may_leave said)
+  opening-crash : (d0 d1 : D) (steps : List Step) → StandFor (images_of contents) opening.state
+      → LeavesOnly clock might d0 d1 (LeavesReading contents may_leave said)
       → LeavesOnly clock might d0 d1 (λ images so_far. LeavesBefore may_leave said images so_far ⊎ LeavesPrefix opening.state steps said images so_far)
-  opening-crash d0 d1 steps run =
+  opening-crash d0 d1 steps stood run =
       weaker clock might d0 d1 (LeavesReading contents may_leave said)
       (λ images so_far. LeavesBefore may_leave said images so_far ⊎ LeavesPrefix opening.state steps said images so_far)
       (λ images so_far x. ⊎_elim
       (λ (left : MayBeLeft may_leave images). inl (record { silent = x.silent; left = left }))
-      (λ (same : read_of images ≡ read_of (images_of contents)). inr (prefix-extended opening.state [] steps said so_far images
-      (prefix-none opening.state said so_far images x.silent (reads images opening.state opening.used (same ∙ read))))) x.either) run
+      (λ (same : SaysAs images (images_of contents)). inr (prefix-extended opening.state [] steps said so_far images
+      (prefix-none opening.state said so_far images x.silent (same.stands opening.state stood)))) x.either) run
 
   -- a run that ends there
   pub ran-unopened : TellsFailure → (tells : Bool) (files : Files) (d0 d1 : D) (status : Status)
       (Left : Images → Type 0) (left said' : List ℕ) (faults faults' count count' : ℕ)
       → IsOther status → said' ≡ said → faults ≤ faults' → count' ≤ count
       → LeavesOnly clock might d0 d1 (LeavesReading contents may_leave said)
-      → Ran tells files (model_at portrayal opening) status (LeavesOnly clock might d0 d1) (LeavesBefore may_leave said) Left
+      → Ran tells files (model_at portrayal opening) status (StandFor (images_of contents) opening.state)
+      (LeavesOnly clock might d0 d1) (LeavesBefore may_leave said) Left
       (outside_of left said faults count) (outside_of left said' faults' count')
   ran-unopened law tells files d0 d1 status Left left said' faults faults' count count' other silent later within run =
       let before : Outside = outside_of left said faults count in
@@ -175,25 +176,26 @@ module _ {D : Type 0} (clock : D → ℕ) (might : D → ℕ → Images → List
           said = upto-whole said [] said' (silent ∙ sym (append-nil said));
           counted = within;
         };
-        crash = opening-crash d0 d1 (steps_of (model_at portrayal opening) left (padding files left)) run;
+        crash = λ stood. opening-crash d0 d1 (steps_of (model_at portrayal opening) left (padding files left)) stood run;
         end = λ e. absurd (other.not_done e);
+        stands = λ stood e. absurd (other.not_done e);
       }
 
   -- a run of the script behind it
-  pub ran-opened : (tells : Bool) (files : Files) (d0 d1 d2 : D) (status : Status) (Left : Images → Type 0)
+  pub ran-opened : (Then : Type 0) → (StandFor (images_of contents) opening.state → Then) → (tells : Bool) (files : Files) (d0 d1 d2 : D) (status : Status) (Left : Images → Type 0)
       (left said' : List ℕ) (faults count count' : ℕ) (now : Outside) (model : Model)
       → said' ≡ said → model ≡ model_at portrayal opening → count' ≤ count
       → LeavesOnly clock might d0 d1 (LeavesReading contents may_leave said)
-      → Ran tells files model status (LeavesOnly clock might d1 d2) (λ images so_far. ⊥) Left
+      → Ran tells files model status Then (LeavesOnly clock might d1 d2) (λ images so_far. ⊥) Left
       (outside_of left said' faults count') now
-      → Ran tells files (model_at portrayal opening) status (LeavesOnly clock might d0 d2)
+      → Ran tells files (model_at portrayal opening) status (StandFor (images_of contents) opening.state) (LeavesOnly clock might d0 d2)
       (LeavesBefore may_leave said) Left (outside_of left said faults count) now
-  ran-opened tells files d0 d1 d2 status Left left said' faults count count' now model silent is within run ran =
-      let x : Ran tells files (model_at portrayal opening) status (LeavesOnly clock might d1 d2)
+  ran-opened Then on tells files d0 d1 d2 status Left left said' faults count count' now model silent is within run ran =
+      let x : Ran tells files (model_at portrayal opening) status Then (LeavesOnly clock might d1 d2)
       (λ images so_far. ⊥) Left (outside_of left said faults count') now
-      = subst (λ (m : Model). Ran tells files m status (LeavesOnly clock might d1 d2) (λ images so_far. ⊥) Left
+      = subst (λ (m : Model). Ran tells files m status Then (LeavesOnly clock might d1 d2) (λ images so_far. ⊥) Left
       (outside_of left said faults count') now) is
-      (subst (λ (l : List ℕ). Ran tells files model status (LeavesOnly clock might d1 d2) (λ images so_far. ⊥) Left
+      (subst (λ (l : List ℕ). Ran tells files model status Then (LeavesOnly clock might d1 d2) (λ images so_far. ⊥) Left
       (outside_of left l faults count') now) silent ran) in
       let steps : List Step = steps_of (model_at portrayal opening) left x.answers in
       let P : Images → List ℕ → Type 0 = λ images so_far. LeavesBefore may_leave said images so_far ⊎ LeavesPrefix opening.state steps said images so_far in
@@ -206,10 +208,11 @@ module _ {D : Type 0} (clock : D → ℕ) (might : D → ℕ → Images → List
         failed = x.failed;
         counted = counted-later (model_at portrayal opening) steps left said faults faults count count' now within
             x.counted;
-        crash = and_then clock might d0 d1 d2 P (opening-crash d0 d1 steps run)
+        crash = λ stood. and_then clock might d0 d1 d2 P (opening-crash d0 d1 steps stood run)
             (weaker clock might d1 d2 (λ images so_far. ⊥ ⊎ LeavesPrefix opening.state steps said images so_far) P
-            (λ images so_far y. ⊎_elim (λ none. absurd none) (λ left. inr left) y) x.crash);
+            (λ images so_far y. ⊎_elim (λ none. absurd none) (λ left. inr left) y) (x.crash (on stood)));
         end = x.end;
+        stands = λ stood. x.stands (on stood);
       }
 
 -- the desk isn't called
@@ -226,12 +229,12 @@ rose-later much a b c h (inl x) = inl (omega arith)
 rose-later much a b c h (inr x) = inr x
 
 -- a run behind fetches that were made before
-pub ran-later : (tells : Bool) (files files' : Files) (model : Model) (status : Status) (Leaves : Moments) (LeavesElse : Images → List ℕ → Type 0)
+pub ran-later : (tells : Bool) (files files' : Files) (model : Model) (status : Status) (Stood : Type 0) (Leaves : Moments) (LeavesElse : Images → List ℕ → Type 0)
     (Left : Images → Type 0) (left said : List ℕ) (faults faults' count : ℕ) (now : Outside)
     → (IsTrue tells → files' ≡ files) → faults ≤ faults'
-    → Ran tells files' model status Leaves LeavesElse Left (outside_of left said faults' count) now
-    → Ran tells files model status Leaves LeavesElse Left (outside_of left said faults count) now
-ran-later tells files files' model status Leaves LeavesElse Left left said faults faults' count now same later
+    → Ran tells files' model status Stood Leaves LeavesElse Left (outside_of left said faults' count) now
+    → Ran tells files model status Stood Leaves LeavesElse Left (outside_of left said faults count) now
+ran-later tells files files' model status Stood Leaves LeavesElse Left left said faults faults' count now same later
     x = record {
       answers = x.answers;
       told = answers-same tells files files' x.answers same x.told;
@@ -242,24 +245,25 @@ ran-later tells files files' model status Leaves LeavesElse Left left said fault
           (omega arith) x.counted;
       crash = x.crash;
       end = x.end;
+      stands = x.stands;
     }
 
 -- a run on devices that were lent to it: its owner has them as it left them
 pub ran-lent : {L D : Type 0} (shelf_faults : L → ℕ) (said : D → List ℕ) (may_leave : D → ℕ → List ℕ → Type 0) (clock : D → ℕ)
-    (might : D → ℕ → Images → List ℕ → Type 0) (tells : Bool) (files : Files) (model : Model) (status : Status)
+    (might : D → ℕ → Images → List ℕ → Type 0) (tells : Bool) (files : Files) (model : Model) (status : Status) (Stood : Type 0)
     (LeavesElse : Images → List ℕ → Type 0) (before : Outside) (left : List ℕ) (desk lent now : D) (lent' now' : L)
     (count count' : ℕ) → lent ≡ now → lent' ≡ now' → count ≡ count'
-    → Ran tells files model status (LeavesOnly clock might desk lent) LeavesElse (MayBeLeft (may_leave lent)) before
+    → Ran tells files model status Stood (LeavesOnly clock might desk lent) LeavesElse (MayBeLeft (may_leave lent)) before
     (outside_of left (said lent) (shelf_faults lent') count)
-    → Ran tells files model status (LeavesOnly clock might desk now) LeavesElse (MayBeLeft (may_leave now)) before
+    → Ran tells files model status Stood (LeavesOnly clock might desk now) LeavesElse (MayBeLeft (may_leave now)) before
     (outside_of left (said now) (shelf_faults now') count')
-ran-lent {L = L} {D = D} shelf_faults said may_leave clock might tells files model status LeavesElse before left desk
+ran-lent {L = L} {D = D} shelf_faults said may_leave clock might tells files model status Stood LeavesElse before left desk
     lent now lent' now' count count' same same' counted x =
-    subst (λ (d : D). Ran tells files model status (LeavesOnly clock might desk d) LeavesElse (MayBeLeft (may_leave d)) before
+    subst (λ (d : D). Ran tells files model status Stood (LeavesOnly clock might desk d) LeavesElse (MayBeLeft (may_leave d)) before
     (outside_of left (said d) (shelf_faults now') count')) same
-    (subst (λ (l : L). Ran tells files model status (LeavesOnly clock might desk lent) LeavesElse (MayBeLeft (may_leave lent)) before
+    (subst (λ (l : L). Ran tells files model status Stood (LeavesOnly clock might desk lent) LeavesElse (MayBeLeft (may_leave lent)) before
     (outside_of left (said lent) (shelf_faults l) count')) same'
-    (subst (λ (n : ℕ). Ran tells files model status (LeavesOnly clock might desk lent) LeavesElse
+    (subst (λ (n : ℕ). Ran tells files model status Stood (LeavesOnly clock might desk lent) LeavesElse
     (MayBeLeft (may_leave lent)) before
     (outside_of left (said lent) (shelf_faults lent') n)) counted x))
 
@@ -325,20 +329,21 @@ pub refused-words : {A : Type 0} (found : Option A) (x : A) → found ≡ Some x
 refused-words {A = A} found x e n = absurd (let f : ◌≡◌ {A = Option A} (Some x) None = sym e ∙ n in cc)
 
 -- a run that ends before its store is opened
-pub ran-untouched : {D : Type 0} (clock : D → ℕ) (might : D → ℕ → Images → List ℕ → Type 0) (reads : ReadStands) (desk : D)
-    (contents : ℕ → List ℕ) (may_leave : ℕ → List ℕ → Type 0) (said : List ℕ) (opening : Reading) → read_of (images_of contents) ≡ Ok opening
+pub ran-untouched : {D : Type 0} (clock : D → ℕ) (might : D → ℕ → Images → List ℕ → Type 0) (desk : D)
+    (contents : ℕ → List ℕ) (may_leave : ℕ → List ℕ → Type 0) (said : List ℕ) (opening : Reading)
     → TellsFailure → ((images : Images) (so_far : List ℕ) → might desk (clock desk) images so_far → MayBeLeft may_leave images × (so_far ≡ said))
     → (tells : Bool) (files : Files) (words : Option WordsValue) (status : Status) (left : List ℕ)
     (faults faults' count count' : ℕ)
     → IsOther status → faults ≤ faults' → count' ≤ count
     → (portrayal : Portrayal) × IsPortrayal tells files words portrayal
-    × Ran tells files (model_at portrayal opening) status (LeavesOnly clock might desk desk) (LeavesBefore may_leave said) (MayBeLeft may_leave)
+    × Ran tells files (model_at portrayal opening) status (StandFor (images_of contents) opening.state)
+    (LeavesOnly clock might desk desk) (LeavesBefore may_leave said) (MayBeLeft may_leave)
     (outside_of left said faults count) (outside_of left said faults' count')
-ran-untouched clock might reads desk contents may_leave said opening read law only_now tells files words status left
+ran-untouched clock might desk contents may_leave said opening law only_now tells files words status left
     faults faults' count count' other later within = (
       any_portrayal files words,
       any-is tells files words,
-      ran-unopened clock might reads contents may_leave said (any_portrayal files words) opening read law tells files desk desk status
+      ran-unopened clock might contents may_leave said (any_portrayal files words) opening law tells files desk desk status
           (MayBeLeft may_leave) left said faults faults' count count' other refl later within
           (reading-none clock might desk contents may_leave said only_now),
     )

@@ -13,7 +13,8 @@ use Rattle.chart_ports.specs.Moments.{LeavesOnly}
 use Rattle.chart_ports.specs.Said.{SaysFront}
 use Rattle.chart_ports.specs.declared.images.Images.{Images}
 use Rattle.chart_ports.proofs.Moments.{weaker}
-use Rattle.chart_store.specs.Images.{read_of}
+use Rattle.chart_store.specs.Images.{StandFor, read_of}
+use Rattle.chart_store.specs.Outcome.{after}
 use Rattle.session_core.specs.Fetch.{Files, Fetches, fetches_of}
 use Rattle.session_core.specs.Model.{Model}
 use Rattle.ecdis_cli.specs.declared.run.stop.Stop.{Stop}
@@ -27,7 +28,7 @@ use Rattle.ecdis_cli.specs.Limits.{SCRIPT_LIMIT}
 use Rattle.ecdis_cli.specs.Progress.{BytesAreTaken, ComeFirst, HasNoLineFeed, IsAfter, RunIsStopped, SaysUpToLast}
 use Rattle.ecdis_cli.specs.Progress.{ScriptIsFinished, ScriptIsUnfinished, StepsAreTaken}
 use Rattle.ecdis_cli.specs.Run.{Outside, Ran, Says, outside_of, reading_of}
-use Rattle.ecdis_cli.specs.Script.{IsAnswer, failures_in, model_after, output_of, steps_from, steps_of}
+use Rattle.ecdis_cli.specs.Script.{IsAnswer, commands_in, failures_in, model_after, output_of, steps_from, steps_of}
 use Rattle.ecdis_cli.specs.Step.{Step}
 use Rattle.ecdis_cli.specs.Stop.{status_of}
 use Rattle.ecdis_cli.specs.Standing.{Standing, at_start}
@@ -35,7 +36,7 @@ use Rattle.ecdis_cli.proofs.Crashes.{prefix-extended}
 use Rattle.ecdis_cli.proofs.Failures.{Serves, TellsFailure, served-none}
 use Rattle.ecdis_cli.proofs.Lists.{failures-append, output-append}
 use Rattle.ecdis_cli.proofs.ScriptSteps.{Advanced-then, Stopped-then}
-use Rattle.ecdis_cli.proofs.Taking.{IsAfter-then, Taken-then, front-append, front-same, front-whole}
+use Rattle.ecdis_cli.proofs.Taking.{IsAfter-then, Taken-then, Where, front-append, front-same, front-whole}
 use Rattle.ecdis_cli.proofs.Taking.{upto-after, upto-front, upto-whole}
 
 -- ---- statuses
@@ -130,43 +131,46 @@ other-says files model status before left said faults count answers steps other 
   at_limit = λ e. absurd (other.not_long e);
 }
 
-module _ {D : Type 0} (clock : D → ℕ) (might : D → ℕ → Images → List ℕ → Type 0)
+module _ {D : Type 0} (clock : D → ℕ) (might : D → ℕ → Images → List ℕ → Type 0) (Stood : Type 0)
     (tells : Bool) (files : Files) (model : Model) (before : Outside) where
   -- A run under way: these bytes were taken
   pub record Underway (d0 d1 : D) (left : List ℕ) (at : Standing) : Type 0 where
     pub taken : List ℕ
     pub split : before.left ≡ taken ++ left
-    pub advanced : BytesAreTaken tells files (LeavesOnly clock might d0 d1) (begun_at model before) taken at
+    pub advanced : BytesAreTaken tells files (Where Stood (LeavesOnly clock might d0 d1)) (begun_at model before) taken at
 
   pub Underway-start : (d0 d1 : D) (at : Standing) → at ≡ begun_at model before
-      → BytesAreTaken tells files (LeavesOnly clock might d0 d1) (begun_at model before) [] (begun_at model before) → Underway d0 d1 before.left at
+      → BytesAreTaken tells files (Where Stood (LeavesOnly clock might d0 d1)) (begun_at model before) [] (begun_at model before)
+      → Underway d0 d1 before.left at
   Underway-start d0 d1 at is x = record {
     taken = [];
     split = refl;
-    advanced = subst (λ (p : Standing). BytesAreTaken tells files (LeavesOnly clock might d0 d1) (begun_at model before) [] p) (sym is) x;
+    advanced = subst (λ (p : Standing). BytesAreTaken tells files (Where Stood (LeavesOnly clock might d0 d1)) (begun_at model before) [] p) (sym is) x;
   }
 
-  pub Underway-next : (files' : Files) (d0 d1 d2 : D) (p q : Standing) (left0 left1 bytes : List ℕ)
+  pub Underway-next : (Then : Type 0) → (Stood → Then) → (files' : Files) (d0 d1 d2 : D) (p q : Standing) (left0 left1 bytes : List ℕ)
       → (IsTrue tells → files' ≡ files) → left0 ≡ bytes ++ left1 → Underway d0 d1 left0 p
-      → BytesAreTaken tells files' (LeavesOnly clock might d1 d2) p bytes q → Underway d0 d2 left1 q
-  Underway-next files' d0 d1 d2 p q left0 left1 bytes same e x y = record {
+      → BytesAreTaken tells files' (Where Then (LeavesOnly clock might d1 d2)) p bytes q → Underway d0 d2 left1 q
+  Underway-next Then on files' d0 d1 d2 p q left0 left1 bytes same e x y = record {
     taken = x.taken ++ bytes;
     split = x.split ∙ ap (λ (l : List ℕ). x.taken ++ l) e ∙ sym (append_assoc x.taken bytes left1);
-    advanced = Advanced-then clock might tells files files' d0 d1 d2 (begun_at model before) p q x.taken bytes same x.advanced y;
+    advanced = Advanced-then clock might Stood Then on tells files files' d0 d1 d2 (begun_at model before) p q x.taken bytes same x.advanced y;
   }
 
-module _ {D : Type 0} (clock : D → ℕ) (might : D → ℕ → Images → List ℕ → Type 0) (law : TellsFailure)
+module _ {D : Type 0} (clock : D → ℕ) (might : D → ℕ → Images → List ℕ → Type 0) (Stood : Type 0) (law : TellsFailure)
     (tells : Bool) (files : Files) (model : Model) (before : Outside) (MayBeLeft : Images → Type 0) where
   -- the run from its steps
   ran-by : (d0 d1 : D) (status : Status) (now : Outside) (answers : List Fetches) (steps : List Step)
-      → StepsAreTaken tells files (LeavesOnly clock might d0 d1)
+      → StepsAreTaken tells files (Where Stood (LeavesOnly clock might d0 d1))
       (begun_at model before) now.faults now.count answers steps
       → Covers files model before.left answers steps → SaysUpToLast before.said steps now.said
       → Says status (λ script. steps_of model script (answers ++ padding files before.left)) before now
       → (status ≡ Done → (images : Images) → MayBeLeft images
       → read_of images ≡ Ok (reading_of (model_after model (steps_of model before.left (answers ++ padding files before.left)))))
-      → Ran tells files model status (LeavesOnly clock might d0 d1) (λ images so_far. ⊥) MayBeLeft before now
-  ran-by d0 d1 status now answers steps taken covers upto says end =
+      → (Stood → status ≡ Done → (images : Images) → MayBeLeft images
+      → StandFor images (after model.state (commands_in (steps_of model before.left (answers ++ padding files before.left)))))
+      → Ran tells files model status Stood (LeavesOnly clock might d0 d1) (λ images so_far. ⊥) MayBeLeft before now
+  ran-by d0 d1 status now answers steps taken covers upto says end stands =
       let whole : List Step = steps_of model before.left (answers ++ padding files before.left) in
       record {
         answers = answers ++ padding files before.left;
@@ -183,15 +187,16 @@ module _ {D : Type 0} (clock : D → ℕ) (might : D → ℕ → Images → List
           said = upto;
           counted = taken.counted;
         };
-        crash = weaker clock might d0 d1 (LeavesPrefix model.state steps before.said)
+        crash = λ stood. weaker clock might d0 d1 (LeavesPrefix model.state steps before.said)
             (λ images so_far. ⊥ ⊎ LeavesPrefix model.state whole before.said images so_far)
             (λ images so_far x. inr (subst (λ (l : List Step). LeavesPrefix model.state l before.said images so_far) (sym covers.whole)
-            (prefix-extended model.state steps covers.later before.said so_far images x))) taken.crash;
+            (prefix-extended model.state steps covers.later before.said so_far images x))) (taken.crash stood);
         end = end;
+        stands = stands;
       }
 
   -- the steps so far, before those of the rest
-  underway-covers : (d0 d1 : D) (left : List ℕ) (at : Standing) → (x : Underway clock might tells files model before d0 d1 left at)
+  underway-covers : (d0 d1 : D) (left : List ℕ) (at : Standing) → (x : Underway clock might Stood tells files model before d0 d1 left at)
       → Covers files model before.left x.advanced.answers x.advanced.steps
   underway-covers d0 d1 left at x =
       let pad : List Fetches = padding files before.left in
@@ -202,14 +207,14 @@ module _ {D : Type 0} (clock : D → ℕ) (might : D → ℕ → Images → List
         behind = ap (λ (l : List ℕ). steps_from model 1 (lines l) (x.advanced.answers ++ pad)) x.split ∙ x.advanced.ahead left pad;
       })
 
-  underway-front : (d0 d1 : D) (left : List ℕ) (at : Standing) → (x : Underway clock might tells files model before d0 d1 left at)
+  underway-front : (d0 d1 : D) (left : List ℕ) (at : Standing) → (x : Underway clock might Stood tells files model before d0 d1 left at)
       → SaysFront before.said (output_of (steps_of model before.left (x.advanced.answers ++ padding files before.left))) at.said
   underway-front d0 d1 left at x =
       covers-front files model before.left x.advanced.answers x.advanced.steps before.said at.said (underway-covers d0 d1 left at x)
       (front-whole before.said (output_of x.advanced.steps) at.said x.advanced.after.said)
 
   -- what was said is the replies to the lines that have ended
-  underway-ended : (d0 d1 : D) (left : List ℕ) (at : Standing) → (x : Underway clock might tells files model before d0 d1 left at)
+  underway-ended : (d0 d1 : D) (left : List ℕ) (at : Standing) → (x : Underway clock might Stood tells files model before d0 d1 left at)
       → at.said ≡ before.said ++ output_of (steps_of model (whole_lines x.taken) (x.advanced.answers ++ padding files before.left))
   underway-ended d0 d1 left at x =
       let pad : List Fetches = padding files before.left in
@@ -217,8 +222,8 @@ module _ {D : Type 0} (clock : D → ℕ) (might : D → ℕ → Images → List
       (sym (steps_of-start model (whole_lines x.taken) (x.advanced.answers ++ pad) ∙ x.advanced.ended_lines begun-unbroken pad))
 
   -- the source fails at this place
-  pub Underway-fault : (d0 d1 : D) (at : Standing) (left left' : List ℕ) → left' ≡ left → Underway clock might tells files model before d0 d1 left at
-      → Ran tells files model stops.ScriptFault (LeavesOnly clock might d0 d1) (λ images so_far. ⊥) MayBeLeft before
+  pub Underway-fault : (d0 d1 : D) (at : Standing) (left left' : List ℕ) → left' ≡ left → Underway clock might Stood tells files model before d0 d1 left at
+      → Ran tells files model stops.ScriptFault Stood (LeavesOnly clock might d0 d1) (λ images so_far. ⊥) MayBeLeft before
       (outside_of left' at.said at.faults at.count)
   Underway-fault d0 d1 at left left' e x =
       ran-by d0 d1 stops.ScriptFault (outside_of left' at.said at.faults at.count) x.advanced.answers x.advanced.steps
@@ -233,16 +238,16 @@ module _ {D : Type 0} (clock : D → ℕ) (might : D → ℕ → Images → List
           said = underway-ended d0 d1 left at x;
         };
         at_limit = λ d. absurd (let f : stops.ScriptFault ≡ stops.ScriptLong = d in cc);
-      }) (λ d. absurd (let f : stops.ScriptFault ≡ Done = d in cc))
+      }) (λ d. absurd (let f : stops.ScriptFault ≡ Done = d in cc)) (λ stood d. absurd (let f : stops.ScriptFault ≡ Done = d in cc))
 
   -- the script's limit is reached in the further bytes
-  pub Underway-long : (files' : Files) (d0 d1 d2 : D) (p q : Standing) (left left0 left1 bytes : List ℕ) (room : ℕ)
+  pub Underway-long : (Then : Type 0) → (Stood → Then) → (files' : Files) (d0 d1 d2 : D) (p q : Standing) (left left0 left1 bytes : List ℕ) (room : ℕ)
       → (IsTrue tells → files' ≡ files) → left0 ≡ bytes ++ left1 → length bytes ≡ room → length before.left + room ≡ SCRIPT_LIMIT + length left0
-      → Underway clock might tells files model before d0 d1 left0 p → BytesAreTaken tells files' (LeavesOnly clock might d1 d2) p bytes q
-      → Ran tells files model stops.ScriptLong (LeavesOnly clock might d0 d2) (λ images so_far. ⊥) MayBeLeft before
+      → Underway clock might Stood tells files model before d0 d1 left0 p → BytesAreTaken tells files' (Where Then (LeavesOnly clock might d1 d2)) p bytes q
+      → Ran tells files model stops.ScriptLong Stood (LeavesOnly clock might d0 d2) (λ images so_far. ⊥) MayBeLeft before
       (outside_of left q.said q.faults q.count)
-  Underway-long files' d0 d1 d2 p q left left0 left1 bytes room same e fits counted x y =
-      let z : Underway clock might tells files model before d0 d2 left1 q = Underway-next clock might tells files model before files' d0 d1 d2 p q left0 left1 bytes same e x y in
+  Underway-long Then on files' d0 d1 d2 p q left left0 left1 bytes room same e fits counted x y =
+      let z : Underway clock might Stood tells files model before d0 d2 left1 q = Underway-next clock might Stood tells files model before Then on files' d0 d1 d2 p q left0 left1 bytes same e x y in
       let spent : length z.taken ≡ SCRIPT_LIMIT
       = omega (arith, ap length z.split, length-append z.taken left1, ap length e, length-append bytes left1, counted, fits) in
       let within : take SCRIPT_LIMIT before.left ≡ z.taken
@@ -256,18 +261,18 @@ module _ {D : Type 0} (clock : D → ℕ) (might : D → ℕ → Images → List
         at_fault = λ d. absurd (let f : stops.ScriptLong ≡ stops.ScriptFault = d in cc);
         at_limit = λ d. underway-ended d0 d2 left1 q z
             ∙ ap (λ (l : List ℕ). before.said ++ output_of (steps_of model (whole_lines l) (z.advanced.answers ++ padding files before.left))) (sym within);
-      }) (λ d. absurd (let f : stops.ScriptLong ≡ Done = d in cc))
+      }) (λ d. absurd (let f : stops.ScriptLong ≡ Done = d in cc)) (λ stood d. absurd (let f : stops.ScriptLong ≡ Done = d in cc))
 
   -- the run ends within further bytes
-  pub Underway-halted : (files' : Files) (d0 d1 d2 : D) (at : Standing) (left left0 left1 bytes : List ℕ) (now : Standing) (stop : Stop) (status : Status)
-      → status ≡ status_of stop → (IsTrue tells → files' ≡ files) → left0 ≡ bytes ++ left1 → Underway clock might tells files model before d0 d1 left0 at
-      → RunIsStopped tells files' (LeavesOnly clock might d1 d2) at bytes now
-      → Ran tells files model status (LeavesOnly clock might d0 d2) (λ images so_far. ⊥) MayBeLeft before
+  pub Underway-halted : (Then : Type 0) → (Stood → Then) → (files' : Files) (d0 d1 d2 : D) (at : Standing) (left left0 left1 bytes : List ℕ) (now : Standing) (stop : Stop) (status : Status)
+      → status ≡ status_of stop → (IsTrue tells → files' ≡ files) → left0 ≡ bytes ++ left1 → Underway clock might Stood tells files model before d0 d1 left0 at
+      → RunIsStopped tells files' (Where Then (LeavesOnly clock might d1 d2)) at bytes now
+      → Ran tells files model status Stood (LeavesOnly clock might d0 d2) (λ images so_far. ⊥) MayBeLeft before
       (outside_of left now.said now.faults now.count)
-  Underway-halted files' d0 d1 d2 at left left0 left1 bytes now stop status is same e x y =
+  Underway-halted Then on files' d0 d1 d2 at left left0 left1 bytes now stop status is same e x y =
       let pad : List Fetches = padding files before.left in
-      let z : RunIsStopped tells files (LeavesOnly clock might d0 d2) (begun_at model before) (x.taken ++ bytes) now
-      = Stopped-then clock might tells files files' d0 d1 d2 (begun_at model before) at x.taken bytes now same x.advanced y in
+      let z : RunIsStopped tells files (Where Stood (LeavesOnly clock might d0 d2)) (begun_at model before) (x.taken ++ bytes) now
+      = Stopped-then clock might Stood Then on tells files files' d0 d1 d2 (begun_at model before) at x.taken bytes now same x.advanced y in
       let split : before.left ≡ (x.taken ++ bytes) ++ left1
       = x.split ∙ ap (λ (l : List ℕ). x.taken ++ l) e ∙ sym (append_assoc x.taken bytes left1) in
       let covers : Covers files model before.left z.answers z.steps
@@ -277,14 +282,14 @@ module _ {D : Type 0} (clock : D → ℕ) (might : D → ℕ → Images → List
       ran-by d0 d2 status (outside_of left now.said now.faults now.count) z.answers z.steps z.taken covers z.said
       (other-says files model status before left now.said now.faults now.count z.answers z.steps other covers
       (upto-front before.said z.steps now.said z.said))
-      (λ d. absurd (other.not_done d))
+      (λ d. absurd (other.not_done d)) (λ stood d. absurd (other.not_done d))
 
   -- ---- the script ends here
 
   -- the steps of the last line stand behind those before it
   last-whole : (d0 d1 : D) (left : List ℕ) (at : Standing) (answers : List Fetches) (steps : List Step) → left ≡ []
       → ((more : List Fetches) → steps_from at.model at.number (lines (at.line ++ [])) (answers ++ more) ≡ steps)
-      → (x : Underway clock might tells files model before d0 d1 left at)
+      → (x : Underway clock might Stood tells files model before d0 d1 left at)
       → steps_from model 1 (lines before.left) ((x.advanced.answers ++ answers) ++ padding files before.left) ≡ x.advanced.steps ++ steps
   last-whole d0 d1 left at answers steps none ahead x =
       let pad : List Fetches = padding files before.left in
@@ -294,24 +299,26 @@ module _ {D : Type 0} (clock : D → ℕ) (might : D → ℕ → Images → List
       ∙ x.advanced.ahead [] (answers ++ pad)
       ∙ ap (λ (l : List Step). x.advanced.steps ++ l) (ahead pad)
 
-  pub Underway-done : (files' : Files) (d0 d1 d2 : D) (at : Standing) (left left0 : List ℕ) (now : Standing)
-      → (IsTrue tells → files' ≡ files) → left0 ≡ [] → Underway clock might tells files model before d0 d1 left0 at
-      → ScriptIsFinished tells files' (LeavesOnly clock might d1 d2) at now
+  pub Underway-done : (Then : Type 0) → (Stood → Then) → (files' : Files) (d0 d1 d2 : D) (at : Standing) (left left0 : List ℕ) (now : Standing)
+      → (IsTrue tells → files' ≡ files) → left0 ≡ [] → Underway clock might Stood tells files model before d0 d1 left0 at
+      → ScriptIsFinished tells files' (Where Then (LeavesOnly clock might d1 d2)) at now
       → ((images : Images) → MayBeLeft images → read_of images ≡ Ok (reading_of now.model))
-      → Ran tells files model Done (LeavesOnly clock might d0 d2) (λ images so_far. ⊥) MayBeLeft before
+      → (Stood → (images : Images) → MayBeLeft images → StandFor images now.model.state)
+      → Ran tells files model Done Stood (LeavesOnly clock might d0 d2) (λ images so_far. ⊥) MayBeLeft before
       (outside_of left now.said now.faults now.count)
-  Underway-done files' d0 d1 d2 at left left0 now same none x y reads =
+  Underway-done Then on files' d0 d1 d2 at left left0 now same none x y reads stands =
       let pad : List Fetches = padding files before.left in
       let answers : List Fetches = x.advanced.answers ++ y.answers in
       let steps : List Step = x.advanced.steps ++ y.steps in
       let whole : steps_from model 1 (lines before.left) (answers ++ pad) ≡ steps = last-whole d0 d1 left0 at y.answers y.steps none y.ahead x in
       let is : steps_of model before.left (answers ++ pad) ≡ steps = steps_of-start model before.left (answers ++ pad) ∙ whole in
-      let after : IsAfter (begun_at model before) steps now = IsAfter-then (begun_at model before) at now x.advanced.steps y.steps x.advanced.after y.after in
-      let said : now.said ≡ before.said ++ output_of (steps_of model before.left (answers ++ pad)) = after.said ∙ ap (λ (l : List Step). before.said ++ output_of l) (sym is) in
-      ran-by d0 d2 Done (outside_of left now.said now.faults now.count) answers steps
-      (Taken-then clock might tells files files' d0 d1 d2 (begun_at model before) at now.faults now.count
-      x.advanced.answers y.answers x.advanced.steps y.steps same x.advanced.after x.advanced.taken y.taken)
-      (covers-all files model before.left answers steps whole) (upto-whole before.said steps now.said after.said)
+      let reached : IsAfter (begun_at model before) steps now = IsAfter-then (begun_at model before) at now x.advanced.steps y.steps x.advanced.after y.after in
+      let said : now.said ≡ before.said ++ output_of (steps_of model before.left (answers ++ pad)) = reached.said ∙ ap (λ (l : List Step). before.said ++ output_of l) (sym is) in
+      let taken : StepsAreTaken tells files (Where Stood (LeavesOnly clock might d0 d2)) (begun_at model before) now.faults now.count answers steps
+      = Taken-then clock might Stood Then on tells files files' d0 d1 d2 (begun_at model before) at now.faults now.count
+      x.advanced.answers y.answers x.advanced.steps y.steps same x.advanced.after x.advanced.taken y.taken in
+      ran-by d0 d2 Done (outside_of left now.said now.faults now.count) answers steps taken
+      (covers-all files model before.left answers steps whole) (upto-whole before.said steps now.said reached.said)
       (record {
         all = λ d. said;
         front = front-whole before.said (output_of (steps_of model before.left (answers ++ pad))) now.said said;
@@ -319,14 +326,17 @@ module _ {D : Type 0} (clock : D → ℕ) (might : D → ℕ → Images → List
         at_limit = λ d. absurd (let e : Done ≡ stops.ScriptLong = d in cc);
       })
       (λ d images left_so. reads images left_so
-      ∙ ap (λ (m : Model). Ok (reading_of m)) (after.reached ∙ ap (model_after model) (sym is)))
+      ∙ ap (λ (m : Model). Ok (reading_of m)) (reached.reached ∙ ap (model_after model) (sym is)))
+      (λ stood d images left_so. subst (StandFor images)
+      (ap (λ (m : Model). m.state) reached.reached ∙ taken.held
+      ∙ ap (λ (l : List Step). after model.state (commands_in l)) (sym is)) (stands stood images left_so))
 
-  pub Underway-cut : (files' : Files) (d0 d1 d2 : D) (at : Standing) (left left0 : List ℕ) (now : Standing) (stop : Stop) (status : Status)
-      → status ≡ status_of stop → (IsTrue tells → files' ≡ files) → left0 ≡ [] → Underway clock might tells files model before d0 d1 left0 at
-      → ScriptIsUnfinished tells files' (LeavesOnly clock might d1 d2) at now
-      → Ran tells files model status (LeavesOnly clock might d0 d2) (λ images so_far. ⊥) MayBeLeft before
+  pub Underway-cut : (Then : Type 0) → (Stood → Then) → (files' : Files) (d0 d1 d2 : D) (at : Standing) (left left0 : List ℕ) (now : Standing) (stop : Stop) (status : Status)
+      → status ≡ status_of stop → (IsTrue tells → files' ≡ files) → left0 ≡ [] → Underway clock might Stood tells files model before d0 d1 left0 at
+      → ScriptIsUnfinished tells files' (Where Then (LeavesOnly clock might d1 d2)) at now
+      → Ran tells files model status Stood (LeavesOnly clock might d0 d2) (λ images so_far. ⊥) MayBeLeft before
       (outside_of left now.said now.faults now.count)
-  Underway-cut files' d0 d1 d2 at left left0 now stop status is same none x y =
+  Underway-cut Then on files' d0 d1 d2 at left left0 now stop status is same none x y =
       let answers : List Fetches = x.advanced.answers ++ y.answers in
       let steps : List Step = x.advanced.steps ++ y.steps in
       let covers : Covers files model before.left answers steps
@@ -335,12 +345,12 @@ module _ {D : Type 0} (clock : D → ℕ) (might : D → ℕ → Images → List
       let upto : SaysUpToLast before.said steps now.said
       = upto-after before.said at.said now.said x.advanced.steps y.steps x.advanced.after.said y.said in
       ran-by d0 d2 status (outside_of left now.said now.faults now.count) answers steps
-      (Taken-then clock might tells files files' d0 d1 d2 (begun_at model before) at now.faults now.count
+      (Taken-then clock might Stood Then on tells files files' d0 d1 d2 (begun_at model before) at now.faults now.count
       x.advanced.answers y.answers x.advanced.steps y.steps same x.advanced.after x.advanced.taken y.taken)
       covers upto
       (other-says files model status before left now.said now.faults now.count answers steps other covers
       (upto-front before.said steps now.said upto))
-      (λ d. absurd (other.not_done d))
+      (λ d. absurd (other.not_done d)) (λ stood d. absurd (other.not_done d))
 
 -- a script that was read to its end has at most its limit
 pub read-within : (script left : List ℕ) (room : ℕ) → length script + room ≡ SCRIPT_LIMIT + length left → left ≡ [] → length script ≤ SCRIPT_LIMIT

@@ -17,7 +17,7 @@ use Rattle.ecdis_cli.specs.Script.{steps_from}
 use Rattle.ecdis_cli.specs.Step.{Step, step_to}
 use Rattle.ecdis_cli.specs.Standing.{Standing}
 use Rattle.ecdis_cli.proofs.Lines.{All-behind, All-front, Fed, IsCons, ReadByFront, cut_at_feed, ended-append, ended-append_unbroken, ended-fed, ended-line, one_more, steps-ended_none, steps-feed, steps-last, steps-long}
-use Rattle.ecdis_cli.proofs.Taking.{IsAfter-then, Taken-none, Taken-then, upto-after, upto-one, upto-whole}
+use Rattle.ecdis_cli.proofs.Taking.{IsAfter-then, Taken-none, Taken-then, Where, upto-after, upto-one, upto-whole}
 
 -- nothing happens at this moment
 abbrev pub Quiet : Moments → Standing → Type 0
@@ -218,7 +218,7 @@ Stopped-more tells files Leaves at bytes more now x = record {
 
 -- ---- one after another
 
-module _ {D : Type 0} (clock : D → ℕ) (might : D → ℕ → Images → List ℕ → Type 0) where
+module _ {D : Type 0} (clock : D → ℕ) (might : D → ℕ → Images → List ℕ → Type 0) (Held Then : Type 0) (on : Held → Then) where
   -- the steps of the lines that have ended, where no line or some line ends in the later bytes
   then-unbroken : (tells : Bool) (files files' : Files) (A B : Moments) (p q r : Standing) (bytes more : List ℕ)
       → HasNoLineFeed p.line → HasNoLineFeed more → (x : BytesAreTaken tells files A p bytes q) (y : BytesAreTaken tells files' B q more r) (others : List Fetches)
@@ -247,13 +247,13 @@ module _ {D : Type 0} (clock : D → ℕ) (might : D → ℕ → Images → List
       ∙ y.ended_lines (x.open_line h) others)
 
   pub Advanced-then : (tells : Bool) (files files' : Files) (d0 d1 d2 : D) (p q r : Standing) (bytes more : List ℕ)
-      → (IsTrue tells → files' ≡ files) → BytesAreTaken tells files (LeavesOnly clock might d0 d1) p bytes q
-      → BytesAreTaken tells files' (LeavesOnly clock might d1 d2) q more r
-      → BytesAreTaken tells files (LeavesOnly clock might d0 d2) p (bytes ++ more) r
+      → (IsTrue tells → files' ≡ files) → BytesAreTaken tells files (Where Held (LeavesOnly clock might d0 d1)) p bytes q
+      → BytesAreTaken tells files' (Where Then (LeavesOnly clock might d1 d2)) q more r
+      → BytesAreTaken tells files (Where Held (LeavesOnly clock might d0 d2)) p (bytes ++ more) r
   Advanced-then tells files files' d0 d1 d2 p q r bytes more same x y = record {
     answers = x.answers ++ y.answers;
     steps = x.steps ++ y.steps;
-    taken = Taken-then clock might tells files files' d0 d1 d2 p q r.faults r.count x.answers y.answers x.steps y.steps
+    taken = Taken-then clock might Held Then on tells files files' d0 d1 d2 p q r.faults r.count x.answers y.answers x.steps y.steps
         same x.after x.taken y.taken;
     after = IsAfter-then p q r x.steps y.steps x.after y.after;
     ahead = λ rest others.
@@ -263,21 +263,21 @@ module _ {D : Type 0} (clock : D → ℕ) (might : D → ℕ → Images → List
         ∙ ap (λ (l : List Step). x.steps ++ l) (y.ahead rest others)
         ∙ sym (append_assoc x.steps y.steps (steps_at r rest others));
     ended_lines = λ h others. elim (cut_at_feed more) as (λ _. steps_from p.model p.number (lines (whole_lines (p.line ++ (bytes ++ more)))) ((x.answers ++ y.answers) ++ others) ≡ x.steps ++ y.steps) [
-      | inl u ↦ then-unbroken tells files files' (LeavesOnly clock might d0 d1) (LeavesOnly clock might d1 d2) p q r bytes more h u x y others
-      | inr f ↦ then-fed tells files files' (LeavesOnly clock might d0 d1) (LeavesOnly clock might d1 d2) p q r bytes more h f x y others
+      | inl u ↦ then-unbroken tells files files' (Where Held (LeavesOnly clock might d0 d1)) (Where Then (LeavesOnly clock might d1 d2)) p q r bytes more h u x y others
+      | inr f ↦ then-fed tells files files' (Where Held (LeavesOnly clock might d0 d1)) (Where Then (LeavesOnly clock might d1 d2)) p q r bytes more h f x y others
     ];
     unended = λ u. ap (λ (l : List Fetches). l ++ y.answers) (x.unended (All-front bytes more u)) ∙ y.unended (All-behind bytes more u);
     open_line = λ h. y.open_line (x.open_line h);
   }
 
   pub Stopped-then : (tells : Bool) (files files' : Files) (d0 d1 d2 : D) (p q : Standing) (bytes more : List ℕ) (now : Standing)
-      → (IsTrue tells → files' ≡ files) → BytesAreTaken tells files (LeavesOnly clock might d0 d1) p bytes q
-      → RunIsStopped tells files' (LeavesOnly clock might d1 d2) q more now
-      → RunIsStopped tells files (LeavesOnly clock might d0 d2) p (bytes ++ more) now
+      → (IsTrue tells → files' ≡ files) → BytesAreTaken tells files (Where Held (LeavesOnly clock might d0 d1)) p bytes q
+      → RunIsStopped tells files' (Where Then (LeavesOnly clock might d1 d2)) q more now
+      → RunIsStopped tells files (Where Held (LeavesOnly clock might d0 d2)) p (bytes ++ more) now
   Stopped-then tells files files' d0 d1 d2 p q bytes more now same x y = record {
     answers = x.answers ++ y.answers;
     steps = x.steps ++ y.steps;
-    taken = Taken-then clock might tells files files' d0 d1 d2 p q now.faults now.count x.answers y.answers x.steps
+    taken = Taken-then clock might Held Then on tells files files' d0 d1 d2 p q now.faults now.count x.answers y.answers x.steps
         y.steps same x.after x.taken y.taken;
     said = upto-after p.said q.said now.said x.steps y.steps x.after.said y.said;
     ahead = λ rest others.
@@ -297,22 +297,22 @@ module _ {D : Type 0} (clock : D → ℕ) (might : D → ℕ → Images → List
   -- one byte more of a slice
   pub Advanced-next : (tells : Bool) (files files' : Files) (d0 d1 d2 : D) (p q r : Standing) (bytes : List ℕ) (i : ℕ)
       → (IsTrue tells → files' ≡ files) → i < length bytes
-      → BytesAreTaken tells files (LeavesOnly clock might d0 d1) p (take i bytes) q
-      → BytesAreTaken tells files' (LeavesOnly clock might d1 d2) q (get_or bytes i 0 ∷ []) r
-      → BytesAreTaken tells files (LeavesOnly clock might d0 d2) p (take (i + 1) bytes) r
+      → BytesAreTaken tells files (Where Held (LeavesOnly clock might d0 d1)) p (take i bytes) q
+      → BytesAreTaken tells files' (Where Then (LeavesOnly clock might d1 d2)) q (get_or bytes i 0 ∷ []) r
+      → BytesAreTaken tells files (Where Held (LeavesOnly clock might d0 d2)) p (take (i + 1) bytes) r
   Advanced-next tells files files' d0 d1 d2 p q r bytes i same within x y =
-      subst (λ (bs : List ℕ). BytesAreTaken tells files (LeavesOnly clock might d0 d2) p bs r) (sym (take_more bytes i 0 within))
+      subst (λ (bs : List ℕ). BytesAreTaken tells files (Where Held (LeavesOnly clock might d0 d2)) p bs r) (sym (take_more bytes i 0 within))
       (Advanced-then tells files files' d0 d1 d2 p q r (take i bytes) (get_or bytes i 0 ∷ []) same x y)
 
   pub Stopped-next : (tells : Bool) (files files' : Files) (d0 d1 d2 : D) (p q : Standing) (bytes : List ℕ) (i : ℕ) (now : Standing)
       → (IsTrue tells → files' ≡ files) → i < length bytes
-      → BytesAreTaken tells files (LeavesOnly clock might d0 d1) p (take i bytes) q
-      → RunIsStopped tells files' (LeavesOnly clock might d1 d2) q (get_or bytes i 0 ∷ []) now
-      → RunIsStopped tells files (LeavesOnly clock might d0 d2) p bytes now
+      → BytesAreTaken tells files (Where Held (LeavesOnly clock might d0 d1)) p (take i bytes) q
+      → RunIsStopped tells files' (Where Then (LeavesOnly clock might d1 d2)) q (get_or bytes i 0 ∷ []) now
+      → RunIsStopped tells files (Where Held (LeavesOnly clock might d0 d2)) p bytes now
   Stopped-next tells files files' d0 d1 d2 p q bytes i now same within x y =
-      subst (λ (bs : List ℕ). RunIsStopped tells files (LeavesOnly clock might d0 d2) p bs now)
+      subst (λ (bs : List ℕ). RunIsStopped tells files (Where Held (LeavesOnly clock might d0 d2)) p bs now)
       (ap (λ (l : List ℕ). l ++ drop (i + 1) bytes) (sym (take_more bytes i 0 within)) ∙ take-append-drop (i + 1) bytes)
-      (Stopped-more tells files (LeavesOnly clock might d0 d2) p (take i bytes ++ get_or bytes i 0 ∷ []) (drop (i + 1) bytes) now
+      (Stopped-more tells files (Where Held (LeavesOnly clock might d0 d2)) p (take i bytes ++ get_or bytes i 0 ∷ []) (drop (i + 1) bytes) now
       (Stopped-then tells files files' d0 d1 d2 p q (take i bytes) (get_or bytes i 0 ∷ []) now same x y))
 
 -- ---- outcomes

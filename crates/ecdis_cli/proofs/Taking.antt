@@ -18,13 +18,17 @@ use Rattle.session_core.specs.Fetch.{Files, Fetches, fetches_of}
 use Rattle.session_core.specs.Model.{Model}
 use Rattle.ecdis_cli.specs.Crash.{LeavesPrefix}
 use Rattle.ecdis_cli.specs.Counted.{StepsAreCounted}
-use Rattle.ecdis_cli.specs.Progress.{IsAfter, IsSpoken, SaysUpToLast, StepsAreTaken}
+use Rattle.ecdis_cli.specs.Progress.{IsAfter, IsSpoken, Moments, SaysUpToLast, StepsAreTaken}
 use Rattle.ecdis_cli.specs.Script.{IsAnswer, commands_in, failures_in, model_after, output_of}
 use Rattle.ecdis_cli.specs.Step.{Step}
 use Rattle.ecdis_cli.specs.Standing.{Standing}
 use Rattle.ecdis_cli.proofs.Counting.{counted-then}
 use Rattle.ecdis_cli.proofs.Crashes.{prefix-behind, prefix-extended, prefix-none}
 use Rattle.ecdis_cli.proofs.Lists.{after-append, after-none, commands-append, failures-append, model_after-append, output-append}
+
+-- what a crash leaves, where this held before
+abbrev pub Where : Type 0 → Moments → Moments
+Where Held Leaves P = Held → Leaves P
 
 -- ---- fronts
 
@@ -139,22 +143,22 @@ Taken-none tells files Leaves before crash = record {
 
 module _ {D : Type 0} (clock : D → ℕ) (might : D → ℕ → Images → List ℕ → Type 0) where
   -- the present moment alone
-  pub quiet : (desk : D) (may_leave : ℕ → List ℕ → Type 0) (said : List ℕ) (state : StateValue)
+  pub quiet : (Held : Type 0) (desk : D) (may_leave : ℕ → List ℕ → Type 0) (said : List ℕ) (state : StateValue)
       → ((images : Images) (so_far : List ℕ) → might desk (clock desk) images so_far → MayBeLeft may_leave images × (so_far ≡ said))
-      → ((images : Images) → MayBeLeft may_leave images → StandFor images state)
-      → LeavesOnly clock might desk desk (LeavesPrefix state [] said)
-  quiet desk may_leave said state only_now stands =
+      → (Held → (images : Images) → MayBeLeft may_leave images → StandFor images state)
+      → Where Held (LeavesOnly clock might desk desk) (LeavesPrefix state [] said)
+  quiet Held desk may_leave said state only_now stands = λ held.
       started clock might desk (LeavesPrefix state [] said)
-      (λ images so_far left. let now = only_now images so_far left in prefix-none state said so_far images now.1 (stands images now.0))
+      (λ images so_far left. let now = only_now images so_far left in prefix-none state said so_far images now.1 (stands held images now.0))
 
   -- steps after steps
-  pub Taken-then : (tells : Bool) (files files' : Files) (d0 d1 d2 : D) (before mid : Standing) (faults count : ℕ)
+  pub Taken-then : (Held Then : Type 0) → (Held → Then) → (tells : Bool) (files files' : Files) (d0 d1 d2 : D) (before mid : Standing) (faults count : ℕ)
       (answers more : List Fetches) (steps others : List Step) → (IsTrue tells → files' ≡ files)
       → IsAfter before steps mid
-      → StepsAreTaken tells files (LeavesOnly clock might d0 d1) before mid.faults mid.count answers steps
-      → StepsAreTaken tells files' (LeavesOnly clock might d1 d2) mid faults count more others
-      → StepsAreTaken tells files (LeavesOnly clock might d0 d2) before faults count (answers ++ more) (steps ++ others)
-  Taken-then tells files files' d0 d1 d2 before mid faults count answers more steps others same is x y =
+      → StepsAreTaken tells files (Where Held (LeavesOnly clock might d0 d1)) before mid.faults mid.count answers steps
+      → StepsAreTaken tells files' (Where Then (LeavesOnly clock might d1 d2)) mid faults count more others
+      → StepsAreTaken tells files (Where Held (LeavesOnly clock might d0 d2)) before faults count (answers ++ more) (steps ++ others)
+  Taken-then Held Then on tells files files' d0 d1 d2 before mid faults count answers more steps others same is x y =
       let between : mid.model.state ≡ after before.model.state (commands_in steps)
       = ap (λ (m : Model). m.state) is.reached ∙ x.held in
       record {
@@ -168,14 +172,14 @@ module _ {D : Type 0} (clock : D → ℕ) (might : D → ℕ → Images → List
         failed = subst (λ (k : ℕ). RoseBy k before.faults faults) (sym (failures-append steps others))
             (rose-more (failures_in steps) (failures_in others) before.faults mid.faults faults x.later y.later x.failed y.failed);
         later = omega (arith, x.later, y.later);
-        crash = and_then clock might d0 d1 d2 (LeavesPrefix before.model.state (steps ++ others) before.said)
+        crash = λ held. and_then clock might d0 d1 d2 (LeavesPrefix before.model.state (steps ++ others) before.said)
             (weaker clock might d0 d1 (LeavesPrefix before.model.state steps before.said)
             (LeavesPrefix before.model.state (steps ++ others) before.said)
-            (λ images so_far. prefix-extended before.model.state steps others before.said so_far images) x.crash)
+            (λ images so_far. prefix-extended before.model.state steps others before.said so_far images) (x.crash held))
             (weaker clock might d1 d2 (LeavesPrefix mid.model.state others mid.said)
             (LeavesPrefix before.model.state (steps ++ others) before.said)
             (λ images so_far. prefix-behind before.model.state mid.model.state steps others before.said mid.said so_far images
-            x.spoken is.said between) y.crash);
+            x.spoken is.said between) (y.crash (on held)));
         counted = counted-then before.model steps others before.count mid.count count x.counted
             (subst (λ (m : Model). StepsAreCounted m others mid.count count) is.reached y.counted);
       }

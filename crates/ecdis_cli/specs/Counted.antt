@@ -1,7 +1,8 @@
 -- How many steps are counted: data records that are come to, features, and names whose records differ.
 use Rattle.std.specs.Prelude.{ℕ, ◌+◌, ◌≤◌, List, [], ◌∷◌}
-use Rattle.chart_model.specs.Answers.{or_fault_as}
-use Rattle.chart_store.specs.Images.{Place, Reading, content_in, most_steps_in}
+use Rattle.bank_pair.specs.Head.{content_named}
+use Rattle.chart_ports.specs.Moments.{images_of}
+use Rattle.chart_store.specs.Images.{Reading, most_steps_in}
 use Rattle.session_core.specs.Kept.{feature_count}
 use Rattle.session_core.specs.Model.{Model}
 use Rattle.session_core.specs.Steps.{TakesAtMost}
@@ -15,10 +16,10 @@ StepsAreCounted model (step ∷ steps) count count' =
     (between : ℕ) × TakesAtMost step.most model.state step.model.state count between
     × StepsAreCounted step.model steps between count'
 
--- The most that an opening counts of a store's files: the data records that the commands in its bank may come to, and
--- none where its bytes are no bank.
+-- The most that an opening counts of a store's files: the data records that the commands in the bank that the head
+-- names may come to, and none where its bytes are no bank. None of the files in its checkpoint counts.
 abbrev pub most_in_bank : (ℕ → List ℕ) → ℕ
-most_in_bank contents = most_steps_in (or_fault_as (λ (place : Place). place.at) (content_in [] (contents 1)))
+most_in_bank contents = most_steps_in (content_named (images_of contents))
 
 -- the same, and the features of the charts that the files read as
 abbrev pub most_at_opening : (ℕ → List ℕ) → Reading → ℕ

@@ -18,3 +18,8 @@ pub record KeepsDevices {L D C : Type 0} (tells : Bool) (files : L → Files) (s
 abbrev pub LeavesBetween : {L D C : Type 0} → (D → ℕ) → (D → ℕ → Images → List ℕ → Type 0)
     → Devices L D C → Devices L D C → (Images → List ℕ → Type 0) → Type 0
 LeavesBetween clock might before now = LeavesOnly clock might before.desk.now now.desk.now
+
+-- the same, where this held before
+abbrev pub LeavesWhere : {L D C : Type 0} → Type 0 → (D → ℕ) → (D → ℕ → Images → List ℕ → Type 0)
+    → Devices L D C → Devices L D C → (Images → List ℕ → Type 0) → Type 0
+LeavesWhere Held clock might before now Left = Held → LeavesBetween clock might before now Left

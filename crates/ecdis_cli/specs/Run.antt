@@ -4,7 +4,8 @@ use Rattle.std.specs.Str.Lines.{lines}
 use Rattle.chart_ports.specs.Count.{RoseBy}
 use Rattle.chart_ports.specs.Said.{SaysFront}
 use Rattle.chart_ports.specs.declared.images.Images.{Images}
-use Rattle.chart_store.specs.Images.{Reading, read_of}
+use Rattle.chart_store.specs.Images.{Reading, StandFor, read_of}
+use Rattle.chart_store.specs.Outcome.{after}
 use Rattle.session_core.specs.Fetch.{Files, Fetches}
 use Rattle.session_core.specs.Model.{Model, Portrayal}
 use Rattle.ecdis_cli.specs.declared.run.status.Status.{Status}
@@ -14,7 +15,7 @@ use Rattle.ecdis_cli.specs.Crash.{LeavesPrefix}
 use Rattle.ecdis_cli.specs.WholeLines.{whole_lines}
 use Rattle.ecdis_cli.specs.Limits.{SCRIPT_LIMIT}
 use Rattle.ecdis_cli.specs.Progress.{Moments, SaysUpToLast}
-use Rattle.ecdis_cli.specs.Script.{IsAnswer, failures_in, model_after, output_of, steps_of}
+use Rattle.ecdis_cli.specs.Script.{IsAnswer, commands_in, failures_in, model_after, output_of, steps_of}
 use Rattle.ecdis_cli.specs.Step.{Step}
 
 -- what is around a run: what is left of its script, what was said, how often the shelf has failed, and how many steps
@@ -28,10 +29,14 @@ pub record Outside : Type 0 where
 abbrev pub outside_of : List ℕ → List ℕ → ℕ → ℕ → Outside
 outside_of left said faults count = record { left = left; said = said; faults = faults; count = count }
 
--- what is read of files at the opening, as a model
+-- what is read of files at the opening, as a model: no save is under way
 abbrev pub model_at : Portrayal → Reading → Model
-model_at portrayal opening =
-    record { state = opening.state; room = record { used = opening.used; other = None }; portrayal = portrayal }
+model_at portrayal opening = record {
+  state = opening.state;
+  room = record { used = opening.used; other = None };
+  save = None;
+  portrayal = portrayal;
+}
 
 -- what is read of files that keep a model
 abbrev pub reading_of : Model → Reading
@@ -63,8 +68,9 @@ pub record TakenAreCounted (model : Model) (steps : List Step) (before now : Out
   pub counted : StepsAreCounted model taken before.count now.count
 
 -- The run of a script from a model, by the answers of the shelf, line by line: what it says, how often the shelf
--- failed, which steps are counted, what a crash at any moment leaves, and what one leaves at the end.
-pub record Ran (tells : Bool) (files : Files) (model : Model) (status : Status) (Leaves : Moments)
+-- failed, which steps are counted, what a crash at any moment leaves where the files stood for what is held, and what
+-- one leaves at the end.
+pub record Ran (tells : Bool) (files : Files) (model : Model) (status : Status) (Stood : Type 0) (Leaves : Moments)
     (LeavesElse : Images → List ℕ → Type 0) (MayBeLeft : Images → Type 0) (before now : Outside) : Type 0 where
   pub answers : List Fetches
   pub told : All (IsAnswer tells files) answers
@@ -72,7 +78,9 @@ pub record Ran (tells : Bool) (files : Files) (model : Model) (status : Status) 
   pub says : Says status (λ script. steps_of model script answers) before now
   pub failed : RoseBy (failures_in (steps_of model before.left answers)) before.faults now.faults
   pub counted : TakenAreCounted model (steps_of model before.left answers) before now
-  pub crash : Leaves (λ images so_far. LeavesElse images so_far
+  pub crash : Stood → Leaves (λ images so_far. LeavesElse images so_far
       ⊎ LeavesPrefix model.state (steps_of model before.left answers) before.said images so_far)
   pub end : status ≡ Done → (images : Images) → MayBeLeft images
       → read_of images ≡ Ok (reading_of (model_after model (steps_of model before.left answers)))
+  pub stands : Stood → status ≡ Done → (images : Images) → MayBeLeft images
+      → StandFor images (after model.state (commands_in (steps_of model before.left answers)))

@@ -1,5 +1,7 @@
 -- Where the answering of a script stands.
 use Rattle.std.specs.Prelude.{ℕ, ◌<◌, List, [], Bool}
+use Rattle.chart_ports.specs.Moments.{images_of}
+use Rattle.chart_store.specs.Images.{StandFor}
 use Rattle.chart_store.specs.Store.{count_of}
 use Rattle.session_core.specs.Model.{Model}
 use Rattle.session_core.specs.Session.{IsReady, model_of, store_of}
@@ -30,6 +32,10 @@ standing_of session said faults count number line =
 abbrev pub standing_at : {L D C : Type 0} → (L → ℕ) → (D → List ℕ) → Session → Devices L D C → ℕ → List ℕ → Standing
 standing_at faults said session devices number line =
     standing_of session (said devices.desk.now) (faults devices.shelf.now) devices.steps.now number line
+
+-- what a read of the desk's files gives stands for what the session holds
+abbrev pub Stands : {L D C : Type 0} → (D → ℕ → List ℕ) → Devices L D C → Session → Type 0
+Stands contents devices session = StandFor (images_of (contents devices.desk.now)) (model_of session).state
 
 -- The session is ready for its next turn, and fewer commands were accepted than the number of the line that has begun.
 pub record IsReadyFor {L D C : Type 0} (tells : Bool) (contents : D → ℕ → List ℕ)

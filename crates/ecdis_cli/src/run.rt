@@ -22,7 +22,7 @@ ghost use Rattle.std.specs.Prelude.{IsTrue, length, map, string_bytes, Some, Non
 ghost use Rattle.chart_ports.specs.Count.{IsSteady, Rose, RoseBy};
 ghost use Rattle.chart_ports.specs.Disk.{SameFiles};
 ghost use Rattle.chart_ports.specs.Moments.{LeavesOnly, MayBeLeft, images_of};
-ghost use Rattle.chart_store.specs.Images.{Reading, read_of};
+ghost use Rattle.chart_store.specs.Images.{Reading, StandFor, read_of};
 ghost use Rattle.chart_store.specs.Store.{LeavesBefore, LeavesReading};
 ghost use Rattle.command_words.specs.Reading.{WordsValue, words_of};
 ghost use Rattle.lookup_table.specs.declared.line.TableLine.{TableLine as LineValue};
@@ -40,7 +40,6 @@ use crate::run::opened::run_opened;
 use crate::run::status::Status;
 use crate::run::tables::fetch_tables;
 use chart_ports::{Desk, Shelf, Source, Steps};
-use chart_store::files_that_stand_are_read;
 use command_words::{WordsFault, read_words};
 use session_core::turns_follow_their_commands;
 use std::alloc::Global;
@@ -83,17 +82,20 @@ pub fn run_ecdis<S: Source, L: Shelf, D: Desk, C: Ledger>(
         (script.new ≡ script.old) × (desk.new ≡ desk.old) × (steps.new ≡ steps.old) }
 
     // From files that read as what is held, the output is the replies to the script's lines, all of them where the run
-    // is done and else a front. At every moment a crash leaves files that stand for what the first accepted commands
-    // leave: as many as have a reply that was begun, or one more; or the files as one might have left them at the
-    // start. At the end of a run that is done it leaves what all of them leave. Cells are drawn by the table that was
-    // read and by the settings of the words. The count of steps rises by no more than the data records that the bank's
-    // commands may come to, the features of the charts that are held at the start, and, of each line that is come to,
-    // the data records that it may come to and the names whose records differ after it.
+    // is done and else a front. Where the files stand for what is held, at every moment a crash leaves files that stand
+    // for what the first accepted commands leave: as many as have a reply that was begun, or one more; or the files as
+    // one might have left them at the start. At the end of a run that is done it leaves what stands for what all of
+    // them leave, and what is read of that has the bytes in use that the replies go by, so a save that was replied to
+    // was made. Cells are drawn by the table that was read and by the settings of the words. The count of steps rises
+    // by no more than the data records that the commands in the current bank may come to, the features of the charts
+    // that are held at the start, and, of each line that is come to, the data records that it may come to and the names
+    // whose records differ after it.
     ensures ran { IsTrue S.tells → IsTrue D.tells → (opening : Reading) →
         read_of (images_of (D.contents desk.old)) ≡ Ok opening →
         (portrayal : Portrayal)
         × IsPortrayal L.tells (L.files shelf.old) (words_of (map string_bytes words.now)) portrayal
         × Ran L.tells (L.files shelf.old) (model_at portrayal opening) result
+        (StandFor (images_of (D.contents desk.old)) opening.state)
         (λ P. LeavesOnly D.clock D.might desk.old desk.new P) (LeavesBefore (D.may_leave desk.old) (D.said desk.old))
         (MayBeLeft (D.may_leave desk.new))
         (outside_of (S.left script.old) (D.said desk.old) (L.faults shelf.old)
@@ -106,7 +108,7 @@ pub fn run_ecdis<S: Source, L: Shelf, D: Desk, C: Ledger>(
     ensures short { IsTrue S.tells → result ≡ Status.Done → length (S.left script.old) ≤ SCRIPT_LIMIT }
 
     // Where the files are no store's, nothing is read of the script, nothing said and no more counted than the bank's
-    // data records, however the run ends, and at every moment a crash leaves files that read the same, or as one might
+    // data records, however the run ends, and at every moment a crash leaves files that say the same, or as one might
     // have left them at the start; it ends for them unless the disk fails or memory runs out, and then they are left as
     // they were.
     ensures foreign { (bank at : ℕ) → IsTrue D.tells → result ≡ Status.Foreign bank at →
@@ -150,7 +152,6 @@ pub fn run_ecdis<S: Source, L: Shelf, D: Desk, C: Ledger>(
         IsSteady (S.faults script.old) (S.faults script.new) → IsSteady (D.faults desk.old) (D.faults desk.new) →
         (result ≡ Status.Done) ⊎ ((result ≡ Status.ShelfFault) ⊎ (result ≡ Status.NoMemory)) }
 {
-    files_that_stand_are_read();
     turns_follow_their_commands();
     let words = match read_words(alloc, words) {
         Ok(words) => words,

@@ -1,5 +1,6 @@
-//! Turns, what is kept beside the charts, and the replies to refusals.
+//! Turns, saves among them, what is kept beside the charts, and the replies to refusals.
 
 mod kept;
 mod refusals;
+mod saves;
 mod turns;

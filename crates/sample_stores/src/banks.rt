@@ -18,3 +18,26 @@ pub const EXTENDS: &[u8] = b"\x01\0\0\x02\x80\x01";
 
 /// The record of a drop, of 14 bytes.
 pub const DROPS: &[u8] = b"\x01\0\0\0\x09\x03AA5TEST1";
+
+/// The layout and the length of a checkpoint of no cell, and that checkpoint: a count of 0 in eight bytes.
+pub const NO_CELL: &[u8] = b"\0\0\0\0\0\0\0\x08\0\0\0\0\0\0\0\0";
+
+/// The layout, and the length of a checkpoint of 50 bytes.
+pub const FIFTY: &[u8] = b"\0\0\0\0\0\0\0\x32";
+
+/// A checkpoint of 50 bytes in pieces: a count of 1 cell and its key, of 24 bytes; edition 1 and update 0, of 8; a flag
+/// that it is cancelled; and a count of 1 file with that file, of 17 bytes: the one byte 0. So it has no chart, and no
+/// commands left it.
+pub const ONE_CELL: &[u8] = b"\0\0\0\0\0\0\0\x01\0\0\0\0\0\0\0\x08AA5TEST1";
+
+/// The numbers of the cell.
+pub const NUMBERS: &[u8] = b"\0\0\0\x01\0\0\0\0";
+
+/// The flag of a cell that is cancelled.
+pub const CANCELLED: &[u8] = b"\x01";
+
+/// The file of the cell.
+pub const ONE_FILE: &[u8] = b"\0\0\0\0\0\0\0\x01\0\0\0\0\0\0\0\x01\0";
+
+/// The record of a rollback to update 0, of 18 bytes.
+pub const ROLLS: &[u8] = b"\x01\0\0\0\x0d\x02\0\0\0\0AA5TEST1";

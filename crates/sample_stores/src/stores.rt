@@ -111,10 +111,20 @@ pub fn failing_desk(alloc: Global, call: u64) -> Result<MemoryDesk, AllocError> 
 
 /// Files with these bytes, the second bank empty.
 pub fn images(alloc: Global, head: &[u8], bank: &[u8]) -> Result<Images, AllocError> {
+    both_banks(alloc, head, bank, &[])
+}
+
+/// Files with these bytes.
+pub fn both_banks(
+    alloc: Global,
+    head: &[u8],
+    first: &[u8],
+    second: &[u8],
+) -> Result<Images, AllocError> {
     Ok(Images {
         head: FileBytes::from_vec(head.to_vec(alloc)?),
-        bank1: FileBytes::from_vec(bank.to_vec(alloc)?),
-        bank2: FileBytes::from_vec(Vec::new(alloc)),
+        bank1: FileBytes::from_vec(first.to_vec(alloc)?),
+        bank2: FileBytes::from_vec(second.to_vec(alloc)?),
     })
 }
 

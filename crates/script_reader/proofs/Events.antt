@@ -1,5 +1,5 @@
 -- A line is read as it is spelled.
-use Rattle.std.proofs.Common.{◌≡◌, ℕ, ◌≤◌, Bool, true, false, cond, ◌&&◌, List, [], ◌∷◌, ◌++◌, length, Option, Some, None, refl, sym, ap, ◌∙◌, subst, inl, inr, arith, length-append}
+use Rattle.std.proofs.Common.{◌≡◌, ℕ, ◌≤◌, nat_le, Bool, true, false, cond, ◌&&◌, List, [], ◌∷◌, ◌++◌, length, Option, Some, None, refl, sym, ap, ◌∙◌, subst, inl, inr, arith, length-append}
 use Rattle.std.specs.Prelude.{codes, Result, Ok, Err, OnErr}
 use Rattle.std.specs.Option.{SomeIff}
 use Rattle.std.specs.List.{join_with_byte}
@@ -14,10 +14,10 @@ use Rattle.text_scan.specs.Number.{value_of}
 use Rattle.script_reader.specs.Word.{IsWord, is_word}
 use Rattle.script_reader.specs.Number.{IsShortNumber, is_short_number}
 use Rattle.script_reader.specs.declared.event.Event.{Event}
-use Rattle.script_reader.specs.declared.event.Event.TheVariants.{Info, Load, Rollback, Drop, Cells, Draw, Route, Make, Reissue}
+use Rattle.script_reader.specs.declared.event.Event.TheVariants.{Info, Load, Rollback, Drop, Cells, Draw, Route, Save, SaveStep, Make, Reissue}
 use Rattle.script_reader.specs.Line.{AreInRange, AskFor, CanBeMade, NamesFile, Spells}
-use Rattle.script_reader.specs.Reading.{info_in, load_in, rollback_in, drop_in, draw_in, route_in, can_be_made, make_with, make_in, reissue_in, event_alone, event_with_one, event_with_two, event_of}
-use Rattle.script_reader.proofs.WordTests.{KeysAreTested, Decides-word, Decides-short, Decides-made, no_short}
+use Rattle.script_reader.specs.Reading.{info_in, load_in, rollback_in, drop_in, draw_in, route_in, save_step_with, save_step_in, can_be_made, make_with, make_in, reissue_in, event_alone, event_with_one, event_with_two, event_of}
+use Rattle.script_reader.proofs.WordTests.{KeysAreTested, Decides-word, Decides-short, Decides-some, Decides-made, no_short}
 use Rattle.text_lines.specs.Lines.{words_of}
 use Rattle.text_lines.proofs.Parting.{digits_lack, one_part}
 use Rattle.script_reader.proofs.Parting.{visible_lack, tested_lack, split_two, split_three}
@@ -62,6 +62,22 @@ found_reissue tested verb word event v e =
     let t = taken (is_key word) (Reissue word) event e in
     subst (λ (x : Event). AskFor x (verb ∷ word ∷ [])) t.1 (ap (λ (l : List ℕ). l ∷ word ∷ []) v, (tested word).0 t.0)
 
+found_save_step : (verb word : List ℕ) (event : Event) → verb ≡ codes "save-step" → save_step_in word ≡ Some event → AskFor event (verb ∷ word ∷ [])
+found_save_step verb word event v e =
+    elim (chosen (is_short_number word) (save_step_with (value_of word)) None (Some event) e) [
+      | inl h ↦
+          let t = taken (nat_le 1 (value_of word)) (SaveStep (value_of word)) event h.1 in
+          subst (λ (x : Event). AskFor x (verb ∷ word ∷ [])) t.1
+          (record {
+            digits = word;
+            spoken = ap (λ (l : List ℕ). l ∷ word ∷ []) v;
+            short = (Decides-short word).0 h.0;
+            value = refl;
+            some = (Decides-some (value_of word)).0 t.0;
+          })
+      | inr h ↦ absurd (let none = h.1 in cc)
+    ]
+
 found_make : (verb areas update : List ℕ) (event : Event) → verb ≡ codes "make" → make_in areas update ≡ Some event → AskFor event (verb ∷ areas ∷ update ∷ [])
 found_make verb areas update event v e =
     elim (chosen (is_short_number areas && is_short_number update) (make_with (value_of areas) (value_of update)) None (Some event) e) [
@@ -98,8 +114,13 @@ found_rollback tested verb cell digits event v e =
 
 found_alone : (verb : List ℕ) (event : Event) → event_alone verb ≡ Some event → AskFor event (verb ∷ [])
 found_alone verb event e =
-    let t = taken (bytes_eq verb (codes "cells")) Cells event e in
-    subst (λ (x : Event). AskFor x (verb ∷ [])) t.1 (ap (λ (l : List ℕ). l ∷ []) (is_verb verb (codes "cells") t.0))
+    elim (chosen (bytes_eq verb (codes "cells")) (Some Cells) _ (Some event) e) [
+      | inl h ↦
+          subst (λ (x : Event). AskFor x (verb ∷ [])) (some_is Cells event h.1) (ap (λ (l : List ℕ). l ∷ []) (is_verb verb (codes "cells") h.0))
+      | inr h ↦
+          let t = taken (bytes_eq verb (codes "save")) Save event h.1 in
+          subst (λ (x : Event). AskFor x (verb ∷ [])) t.1 (ap (λ (l : List ℕ). l ∷ []) (is_verb verb (codes "save") t.0))
+    ]
 
 found_with_one : KeysAreTested → (verb word : List ℕ) (event : Event) → event_with_one verb word ≡ Some event → AskFor event (verb ∷ word ∷ [])
 found_with_one tested verb word event e =
@@ -113,9 +134,12 @@ found_with_one tested verb word event e =
             | inl k ↦ found_draw tested verb word event (is_verb verb (codes "draw") k.0) k.1
             | inr k ↦ elim (chosen (bytes_eq verb (codes "route")) (route_in word) _ (Some event) k.1) [
               | inl l ↦ found_route verb word event (is_verb verb (codes "route") l.0) l.1
-              | inr l ↦ elim (chosen (bytes_eq verb (codes "reissue")) (reissue_in word) None (Some event) l.1) [
+              | inr l ↦ elim (chosen (bytes_eq verb (codes "reissue")) (reissue_in word) _ (Some event) l.1) [
                 | inl m ↦ found_reissue tested verb word event (is_verb verb (codes "reissue") m.0) m.1
-                | inr m ↦ absurd (let none = m.1 in cc)
+                | inr m ↦ elim (chosen (bytes_eq verb (codes "save-step")) (save_step_in word) None (Some event) m.1) [
+                  | inl n ↦ found_save_step verb word event (is_verb verb (codes "save-step") n.0) n.1
+                  | inr n ↦ absurd (let none = n.1 in cc)
+                ]
               ]
             ]
           ]
@@ -151,6 +175,9 @@ found tested line event e = record {
 
 -- ---- from what is asked for to words
 
+save_step_again : (slices : ℕ) (digits : List ℕ) → IsShortNumber digits → slices ≡ value_of digits → 1 ≤ slices → save_step_in digits ≡ Some (SaveStep slices)
+save_step_again slices digits short is some = rw ((Decides-short digits).1 short, sym is, (Decides-some slices).1 some) refl
+
 make_again : (areas update : ℕ) (area_digits update_digits : List ℕ) → IsShortNumber area_digits → IsShortNumber update_digits
     → areas ≡ value_of area_digits → update ≡ value_of update_digits → CanBeMade areas update → make_in area_digits update_digits ≡ Some (Make areas update)
 make_again areas update area_digits update_digits a u is of m =
@@ -165,6 +192,8 @@ asked_again tested (Rollback cell update) words a =
 asked_again tested (Drop cell) words a = ap event_of a.0 ∙ rw ((tested cell).1 a.1) refl
 asked_again tested (Draw cell) words a = ap event_of a.0 ∙ rw ((tested cell).1 a.1) refl
 asked_again tested (Route name) words a = ap event_of a.0 ∙ rw ((Decides-word name).1 a.1) refl
+asked_again tested Save words a = ap event_of a
+asked_again tested (SaveStep slices) words a = ap event_of a.spoken ∙ save_step_again slices a.digits a.short a.value a.some
 asked_again tested (Make areas update) words a =
     ap event_of a.spoken ∙ make_again areas update a.area_digits a.update_digits a.areas_short a.update_short a.areas_value a.update_value a.ranges
 asked_again tested (Reissue cell) words a = ap event_of a.0 ∙ rw ((tested cell).1 a.1) refl
@@ -190,6 +219,11 @@ split_again (Draw cell) words a =
 split_again (Route name) words a =
     ap (λ (w : List (List ℕ)). words_of (join_with_byte 32 w)) a.0
     ∙ split_two (codes "route") name (tested_lack (codes "route") refl) (visible_lack name a.1.visible) ∙ sym a.0
+split_again Save words a =
+    ap (λ (w : List (List ℕ)). words_of (join_with_byte 32 w)) a ∙ one_part 32 (codes "save") (tested_lack (codes "save") refl) ∙ sym a
+split_again (SaveStep slices) words a =
+    ap (λ (w : List (List ℕ)). words_of (join_with_byte 32 w)) a.spoken
+    ∙ split_two (codes "save-step") a.digits (tested_lack (codes "save-step") refl) (digits_lack a.digits a.short.0.1) ∙ sym a.spoken
 split_again (Make areas update) words a =
     ap (λ (w : List (List ℕ)). words_of (join_with_byte 32 w)) a.spoken
     ∙ split_three (codes "make") a.area_digits a.update_digits (tested_lack (codes "make") refl) (digits_lack a.area_digits a.areas_short.0.1) (digits_lack a.update_digits a.update_short.0.1)
@@ -245,6 +279,12 @@ rollback_missed cell digits other =
       | false ↦ refl
     ]
 
+pub save_step_read : (digits : List ℕ) (number : ℕ) → IsShortNumber digits → number ≡ value_of digits → save_step_with number ≡ save_step_in digits
+save_step_read digits number short is = rw (is, (Decides-short digits).1 short) refl
+
+pub save_step_missed : (digits : List ℕ) → ¬ IsShortNumber digits → None ≡ save_step_in digits
+save_step_missed digits other = rw (no_short digits other) refl
+
 pub make_read : (areas update : List ℕ) (number other : ℕ) → IsShortNumber areas → number ≡ value_of areas → IsShortNumber update → other ≡ value_of update
     → make_with number other ≡ make_in areas update
 make_read areas update number other a is u of = rw (is, of, (Decides-short areas).1 a, (Decides-short update).1 u) refl
@@ -289,6 +329,9 @@ asked_short (Draw cell) words a =
     omega (arith, ap (λ (w : List (List ℕ)). length (join_with_byte 32 w)) a.0, length-append (codes "draw") (32 ∷ cell), a.1.short)
 asked_short (Route name) words a =
     omega (arith, ap (λ (w : List (List ℕ)). length (join_with_byte 32 w)) a.0, length-append (codes "route") (32 ∷ name), a.1.short)
+asked_short Save words a = omega (arith, ap (λ (w : List (List ℕ)). length (join_with_byte 32 w)) a)
+asked_short (SaveStep slices) words a =
+    omega (arith, ap (λ (w : List (List ℕ)). length (join_with_byte 32 w)) a.spoken, length-append (codes "save-step") (32 ∷ a.digits), a.short.1)
 asked_short (Make areas update) words a =
     omega (arith, ap (λ (w : List (List ℕ)). length (join_with_byte 32 w)) a.spoken, length-append (codes "make") (32 ∷ (a.area_digits ++ 32 ∷ a.update_digits)), length-append a.area_digits (32 ∷ a.update_digits), a.areas_short.1, a.update_short.1)
 asked_short (Reissue cell) words a =
@@ -307,6 +350,8 @@ asked_in_range (Drop cell) words a = tt
 asked_in_range Cells words a = tt
 asked_in_range (Draw cell) words a = tt
 asked_in_range (Route name) words a = tt
+asked_in_range Save words a = tt
+asked_in_range (SaveStep slices) words a = a.some
 asked_in_range (Make areas update) words a = a.ranges
 asked_in_range (Reissue cell) words a = tt
 

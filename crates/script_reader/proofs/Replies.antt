@@ -2,7 +2,7 @@
 use Rattle.std.proofs.Common.{ℕ, ◌<◌, List, [], ◌∷◌, ◌++◌, codes, length, length-append, arith}
 use Rattle.script_reader.specs.Reply.{line_of, number, bytes_of_reply, words_if}
 use Rattle.script_reader.specs.declared.reply.Reply.{Reply}
-use Rattle.script_reader.specs.declared.reply.Reply.TheVariants.{Info, Load, Cancel, Rollback, Drop, Cells, Draw, Route, Make, Reissue, Refused}
+use Rattle.script_reader.specs.declared.reply.Reply.TheVariants.{Info, Load, Cancel, Rollback, Drop, Cells, Draw, Route, Save, SaveStep, Saved, Make, Reissue, Refused}
 
 -- a line has its line feed at least, whatever follows it
 line-spoken : (words : List (List ℕ)) → 0 < length (line_of words)
@@ -24,6 +24,9 @@ reply-spoken (Drop key) = line-spoken (codes "ok" ∷ codes "drop" ∷ key ∷ [
 reply-spoken (Cells count lines) = lines-spoken (codes "ok" ∷ codes "cells" ∷ number count ∷ []) lines
 reply-spoken (Draw key count lines) = lines-spoken (codes "ok" ∷ codes "draw" ∷ key ∷ number count ∷ []) lines
 reply-spoken (Route legs count lines) = lines-spoken (codes "ok" ∷ codes "route" ∷ number legs ∷ number count ∷ []) lines
+reply-spoken (Save slices) = line-spoken (codes "ok" ∷ codes "save" ∷ number slices ∷ [])
+reply-spoken (SaveStep done slices) = line-spoken (codes "ok" ∷ codes "save-step" ∷ number done ∷ number slices ∷ [])
+reply-spoken Saved = line-spoken (codes "ok" ∷ codes "saved" ∷ [])
 reply-spoken (Make key edition update records) =
     line-spoken (codes "ok" ∷ codes "make" ∷ key ∷ number edition ∷ number update ∷ number records ∷ [])
 reply-spoken (Reissue key edition update) =

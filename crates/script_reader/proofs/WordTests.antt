@@ -1,5 +1,5 @@
 -- What the tests of words and numbers tell.
-use Rattle.std.proofs.Common.{◌≡◌, ℕ, ◌<◌, ◌^◌, true, false, nat_le, ◌&&◌, ◌↔◌, List, length, arith}
+use Rattle.std.proofs.Common.{◌≡◌, ℕ, ◌<◌, ◌≤◌, ◌^◌, true, false, nat_le, ◌&&◌, ◌↔◌, List, length, arith}
 use Rattle.std.specs.Bool.{Decides}
 use Rattle.std.specs.List.{All}
 use Rattle.std.specs.Str.{all_ascii_digits, IsUtf8}
@@ -49,6 +49,9 @@ Decides-short text =
     (λ h. ((omega (arith, h.0), h.1.1), h.1.0))
     (λ n. (omega (arith, n.0.0), (n.1, n.0.1)))
     (Decides-and (nat_le 1 (length text)) (nat_le (length text) 9 && all_ascii_digits text) (Decides-le 1 (length text)) few)
+
+pub Decides-some : (number : ℕ) → Decides (nat_le 1 number) (1 ≤ number)
+Decides-some number = Decides-le 1 number
 
 pub Decides-made : (areas update : ℕ) → Decides (can_be_made areas update) (CanBeMade areas update)
 Decides-made areas update =

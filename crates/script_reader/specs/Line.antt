@@ -9,7 +9,7 @@ use Rattle.script_reader.specs.Word.{IsWord}
 use Rattle.script_reader.specs.Number.{IsShortNumber}
 use Rattle.script_reader.specs.declared.event.Event.{Event}
 use Rattle.script_reader.specs.declared.event.Event.TheVariants.{Info, Load, Rollback, Drop, Cells, Draw, Route}
-use Rattle.script_reader.specs.declared.event.Event.TheVariants.{Make, Reissue}
+use Rattle.script_reader.specs.declared.event.Event.TheVariants.{Save, SaveStep, Make, Reissue}
 
 -- `rollback`, a cell and the digits of an update's number
 pub record AskForRollback (cell : List ℕ) (update : ℕ) (words : List (List ℕ)) : Type 0 where
@@ -18,6 +18,14 @@ pub record AskForRollback (cell : List ℕ) (update : ℕ) (words : List (List �
   pub key : IsKey cell
   pub short : IsShortNumber digits
   pub value : update ≡ value_of digits
+
+-- `save-step` and the digits of a number of slices, 1 at least
+pub record AskForSaveStep (slices : ℕ) (words : List (List ℕ)) : Type 0 where
+  pub digits : List ℕ
+  pub spoken : words ≡ codes "save-step" ∷ digits ∷ []
+  pub short : IsShortNumber digits
+  pub value : slices ≡ value_of digits
+  pub some : 1 ≤ slices
 
 -- so many areas, 1 to 20,000, and the number of an update, up to 999, where 0 is the base file
 pub record CanBeMade (areas update : ℕ) : Type 0 where
@@ -44,6 +52,8 @@ AskFor (Drop cell) words = (words ≡ codes "drop" ∷ cell ∷ []) × IsKey cel
 AskFor Cells words = words ≡ codes "cells" ∷ []
 AskFor (Draw cell) words = (words ≡ codes "draw" ∷ cell ∷ []) × IsKey cell
 AskFor (Route name) words = (words ≡ codes "route" ∷ name ∷ []) × IsWord name
+AskFor Save words = words ≡ codes "save" ∷ []
+AskFor (SaveStep slices) words = AskForSaveStep slices words
 AskFor (Make areas update) words = AskForMake areas update words
 AskFor (Reissue cell) words = (words ≡ codes "reissue" ∷ cell ∷ []) × IsKey cell
 
@@ -56,6 +66,8 @@ NamesFile (Drop cell) = ⊥
 NamesFile Cells = ⊥
 NamesFile (Draw cell) = ⊥
 NamesFile (Route name) = ⊤
+NamesFile Save = ⊥
+NamesFile (SaveStep slices) = ⊥
 NamesFile (Make areas update) = ⊥
 NamesFile (Reissue cell) = ⊥
 
@@ -68,6 +80,8 @@ AreInRange (Drop cell) = ⊤
 AreInRange Cells = ⊤
 AreInRange (Draw cell) = ⊤
 AreInRange (Route name) = ⊤
+AreInRange Save = ⊤
+AreInRange (SaveStep slices) = 1 ≤ slices
 AreInRange (Make areas update) = CanBeMade areas update
 AreInRange (Reissue cell) = ⊤
 

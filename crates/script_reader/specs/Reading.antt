@@ -9,7 +9,7 @@ use Rattle.script_reader.specs.Word.{is_word}
 use Rattle.script_reader.specs.Number.{is_short_number}
 use Rattle.script_reader.specs.declared.event.Event.{Event}
 use Rattle.script_reader.specs.declared.event.Event.TheVariants.{Info, Load, Rollback, Drop, Cells, Draw, Route}
-use Rattle.script_reader.specs.declared.event.Event.TheVariants.{Make, Reissue}
+use Rattle.script_reader.specs.declared.event.Event.TheVariants.{Save, SaveStep, Make, Reissue}
 use Rattle.script_reader.specs.declared.fault.LineFault.{LineFault}
 use Rattle.script_reader.specs.Line.{NamesFile}
 use Rattle.script_reader.specs.declared.fault.LineFault.TheVariants.{BadLine, NoMemory}
@@ -34,6 +34,12 @@ draw_in cell = if is_key cell then Some (Draw cell) else None
 abbrev pub route_in : List ℕ → Option Event
 route_in name = if is_word name then Some (Route name) else None
 
+abbrev pub save_step_with : ℕ → Option Event
+save_step_with slices = if nat_le 1 slices then Some (SaveStep slices) else None
+
+abbrev pub save_step_in : List ℕ → Option Event
+save_step_in digits = if is_short_number digits then save_step_with (value_of digits) else None
+
 abbrev pub can_be_made : ℕ → ℕ → Bool
 can_be_made areas update = nat_le 1 areas && (nat_le areas 20000 && nat_le update 999)
 
@@ -49,7 +55,10 @@ reissue_in cell = if is_key cell then Some (Reissue cell) else None
 
 -- a verb that takes no word, one word, or two
 abbrev pub event_alone : List ℕ → Option Event
-event_alone verb = if bytes_eq verb (codes "cells") then Some Cells else None
+event_alone verb =
+    if bytes_eq verb (codes "cells") then Some Cells
+    else if bytes_eq verb (codes "save") then Some Save
+    else None
 
 abbrev pub event_with_one : List ℕ → List ℕ → Option Event
 event_with_one verb word =
@@ -59,6 +68,7 @@ event_with_one verb word =
     else if bytes_eq verb (codes "draw") then draw_in word
     else if bytes_eq verb (codes "route") then route_in word
     else if bytes_eq verb (codes "reissue") then reissue_in word
+    else if bytes_eq verb (codes "save-step") then save_step_in word
     else None
 
 abbrev pub event_with_two : List ℕ → List ℕ → List ℕ → Option Event

@@ -4,7 +4,7 @@ use Rattle.std.specs.List.{join_with_byte}
 use Rattle.text_scan.specs.Written.{decimal_of}
 use Rattle.script_reader.specs.declared.reply.Reply.{Reply}
 use Rattle.script_reader.specs.declared.reply.Reply.TheVariants.{Info, Load, Cancel, Rollback, Drop, Cells, Draw}
-use Rattle.script_reader.specs.declared.reply.Reply.TheVariants.{Route, Make, Reissue, Refused}
+use Rattle.script_reader.specs.declared.reply.Reply.TheVariants.{Route, Save, SaveStep, Saved, Make, Reissue, Refused}
 
 -- the decimal text of a number
 abbrev pub number : ℕ → List ℕ
@@ -32,6 +32,10 @@ bytes_of_reply (Cells count lines) = line_of (codes "ok" ∷ codes "cells" ∷ n
 bytes_of_reply (Draw key count lines) = line_of (codes "ok" ∷ codes "draw" ∷ key ∷ number count ∷ []) ++ lines
 bytes_of_reply (Route legs count lines) =
     line_of (codes "ok" ∷ codes "route" ∷ number legs ∷ number count ∷ []) ++ lines
+bytes_of_reply (Save slices) = line_of (codes "ok" ∷ codes "save" ∷ number slices ∷ [])
+bytes_of_reply (SaveStep done slices) =
+    line_of (codes "ok" ∷ codes "save-step" ∷ number done ∷ number slices ∷ [])
+bytes_of_reply Saved = line_of (codes "ok" ∷ codes "saved" ∷ [])
 bytes_of_reply (Make key edition update records) =
     line_of (codes "ok" ∷ codes "make" ∷ key ∷ number edition ∷ number update ∷ number records ∷ [])
 bytes_of_reply (Reissue key edition update) =

@@ -7,7 +7,7 @@ ghost use Rattle.script_reader.specs.declared.event.Event.{Event as EventValue};
 ghost use Rattle.script_reader.specs.declared.event.Event.TheVariants.{Info, Load, Route};
 ghost use Rattle.script_reader.specs.Line.{NamesFile};
 ghost use Rattle.script_reader.specs.Reading.{info_in, load_in, rollback_in, drop_in, draw_in, route_in};
-ghost use Rattle.script_reader.specs.Reading.{make_in, make_with, reissue_in};
+ghost use Rattle.script_reader.specs.Reading.{make_in, make_with, reissue_in, save_step_in, save_step_with};
 ghost use Rattle.script_reader.specs.Reading.{event_alone, event_with_one, event_with_two, event_of};
 ghost use Rattle.text_lines.specs.Lines.{words_of};
 
@@ -40,6 +40,10 @@ pub enum Event {
     Draw(Key),
     /// The dangers along the route of the file of this name are listed.
     Route(Word),
+    /// What is held is to be saved as it is now.
+    Save,
+    /// The next slices of the save are written, so many, 1 at least, or those that are left.
+    SaveStep(u32),
     /// A file is made and taken over: of the cell for trials with so many areas, 1 to 20,000, the base file where the
     /// second number is 0, or else its update of this number, 1 to 999.
     Make(u32, u32),
@@ -53,6 +57,8 @@ fn event_alone(verb: &[u8]) -> Option<Event>
 {
     if verb == b"cells".as_slice() {
         Some(Event::Cells)
+    } else if verb == b"save".as_slice() {
+        Some(Event::Save)
     } else {
         None
     }
@@ -119,6 +125,25 @@ fn route_of(alloc: Global, word: &[u8]) -> Result<Option<Event>, AllocError>
     }
 }
 
+/// So many slices, where they are 1 at least.
+fn save_step_with(slices: u32) -> Option<Event>
+    ensures { result ≡ save_step_with slices }
+{
+    if 1 <= slices {
+        Some(Event::SaveStep(slices))
+    } else {
+        None
+    }
+}
+
+/// `save-step` and a number of slices.
+fn save_step_of(slices: &[u8]) -> Option<Event>
+    ensures { result ≡ save_step_in slices.now }
+{
+    let slices = read_short(slices)?;
+    save_step_with(slices)
+}
+
 /// So many areas and the number of an update, where there is such a file.
 fn make_with(areas: u32, update: u32) -> Option<Event>
     ensures { result ≡ make_with areas update }
@@ -166,6 +191,8 @@ fn event_with_one(alloc: Global, verb: &[u8], word: &[u8]) -> Result<Option<Even
         route_of(alloc, word)
     } else if verb == b"reissue".as_slice() {
         Ok(reissue_of(word))
+    } else if verb == b"save-step".as_slice() {
+        Ok(save_step_of(word))
     } else {
         Ok(None)
     }

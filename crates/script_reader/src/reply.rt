@@ -30,6 +30,12 @@ pub enum Reply {
     /// So many legs of a route were checked, and so many dangers lie along them, with the lines that follow, each ended
     /// by a line feed.
     Route(u64, u64, Octets),
+    /// What was held then is saved in so many slices.
+    Save(u32),
+    /// So many slices of the save are written, of so many.
+    SaveStep(u32, u32),
+    /// All slices of the save are written, and the store goes on from it.
+    Saved,
     /// A file of this cell was made and taken over: the edition and the update that are held now, and the number of the
     /// file's data records.
     Make(Key, u32, u32, u64),
@@ -138,6 +144,37 @@ fn print_route(alloc: Global, legs: u64, count: u64, lines: &Octets) -> Result<O
     Ok(line)
 }
 
+/// The line of the number of slices of a save that has begun.
+fn print_save(alloc: Global, slices: u32) -> Result<Octets, AllocError>
+    ensures { IfOk result (λ line. line ≡ line_of (codes "ok" ∷ codes "save" ∷ number slices ∷ [])) }
+{
+    let mut line = accepted(alloc, b"save")?;
+    push_number(alloc, &mut line, slices as u64)?;
+    end_line(&mut line)?;
+    Ok(line)
+}
+
+/// The line of the number of slices of a save that are written, and of all.
+fn print_save_step(alloc: Global, done: u32, slices: u32) -> Result<Octets, AllocError>
+    ensures { IfOk result (λ line. line
+        ≡ line_of (codes "ok" ∷ codes "save-step" ∷ number done ∷ number slices ∷ [])) }
+{
+    let mut line = accepted(alloc, b"save-step")?;
+    push_number(alloc, &mut line, done as u64)?;
+    push_number(alloc, &mut line, slices as u64)?;
+    end_line(&mut line)?;
+    Ok(line)
+}
+
+/// The line of a save that is done.
+fn print_saved(alloc: Global) -> Result<Octets, AllocError>
+    ensures { IfOk result (λ line. line ≡ line_of (codes "ok" ∷ codes "saved" ∷ [])) }
+{
+    let mut line = accepted(alloc, b"saved")?;
+    end_line(&mut line)?;
+    Ok(line)
+}
+
 /// The line of a refusal.
 fn print_refusal(alloc: Global, code: u8, values: &Octets) -> Result<Octets, AllocError>
     ensures { IfOk result (λ line. line ≡ line_of (codes "no" ∷ number code ∷ words_if values.now)) }
@@ -172,6 +209,9 @@ pub fn print_reply(alloc: Global, reply: &Reply) -> Result<Octets, AllocError>
         Reply::Cells(count, lines) => print_cells(alloc, *count, lines),
         Reply::Draw(key, count, lines) => print_drawing(alloc, key, *count, lines),
         Reply::Route(legs, count, lines) => print_route(alloc, *legs, *count, lines),
+        Reply::Save(slices) => print_save(alloc, *slices),
+        Reply::SaveStep(done, slices) => print_save_step(alloc, *done, *slices),
+        Reply::Saved => print_saved(alloc),
         Reply::Make(key, edition, update, records) => {
             print_file(alloc, b"make", key, *edition, *update, *records)
         }

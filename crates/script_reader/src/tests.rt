@@ -30,6 +30,8 @@ fn shown(alloc: Global, event: &Event) -> Result<Vec<u8>, AllocError> {
             Ok(text)
         }
         Event::Route(name) => Ok(format!(in alloc; "route {}", name.as_str())?.into_bytes()),
+        Event::Save => Vec::from_slice(alloc, b"save"),
+        Event::SaveStep(slices) => Ok(format!(in alloc; "save {slices} more")?.into_bytes()),
         Event::Make(areas, update) => {
             Ok(format!(in alloc; "make {areas} and {update}")?.into_bytes())
         }
@@ -61,7 +63,7 @@ fn with_letters(alloc: Global, front: &[u8], count: usize) -> Result<Vec<u8>, Al
 }
 
 /// A line, and what it is read as.
-static LINES: [(&[u8], &[u8]); 62] = [
+static LINES: [(&[u8], &[u8]); 73] = [
     (b"", b"nothing"),
     (b"#", b"nothing"),
     (b"# cells", b"nothing"),
@@ -87,6 +89,10 @@ static LINES: [(&[u8], &[u8]); 62] = [
     (b"make 000000100 000000007", b"make 100 and 7"),
     (b"reissue AA5TEST1", b"reissue AA5TEST1"),
     (b"reissue 1", b"reissue 1"),
+    (b"save", b"save"),
+    (b"save-step 1", b"save 1 more"),
+    (b"save-step 000000017", b"save 17 more"),
+    (b"save-step 999999999", b"save 999999999 more"),
     // no words, or not these
     (b" ", b"bad 7"),
     (b"\r", b"bad 7"),
@@ -123,6 +129,13 @@ static LINES: [(&[u8], &[u8]); 62] = [
     (b"reissue", b"bad 7"),
     (b"reissue X 1", b"bad 7"),
     (b"reissue 123456789012345678901234567890123", b"bad 7"),
+    (b"save 1", b"bad 7"),
+    (b"saved", b"bad 7"),
+    (b"save-step", b"bad 7"),
+    (b"save-step 0", b"bad 7"),
+    (b"save-step 0000000001", b"bad 7"),
+    (b"save-step 1 1", b"bad 7"),
+    (b"save_step 1", b"bad 7"),
     (b"rollback X", b"bad 7"),
     (b"rollback X 1234567890", b"bad 7"),
     (b"rollback X +1", b"bad 7"),
@@ -174,7 +187,7 @@ fn octets(alloc: Global, text: &[u8]) -> Result<Octets, AllocError> {
 #[test]
 fn replies(rt: HostRuntime) -> Result<(), Fail> {
     let key = Key::from_bytes(b"AA5TEST1").ok_or("a key")?;
-    let cases: [(Reply, &[u8]); 7] = [
+    let cases: [(Reply, &[u8]); 10] = [
         (
             Reply::Info(key, 1, 2, 18_446_744_073_709_551_615),
             b"ok info AA5TEST1 1 2 18446744073709551615\n",
@@ -186,6 +199,12 @@ fn replies(rt: HostRuntime) -> Result<(), Fail> {
             b"ok rollback AA5TEST1 3 4294967295\n",
         ),
         (Reply::Drop(key), b"ok drop AA5TEST1\n"),
+        (Reply::Save(17), b"ok save 17\n"),
+        (
+            Reply::SaveStep(16, 4_294_967_295),
+            b"ok save-step 16 4294967295\n",
+        ),
+        (Reply::Saved, b"ok saved\n"),
         (Reply::Make(key, 1, 10, 435), b"ok make AA5TEST1 1 10 435\n"),
         (Reply::Reissue(key, 1, 2), b"ok reissue AA5TEST1 1 2\n"),
     ];

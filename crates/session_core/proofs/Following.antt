@@ -1,5 +1,5 @@
 -- What turns follow from.
-use Rattle.std.proofs.Common.{◌≡◌, ℕ, zero, suc, true, false, cond, List, length, Option, Some, None, Result, Ok, Err, refl, sym, ◌∙◌, ap, subst, arith}
+use Rattle.std.proofs.Common.{◌≡◌, ℕ, zero, suc, ◌+◌, Bool, true, false, cond, List, length, Option, Some, None, Result, Ok, Err, refl, sym, ◌∙◌, ap, subst, arith}
 use Rattle.chart_model.specs.Answers.{◌>>=◌, or_fault, or_fault_as}
 use Rattle.chart_model.specs.Cell.{CellValue}
 use Rattle.chart_model.specs.State.{StateValue}
@@ -31,7 +31,7 @@ use Rattle.update_sequence.specs.Info.{info_in}
 use Rattle.session_core.specs.Info.{info_of, info_reply}
 use Rattle.session_core.specs.Listing.{cells_reply}
 use Rattle.session_core.specs.Order.{drop_order, load_order, make_order, order_of_file, reissue_order, reply_to, rollback_order}
-use Rattle.session_core.specs.Model.{Model, model_with}
+use Rattle.session_core.specs.Model.{Model, Portrayal, Progress, model_with}
 use Rattle.session_core.specs.Refusal.{store_code}
 use Rattle.session_core.specs.Route.{ROUTE_LIMIT, or_refused as or_unread, reply_along, route_of}
 use Rattle.route_check.specs.Reading.{route_in}
@@ -46,7 +46,8 @@ use Rattle.cell_bytes.specs.declared.fault.WriteFault.{WriteFault}
 use Rattle.cell_bytes.specs.declared.fault.WriteFault.TheVariants as of_write
 use Rattle.session_core.specs.declared.changes.written.MadeFile.{MadeFile}
 use Rattle.session_core.specs.Written.{file_with, made_file, or_refused as or_unwritten, reissue_file, update_of}
-use Rattle.session_core.specs.Turn.{decision_turn, order_turn, reply_turn, turn_of}
+use Rattle.session_core.specs.Save.{bank_bytes, is_done_by, is_too_long, model_saving, room_saved, slices_of, written_more}
+use Rattle.session_core.specs.Turn.{IsOfSave, Turn, begin_turn, decision_turn, order_turn, refusal_turn, reply_turn, save_turn, step_turn, turn_of}
 
 -- ---- commands
 
@@ -86,6 +87,10 @@ module _ (model : Model) (own : Command) (reply : Outcome → Reply) where
       (more model.state own live)
   decided-live more (Err refusal) is live = live
 
+  decided-drawn : (r : Result Outcome of_store.Refusal) → (decision_turn model own reply r).model.portrayal ≡ model.portrayal
+  decided-drawn (Ok done) = refl
+  decided-drawn (Err refusal) = refl
+
 -- ---- questions
 
 replied-same : (model : Model) (r : Result Reply LineRefusal) → (reply_turn model r).model ≡ model
@@ -123,6 +128,10 @@ module _ (model : Model) where
       decided-live model order.command (reply_by order) more (accepted model.state model.room order.command) refl live
   ordered-live more (Err refusal) live = live
 
+  ordered-drawn : (order : Result Order LineRefusal) → (order_turn model order).model.portrayal ≡ model.portrayal
+  ordered-drawn (Ok order) = decided-drawn model order.command (reply_by order) (accepted model.state model.room order.command)
+  ordered-drawn (Err refusal) = refl
+
   replied-some : (reply : Result Reply LineRefusal) (command : Command) → (reply_turn model reply).command ≡ Some command
       → (reply_turn model reply).model ≡ model_with model command (state_with model.state command)
   replied-some reply command e = nothing-some (reply_turn model reply).command command (replied-none model reply) e
@@ -130,21 +139,100 @@ module _ (model : Model) where
   replied-live : (reply : Result Reply LineRefusal) → AreLive model.state.cells → AreLive (reply_turn model reply).model.state.cells
   replied-live reply live = subst (λ (m : Model). AreLive m.state.cells) (sym (replied-same model reply)) live
 
+-- ---- saves
+
+abbrev held-in : Model → StateValue
+held-in model = model.state
+
+abbrev drawn-by : Model → Portrayal
+drawn-by model = model.portrayal
+
+-- what comes of it where none is under way
+abbrev begun_by : Model → Bool → Turn
+begun_by model b = cond b (refusal_turn model (Store (refuses.BankFull 0 (bank_bytes model.state))))
+    (save_turn (replies.Save (slices_of model.state)) (model_saving model))
+
+begun-state : (model : Model) (save : Option Progress) → (begin_turn model save).model.state ≡ model.state
+begun-state model (Some save) = refl
+begun-state model None =
+    elim (is_too_long model.state) as (λ b. (begun_by model b).model.state ≡ model.state) [ true ↦ refl | false ↦ refl ]
+
+begun-drawn : (model : Model) (save : Option Progress) → (begin_turn model save).model.portrayal ≡ model.portrayal
+begun-drawn model (Some save) = refl
+begun-drawn model None =
+    elim (is_too_long model.state) as (λ b. (begun_by model b).model.portrayal ≡ model.portrayal) [ true ↦ refl | false ↦ refl ]
+
+begun-none : (model : Model) (save : Option Progress) → (begin_turn model save).command ≡ None
+begun-none model (Some save) = refl
+begun-none model None = elim (is_too_long model.state) as (λ b. (begun_by model b).command ≡ None) [ true ↦ refl | false ↦ refl ]
+
+stepped-state : (model : Model) (n : ℕ) (save : Option Progress) → (step_turn model n save).model.state ≡ model.state
+stepped-state model n None = refl
+stepped-state model n (Some save) =
+    elim (is_done_by save n) as (λ b. (cond b (record model { room = room_saved model.room; save = None }) (record model { save = Some (written_more save n) })).state ≡ model.state) [
+      | true ↦ refl
+      | false ↦ refl
+    ]
+
+stepped-drawn : (model : Model) (n : ℕ) (save : Option Progress) → (step_turn model n save).model.portrayal ≡ model.portrayal
+stepped-drawn model n None = refl
+stepped-drawn model n (Some save) =
+    elim (is_done_by save n) as (λ b. (cond b (record model { room = room_saved model.room; save = None }) (record model { save = Some (written_more save n) })).portrayal ≡ model.portrayal) [
+      | true ↦ refl
+      | false ↦ refl
+    ]
+
+stepped-none : (model : Model) (n : ℕ) (save : Option Progress) → (step_turn model n save).command ≡ None
+stepped-none model n None = refl
+stepped-none model n (Some save) = refl
+
 -- ---- turns
 
-pub turn-none : (fetches : Fetches) (model : Model) (event : Event) → (turn_of fetches model event).command ≡ None
+pub turn-same : (fetches : Fetches) (model : Model) (event : Event) → (turn_of fetches model event).command ≡ None → ¬ IsOfSave event
     → (turn_of fetches model event).model ≡ model
 unfolding turn_of
-turn-none fetches model (asks.Info name) e = replied-same model (info_of name (fetches FILE_LIMIT name))
-turn-none fetches model asks.Cells e = refl
-turn-none fetches model (asks.Draw key) e = replied-same model (draw_of model.portrayal model.state.cells key)
-turn-none fetches model (asks.Route name) e =
+turn-same fetches model (asks.Info name) e other = replied-same model (info_of name (fetches FILE_LIMIT name))
+turn-same fetches model asks.Cells e other = refl
+turn-same fetches model (asks.Draw key) e other = replied-same model (draw_of model.portrayal model.state.cells key)
+turn-same fetches model (asks.Route name) e other =
     replied-same model (route_of model.portrayal.settings model.state name (fetches ROUTE_LIMIT name))
-turn-none fetches model (asks.Load name) e = ordered-none model (load_order name (fetches FILE_LIMIT name)) e
-turn-none fetches model (asks.Rollback key update) e = ordered-none model (Ok (rollback_order key update)) e
-turn-none fetches model (asks.Drop key) e = ordered-none model (Ok (drop_order key)) e
-turn-none fetches model (asks.Make areas update) e = ordered-none model (make_order areas update) e
-turn-none fetches model (asks.Reissue key) e = ordered-none model (reissue_order model.state.cells key) e
+turn-same fetches model (asks.Load name) e other = ordered-none model (load_order name (fetches FILE_LIMIT name)) e
+turn-same fetches model (asks.Rollback key update) e other = ordered-none model (Ok (rollback_order key update)) e
+turn-same fetches model (asks.Drop key) e other = ordered-none model (Ok (drop_order key)) e
+turn-same fetches model asks.Save e other = absurd (other tt)
+turn-same fetches model (asks.SaveStep slices) e other = absurd (other tt)
+turn-same fetches model (asks.Make areas update) e other = ordered-none model (make_order areas update) e
+turn-same fetches model (asks.Reissue key) e other = ordered-none model (reissue_order model.state.cells key) e
+
+pub turn-none : (fetches : Fetches) (model : Model) (event : Event) → (turn_of fetches model event).command ≡ None
+    → (turn_of fetches model event).model.state ≡ model.state
+unfolding turn_of
+turn-none fetches model asks.Save e = begun-state model model.save
+turn-none fetches model (asks.SaveStep slices) e = stepped-state model slices model.save
+turn-none fetches model (asks.Info name) e = ap held-in (turn-same fetches model (asks.Info name) e (λ no. no))
+turn-none fetches model asks.Cells e = refl
+turn-none fetches model (asks.Draw key) e = ap held-in (turn-same fetches model (asks.Draw key) e (λ no. no))
+turn-none fetches model (asks.Route name) e = ap held-in (turn-same fetches model (asks.Route name) e (λ no. no))
+turn-none fetches model (asks.Load name) e = ap held-in (turn-same fetches model (asks.Load name) e (λ no. no))
+turn-none fetches model (asks.Rollback key update) e = ap held-in (turn-same fetches model (asks.Rollback key update) e (λ no. no))
+turn-none fetches model (asks.Drop key) e = ap held-in (turn-same fetches model (asks.Drop key) e (λ no. no))
+turn-none fetches model (asks.Make areas update) e = ap held-in (turn-same fetches model (asks.Make areas update) e (λ no. no))
+turn-none fetches model (asks.Reissue key) e = ap held-in (turn-same fetches model (asks.Reissue key) e (λ no. no))
+
+pub turn-portrayal : (fetches : Fetches) (model : Model) (event : Event) → (turn_of fetches model event).model.portrayal ≡ model.portrayal
+unfolding turn_of
+turn-portrayal fetches model (asks.Info name) = ap drawn-by (replied-same model (info_of name (fetches FILE_LIMIT name)))
+turn-portrayal fetches model asks.Cells = refl
+turn-portrayal fetches model (asks.Draw key) = ap drawn-by (replied-same model (draw_of model.portrayal model.state.cells key))
+turn-portrayal fetches model (asks.Route name) =
+    ap drawn-by (replied-same model (route_of model.portrayal.settings model.state name (fetches ROUTE_LIMIT name)))
+turn-portrayal fetches model (asks.Load name) = ordered-drawn model (load_order name (fetches FILE_LIMIT name))
+turn-portrayal fetches model (asks.Rollback key update) = ordered-drawn model (Ok (rollback_order key update))
+turn-portrayal fetches model (asks.Drop key) = ordered-drawn model (Ok (drop_order key))
+turn-portrayal fetches model asks.Save = begun-drawn model model.save
+turn-portrayal fetches model (asks.SaveStep slices) = stepped-drawn model slices model.save
+turn-portrayal fetches model (asks.Make areas update) = ordered-drawn model (make_order areas update)
+turn-portrayal fetches model (asks.Reissue key) = ordered-drawn model (reissue_order model.state.cells key)
 
 pub turn-some : (fetches : Fetches) (model : Model) (event : Event) (command : Command)
     → (turn_of fetches model event).command ≡ Some command
@@ -158,6 +246,8 @@ turn-some fetches model (asks.Route name) command e =
 turn-some fetches model (asks.Load name) command e = ordered-some model (load_order name (fetches FILE_LIMIT name)) command e
 turn-some fetches model (asks.Rollback key update) command e = ordered-some model (Ok (rollback_order key update)) command e
 turn-some fetches model (asks.Drop key) command e = ordered-some model (Ok (drop_order key)) command e
+turn-some fetches model asks.Save command e = nothing-some _ command (begun-none model model.save) e
+turn-some fetches model (asks.SaveStep slices) command e = nothing-some _ command (stepped-none model slices model.save) e
 turn-some fetches model (asks.Make areas update) command e = ordered-some model (make_order areas update) command e
 turn-some fetches model (asks.Reissue key) command e = ordered-some model (reissue_order model.state.cells key) command e
 
@@ -172,6 +262,9 @@ turn-live more fetches model (asks.Route name) live =
 turn-live more fetches model (asks.Load name) live = ordered-live model more (load_order name (fetches FILE_LIMIT name)) live
 turn-live more fetches model (asks.Rollback key update) live = ordered-live model more (Ok (rollback_order key update)) live
 turn-live more fetches model (asks.Drop key) live = ordered-live model more (Ok (drop_order key)) live
+turn-live more fetches model asks.Save live = subst (λ (s : StateValue). AreLive s.cells) (sym (begun-state model model.save)) live
+turn-live more fetches model (asks.SaveStep slices) live =
+    subst (λ (s : StateValue). AreLive s.cells) (sym (stepped-state model slices model.save)) live
 turn-live more fetches model (asks.Make areas update) live = ordered-live model more (make_order areas update) live
 turn-live more fetches model (asks.Reissue key) live = ordered-live model more (reissue_order model.state.cells key) live
 
@@ -296,6 +389,12 @@ route-failed model settings state name (Some (Bytes file)) values e = absurd (al
 route-failed model settings state name (Some Absent) values e = absurd (let f : 71 ≡ 72 = code_is e in omega arith)
 route-failed model settings state name (Some Long) values e = absurd (let f : 60 ≡ 72 = code_is e in omega arith)
 
+apart-76 : ◌≡◌ {A = ℕ} 76 72 → ⊥
+apart-76 e = omega (arith, e)
+
+apart-79 : ◌≡◌ {A = ℕ} 79 72 → ⊥
+apart-79 e = omega (arith, e)
+
 apart-64 : ◌≡◌ {A = ℕ} 64 72 → ⊥
 apart-64 e = omega (arith, e)
 
@@ -337,6 +436,22 @@ reissued-apart model key values e =
     written_by : Option CellValue → Result (List ℕ) LineRefusal
     written_by o = or_fault (Store (refuses.NoCell key)) o >>= λ chart. or_unwritten (base_file_of chart)
 
+begun-apart : (model : Model) (values : List ℕ) (save : Option Progress) → Is72 values (begin_turn model save).reply → ⊥
+begun-apart model values (Some save) e = apart-79 (code_is e)
+begun-apart model values None e =
+    elim (is_too_long model.state) as (λ b. Is72 values (begun_by model b).reply → ⊥) [
+      | true ↦ λ f. store-apart (refuses.BankFull 0 (bank_bytes model.state)) (code_is f)
+      | false ↦ λ f. cc
+    ] e
+
+stepped-apart : (model : Model) (values : List ℕ) (n : ℕ) (save : Option Progress) → Is72 values (step_turn model n save).reply → ⊥
+stepped-apart model values n None e = apart-76 (code_is e)
+stepped-apart model values n (Some save) e =
+    elim (is_done_by save n) as (λ b. Is72 values (cond b replies.Saved (replies.SaveStep (save.written + n) save.slices)) → ⊥) [
+      | true ↦ λ f. cc
+      | false ↦ λ f. cc
+    ] e
+
 pub turn-failed : (fetches : Fetches) (model : Model) (event : Event) (values : List ℕ)
     → (turn_of fetches model event).reply ≡ replies.Refused 72 values → (limit : ℕ) × ((name : List ℕ) × (fetches limit name ≡ None))
 unfolding turn_of
@@ -348,5 +463,7 @@ turn-failed fetches model (asks.Route name) values e =
 turn-failed fetches model (asks.Load name) values e = (FILE_LIMIT, (name, load-failed model name (fetches FILE_LIMIT name) values e))
 turn-failed fetches model (asks.Rollback key update) values e = absurd (ordered-apart model values (rollback_order key update) e)
 turn-failed fetches model (asks.Drop key) values e = absurd (ordered-apart model values (drop_order key) e)
+turn-failed fetches model asks.Save values e = absurd (begun-apart model values model.save e)
+turn-failed fetches model (asks.SaveStep slices) values e = absurd (stepped-apart model values slices model.save e)
 turn-failed fetches model (asks.Make areas update) values e = absurd (made-apart model values areas update e)
 turn-failed fetches model (asks.Reissue key) values e = absurd (reissued-apart model key values e)

@@ -16,7 +16,7 @@ use Rattle.chart_model.proofs.Keys.{key_cmp-IsAntisymmetric, key_cmp-total}
 use Rattle.chart_model.proofs.Maps.{tied}
 use Rattle.chart_model.proofs.SortedEntries.{first, second, less}
 use Rattle.chart_store.specs.Loaded.{HoldingsByKey}
-use Rattle.chart_store.specs.Taken as taken
+use Rattle.chart_store.specs.Loaded as taken
 use Rattle.session_core.specs.Held.{chart_of}
 use Rattle.session_core.specs.Kept.{IsKeptOf, IsKeptOfEach, IsRenewed, features_in}
 

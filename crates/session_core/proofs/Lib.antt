@@ -8,3 +8,4 @@ pub mod Reissuing
 pub mod Keeping
 pub mod Stepping
 pub mod Renewing
+pub mod Saves

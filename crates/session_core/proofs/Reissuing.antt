@@ -9,14 +9,13 @@ use Rattle.chart_model.specs.Answers.{◌>>=◌, first_of, or_fault, unless, whe
 use Rattle.chart_model.specs.Cell.{CellValue}
 use Rattle.chart_model.specs.Keys.{key_cmp}
 use Rattle.chart_model.proofs.Keys.{key_cmp-total}
-use Rattle.chart_model.specs.State.{StateValue}
+use Rattle.chart_model.specs.State.{IsState, StateValue}
 use Rattle.chart_model.specs.declared.command.Command.TheVariants.{Load}
 use Rattle.chart_model.specs.declared.state.Holding.{Holding}
 use Rattle.cell_bytes.specs.Written.{feature_faults, file_of, length_fault, vector_faults, write_fault, base_file_of}
 use Rattle.cell_bytes.specs.declared.fault.WriteFault.{WriteFault}
 use Rattle.cell_bytes.specs.declared.fault.WriteFault.TheVariants as of_write
 use Rattle.cell_writer.specs.ReadBack.{IsBaseFileOf}
-use Rattle.chart_store.specs.Live.{AreLive}
 use Rattle.chart_store.specs.Loaded.{HoldingsByKey, Outcome, STORE_LIMIT, held_with, live_bytes, loaded, store_within}
 use Rattle.chart_store.specs.Outcome.{BANK_LIMIT, Room, accepted, bank_within, record_size, other_within, outcome, room_within}
 use Rattle.chart_store.specs.Reissued.{IsReissueOf, held_by_file}
@@ -40,7 +39,7 @@ use Rattle.session_core.proofs.Fetching.{passed-is}
 -- what the law of the store says of each re-issue
 abbrev pub Reissues : Type 0
 Reissues = (state : StateValue) (key : List ℕ) (here : Holding) (chart : CellValue) (file : List ℕ)
-    → AreLive state.cells → map.get state.cells key ≡ Some here → here.chart ≡ Some chart → IsReissueOf chart file
+    → IsState state → map.get state.cells key ≡ Some here → here.chart ≡ Some chart → IsReissueOf chart file
     → loaded state file ≡ held_with state key (held_by_file here file)
 
 -- ---- the file that is written
@@ -173,7 +172,7 @@ module _ (model : Model) (key : List ℕ) (here : Holding) (chart : CellValue)
             (get-put model.state.cells key (held_by_file here file)) ∙ is;
       }))
 
-  order-keeps : Reissues → AreLive model.state.cells → (file : List ℕ) → base_file_of chart ≡ Ok file → IsReissueOf chart file
+  order-keeps : Reissues → IsState model.state → (file : List ℕ) → base_file_of chart ≡ Ok file → IsReissueOf chart file
       → Keeps (order_turn model (Ok (order_of_file orders.Reissue file)))
   unfolding accepted outcome
   order-keeps law live file wrote again =
@@ -191,7 +190,7 @@ module _ (model : Model) (key : List ℕ) (here : Holding) (chart : CellValue)
     builds = base.builds;
   }
 
-  written-keeps : Reissues → AreLive model.state.cells → ReadsBack model.state.cells key → (r : Result (List ℕ) WriteFault) → base_file_of chart ≡ r
+  written-keeps : Reissues → IsState model.state → ReadsBack model.state.cells key → (r : Result (List ℕ) WriteFault) → base_file_of chart ≡ r
       → Keeps (order_turn model (or_refused r >>= λ file. Ok (order_of_file orders.Reissue file)))
   written-keeps law live back (Ok file) e =
       order-keeps law live file e (again-by file (back chart file (chart-of model.state.cells key here chart found is) e) (file-short chart file e))
@@ -200,7 +199,7 @@ module _ (model : Model) (key : List ℕ) (here : Holding) (chart : CellValue)
   written-keeps law live back (Err of_write.NoMemory) e = refused-keeps (CellLong 0) (ap (λ (found : Result (List ℕ) WriteFault). or_refused found) e)
 
 -- a held chart is kept, where what is written of it is a base file of it
-pub reissue-keeps : Reissues → (model : Model) (key : List ℕ) → AreLive model.state.cells → ReadsBack model.state.cells key → ReissueKeepsChart model key
+pub reissue-keeps : Reissues → (model : Model) (key : List ℕ) → IsState model.state → ReadsBack model.state.cells key → ReissueKeepsChart model key
 unfolding turn_of reissue_file
 reissue-keeps law model key live back fetches here chart found is =
     subst (λ (o : Option CellValue). KeepsChart model key here chart (order_turn model
@@ -217,10 +216,10 @@ event-keeps model cells key other event keeps same is also =
     subst (ReissueKeepsChart model) keys (keeps model same)
 
 -- the same over the cells of a model
-pub same-cells : Reissues → (cells : HoldingsByKey) (key : List ℕ) → AreLive cells → ReadsBack cells key → (model : Model) → model.state.cells ≡ cells
+pub same-cells : Reissues → (cells : HoldingsByKey) (key : List ℕ) → IsState (record { cells = cells }) → ReadsBack cells key → (model : Model) → model.state.cells ≡ cells
     → ReissueKeepsChart model key
 same-cells law cells key live back model same =
-    reissue-keeps law model key (subst AreLive (sym same) live) (subst (λ (held : HoldingsByKey). ReadsBack held key) (sym same) back)
+    reissue-keeps law model key (subst (λ (held : HoldingsByKey). IsState (record { cells = held })) (sym same) live) (subst (λ (held : HoldingsByKey). ReadsBack held key) (sym same) back)
 
 -- a fault that is passed up as another is another
 pub not-passed : {A B : Type 0} (r : Result B EventFault) (fault unlike : EventFault) → IsErrAnd r (λ passed. passed ≡ fault) → (r ≡ Err unlike → ⊥)

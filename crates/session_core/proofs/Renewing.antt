@@ -1,6 +1,6 @@
 -- What an accepted command leaves of a session.
-use Rattle.std.proofs.Common.{◌≡◌, ◌≢◌, Bool, true, false, ℕ, ◌+◌, ◌≤◌, List, Option, Some, None, Result, Ok, Err, refl, sym, ◌∙◌, ap, subst}
-use Rattle.std.specs.Prelude.{◌↔◌, IsErrAnd, IsTrue, option_and_then}
+use Rattle.std.proofs.Common.{◌≡◌, ◌≢◌, inl, Bool, true, false, ℕ, ◌+◌, ◌≤◌, List, Option, Some, None, Result, Ok, Err, refl, sym, ◌∙◌, ap, subst}
+use Rattle.std.specs.Prelude.{◌↔◌, IsErrAnd, IsTrue, option_and_then, option_map}
 use Rattle.std.specs.FinMap as map
 use Rattle.chart_model.specs.Answers.{◌>>=◌}
 use Rattle.chart_model.specs.Cell.{CellValue}
@@ -9,16 +9,27 @@ use Rattle.chart_model.specs.Names.{name_cmp}
 use Rattle.chart_model.specs.State.{StateValue}
 use Rattle.chart_model.specs.declared.command.Command.{Command}
 use Rattle.chart_model.specs.declared.state.Holding.{Holding}
+use Rattle.chart_store.specs.Live.{state_or}
 use Rattle.chart_store.specs.Loaded.{Outcome}
 use Rattle.chart_store.specs.Outcome.{Room, accepted, outcome, record_size, room_within}
-use Rattle.chart_store.specs.Submitted.{accepted_with}
+use Rattle.bank_pair.specs.Saving.{SaveValue, gate_of_save}
+use Rattle.chart_store.specs.Store.{room_of, state_of}
+use Rattle.chart_store.specs.Store.{store_of as value_of}
+use Rattle.chart_store.specs.Submitted.{GivesAccepted, accepted_with}
 use Rattle.chart_store.specs.declared.accepted.Accepted.{Accepted}
 use Rattle.chart_store.specs.declared.refusal.Refusal as of_store
 use Rattle.chart_store.specs.declared.submit_fault.SubmitFault.{SubmitFault}
 use Rattle.chart_store.specs.declared.submit_fault.SubmitFault.TheVariants as of_submit
 use Rattle.script_reader.specs.declared.reply.Reply.{Reply}
 use Rattle.session_core.specs.declared.fault.EventFault.{EventFault}
-use Rattle.session_core.specs.declared.fault.EventFault.TheVariants.{DeskFault}
+use Rattle.session_core.specs.declared.fault.EventFault.TheVariants.{Refused, DeskFault, NoMemory}
+use Rattle.session_core.specs.declared.refusal.LineRefusal.TheVariants as line
+use Rattle.session_core.specs.declared.changes.order.Order.{Order}
+use Rattle.session_core.specs.declared.session.Session.{Session}
+use Rattle.session_core.specs.Model.{Model}
+use Rattle.session_core.specs.Order.{reply_to}
+use Rattle.session_core.specs.Session.{GivesEvent, model_of, portrayal_of, progress_of, store_of}
+use Rattle.session_core.specs.Turn.{decision_turn, order_turn}
 use Rattle.session_core.specs.Answers.{fault_of_submit}
 use Rattle.plane_bounds.specs.declared.bounds.Bounds.{Bounds}
 use Rattle.route_check.specs.Grids.{HasGridOf, HasGrids}
@@ -65,6 +76,49 @@ other-fault r of_submit.NoMemory passed other same = cc
 pub stays-sound : (sound : Bool) (failed : Type 0) → (sound ≡ false) ↔ failed → (failed → ⊥) → IsTrue sound
 stays-sound true failed h none = refl
 stays-sound false failed h none = absurd (none (h.0 refl))
+
+-- the model is that of what the store keeps
+pub same-model : (old new : Session) → value_of (store_of new) ≡ value_of (store_of old) → portrayal_of new ≡ portrayal_of old
+    → model_of new ≡ model_of old
+same-model old new same drawn = λ i. record {
+  state = (same i).state;
+  room = record {
+    used = (same i).pair.gate + 1;
+    other = option_map (λ (s : SaveValue). gate_of_save s + 1) (same i).pair.save;
+  };
+  save = option_map progress_of (same i).pair.save;
+  portrayal = drawn i;
+}
+
+-- a command that isn't accepted
+pub refused-given : (old new : Session) (order : Order) (fault : SubmitFault) (r : Result Reply EventFault)
+    → IsErrAnd r (λ passed. passed ≡ fault_of_submit fault)
+    → GivesAccepted (Err fault) (state_of (store_of new)) (accepted (state_of (store_of old)) (room_of (store_of old)) order.command)
+    → (◌≢◌ {A = Result Accepted SubmitFault} (Err fault) (Err of_submit.DeskFault) → value_of (store_of new) ≡ value_of (store_of old))
+    → state_of (store_of new) ≡ state_of (store_of old) → portrayal_of new ≡ portrayal_of old
+    → GivesEvent r (model_of old) (model_of new) (order_turn (model_of old) (Ok order))
+refused-given old new order (of_submit.Refused refusal) r passed given same held drawn =
+    subst (λ (s : Result Reply EventFault). GivesEvent s (model_of old) (model_of new) (order_turn (model_of old) (Ok order)))
+    (sym (passed-is r (Refused (line.Store refusal)) passed)) (
+      ap (decision_turn (model_of old) order.command (λ done. reply_to order.success done.key done.held)) given,
+      same-model old new (same (λ e. cc)) drawn,
+    )
+refused-given old new order of_submit.DeskFault r passed given same held drawn =
+    subst (λ (s : Result Reply EventFault). GivesEvent s (model_of old) (model_of new) (order_turn (model_of old) (Ok order)))
+    (sym (passed-is r DeskFault passed)) held
+refused-given old new order of_submit.NoMemory r passed given same held drawn =
+    subst (λ (s : Result Reply EventFault). GivesEvent s (model_of old) (model_of new) (order_turn (model_of old) (Ok order)))
+    (sym (passed-is r NoMemory passed)) (inl (same-model old new (same (λ e. cc)) drawn))
+
+-- what an order leaves is what its command leaves, or what was held
+pub order-leaves : (model : Model) (order : Order)
+    → state_or model.state (accepted model.state model.room order.command) ≡ (order_turn model (Ok order)).model.state
+order-leaves model order =
+    elim (accepted model.state model.room order.command) as (λ (r : Result Outcome of_store.Refusal). state_or model.state r
+    ≡ (decision_turn model order.command (λ done. reply_to order.success done.key done.held) r).model.state) [
+      | Ok done ↦ refl
+      | Err refusal ↦ refl
+    ]
 
 -- ---- the steps
 

@@ -4,11 +4,11 @@ use Rattle.std.specs.Prelude.{IsErrAnd}
 use Rattle.chart_model.specs.State.{StateValue}
 use Rattle.chart_ports.specs.Moments.{LeavesOnly, MayBeLeft}
 use Rattle.chart_ports.specs.declared.images.Images.{Images}
-use Rattle.chart_ports.proofs.Moments.{started}
+use Rattle.chart_ports.proofs.Moments.{started, weaker}
 use Rattle.chart_store.specs.Images.{StandFor}
 use Rattle.chart_store.specs.Loaded.{FILE_LIMIT}
 use Rattle.chart_store.specs.Outcome.{most_steps}
-use Rattle.chart_store.specs.Store.{StandsForEither}
+use Rattle.chart_store.specs.Store.{StandsForEither, StandsForSame}
 use Rattle.script_reader.specs.declared.event.Event.{Event}
 use Rattle.script_reader.specs.declared.event.Event.TheVariants as asks
 use Rattle.script_reader.specs.declared.reply.Reply.{Reply}
@@ -26,18 +26,31 @@ use Rattle.session_core.specs.Order.{drop_order, load_order, make_order, reissue
 use Rattle.session_core.specs.Route.{ROUTE_LIMIT, route_of}
 use Rattle.session_core.specs.Session.{GivesEvent, TakesTurn}
 use Rattle.session_core.specs.Steps.{most_steps_at, most_steps_for, records_of_file}
-use Rattle.session_core.specs.Turn.{Turn, order_turn, reply_turn, turn_of}
+use Rattle.session_core.specs.Turn.{Turn, begin_turn, order_turn, reply_turn, step_turn, turn_of}
 use Rattle.session_core.proofs.Fetching.{passed-is}
 
--- the desk was not called
-pub no-call : {D : Type 0} (clock : D → ℕ) (might : D → ℕ → Images → List ℕ → Type 0) (desk : D) (may_leave : ℕ → List ℕ → Type 0)
-    (said : List ℕ) (state after : StateValue)
-    → ((images : Images) (bytes : List ℕ) → might desk (clock desk) images bytes → MayBeLeft may_leave images × (bytes ≡ said))
-    → ((images : Images) → MayBeLeft may_leave images → StandFor images state)
-    → LeavesOnly clock might desk desk (StandsForEither said state after)
-no-call clock might desk may_leave said state after only_now stands =
-    started clock might desk (StandsForEither said state after)
-    (λ images bytes left. let now = only_now images bytes left in record { silent = now.1; stands = inl (stands images now.0) })
+-- files that stand for the same stand for either
+pub same-either : {D : Type 0} (clock : D → ℕ) (might : D → ℕ → Images → List ℕ → Type 0) (old new : D) (said : List ℕ) (state after : StateValue)
+    → LeavesOnly clock might old new (StandsForSame said state) → LeavesOnly clock might old new (StandsForEither said state after)
+same-either clock might old new said state after run =
+    weaker clock might old new (StandsForSame said state) (StandsForEither said state after)
+    (λ images bytes left. record { silent = left.silent; stands = inl left.stands }) run
+
+module _ {D : Type 0} (clock : D → ℕ) (might : D → ℕ → Images → List ℕ → Type 0) (desk : D) (may_leave : ℕ → List ℕ → Type 0)
+    (said : List ℕ) (state : StateValue) where
+  -- the desk was not called
+  pub leaves-same : ((images : Images) (bytes : List ℕ) → might desk (clock desk) images bytes → MayBeLeft may_leave images × (bytes ≡ said))
+      → ((images : Images) → MayBeLeft may_leave images → StandFor images state)
+      → LeavesOnly clock might desk desk (StandsForSame said state)
+  leaves-same only_now stands =
+      started clock might desk (StandsForSame said state)
+      (λ images bytes left. let now = only_now images bytes left in record { silent = now.1; stands = stands images now.0 })
+
+  pub no-call : (after : StateValue)
+      → ((images : Images) (bytes : List ℕ) → might desk (clock desk) images bytes → MayBeLeft may_leave images × (bytes ≡ said))
+      → ((images : Images) → MayBeLeft may_leave images → StandFor images state)
+      → LeavesOnly clock might desk desk (StandsForEither said state after)
+  no-call after only_now stands = same-either clock might desk desk said state after (leaves-same only_now stands)
 
 -- a fault that is passed up
 pub passed-event : (r : Result Reply EventFault) (fault : EventFault) (before now : Model) (turn : Turn)
@@ -76,6 +89,19 @@ module _ (A : Fetches → Type 0) (L : (Images → List ℕ → Type 0) → Type
     fetches = fetches;
     answers = answers;
     gives = subst (GivesEvent r before before) (sym is) (replied-gives before r wanted given);
+    steps = steps;
+    leaves = leaves (turn_of fetches before event).model.state;
+  }
+
+  -- a save goes on
+  pub save-turns : (fetches : Fetches) (wanted : Turn) (r : Result Reply EventFault) (now : Model) → A fetches
+      → turn_of fetches before event ≡ wanted → W (most_steps_at fetches before event) → GivesEvent r before now wanted
+      → ((after : StateValue) → L (StandsForEither said before.state after))
+      → TakesTurn A L said event before W (GivesEvent r before now)
+  save-turns fetches wanted r now answers is steps given leaves = record {
+    fetches = fetches;
+    answers = answers;
+    gives = subst (GivesEvent r before now) (sym is) given;
     steps = steps;
     leaves = leaves (turn_of fetches before event).model.state;
   }
@@ -148,6 +174,22 @@ module _ (fetches : Fetches) (model : Model) (event : Event) where
   pub drop-is : (key : List ℕ) → event ≡ asks.Drop key → Orders fetches model event (Ok (drop_order key))
   unfolding turn_of most_steps_at
   drop-is key is = record { turn = ap (turn_of fetches model) is; steps = ap (most_steps_at fetches model) is }
+
+  pub save-is : event ≡ asks.Save → turn_of fetches model event ≡ begin_turn model model.save
+  unfolding turn_of
+  save-is is = ap (turn_of fetches model) is
+
+  pub save-step-is : (slices : ℕ) → event ≡ asks.SaveStep slices → turn_of fetches model event ≡ step_turn model slices model.save
+  unfolding turn_of
+  save-step-is slices is = ap (turn_of fetches model) is
+
+  pub save-steps : event ≡ asks.Save → most_steps_at fetches model event ≡ 0
+  unfolding most_steps_at
+  save-steps is = ap (most_steps_at fetches model) is
+
+  pub save-step-steps : (slices : ℕ) → event ≡ asks.SaveStep slices → most_steps_at fetches model event ≡ 0
+  unfolding most_steps_at
+  save-step-steps slices is = ap (most_steps_at fetches model) is
 
   pub make-is : (areas update : ℕ) → event ≡ asks.Make areas update → Orders fetches model event (make_order areas update)
   unfolding turn_of most_steps_at

@@ -6,6 +6,7 @@ pub mod Values
 pub mod Refusal
 pub mod Answers
 pub mod Model
+pub mod Save
 pub mod Draw
 pub mod Route
 pub mod Written

@@ -1,14 +1,16 @@
 -- What contracts see of a session, and what a turn of it does.
-use Rattle.std.specs.Prelude.{◌≡◌, ◌⊎◌, ℕ, ◌+◌, ◌≤◌, Bool, IsTrue, List, Result, Ok, Err}
+use Rattle.std.specs.Prelude.{◌≡◌, ◌≢◌, ◌⊎◌, ℕ, ◌+◌, ◌≤◌, Bool, IsTrue, List, None, option_map, Result, Ok, Err}
 use Rattle.std.specs.FinMap as finite
 use Rattle.chart_model.specs.Keys.{key_cmp}
 use Rattle.chart_model.specs.Names.{name_cmp}
 use Rattle.chart_ports.specs.Disk.{LeavesNoMoreOfOthers, SameOthers}
 use Rattle.chart_ports.specs.declared.images.Images.{Images}
 use Rattle.chart_store.specs.declared.store.Store.{Store}
-use Rattle.chart_store.specs.Store.{IsKept, StandsForEither, count_of, is_sound, room_of, state_of}
+use Rattle.bank_pair.specs.Saving.{SaveValue}
+use Rattle.chart_store.specs.Store.{IsKept, StandsForEither, count_of, is_sound, pair_of, room_of, save_of, state_of}
 use Rattle.plane_bounds.specs.declared.bounds.Bounds.{Bounds}
 use Rattle.script_reader.specs.declared.event.Event.{Event}
+use Rattle.script_reader.specs.declared.event.Event.TheVariants as asks
 use Rattle.script_reader.specs.declared.reply.Reply.{Reply}
 use Rattle.session_core.specs.declared.fault.EventFault.{EventFault}
 use Rattle.session_core.specs.declared.fault.EventFault.TheVariants.{Refused, DeskFault, NoMemory}
@@ -17,7 +19,7 @@ use Rattle.session_core.specs.declared.fault.TurnFault.TheVariants as no_turn
 use Rattle.session_core.specs.declared.session.Session.{Session}
 use Rattle.session_core.specs.Fetch.{Fetches}
 use Rattle.session_core.specs.Kept.{IsKeptOfEach}
-use Rattle.session_core.specs.Model.{Model, Portrayal, portrayal_with}
+use Rattle.session_core.specs.Model.{Model, Portrayal, Progress, portrayal_with}
 use Rattle.session_core.specs.Steps.{most_steps_at}
 use Rattle.session_core.specs.Turn.{Turn, refusal_turn, turn_of}
 use Rattle.spatial_grid.specs.Box.{IsGridOf}
@@ -31,11 +33,16 @@ store_of session = session.store
 abbrev pub portrayal_of : Session → Portrayal
 portrayal_of session = portrayal_with session.table session.settings
 
+-- how far a save is
+abbrev pub progress_of : SaveValue → Progress
+progress_of save = record { written = save.written; slices = save.slices }
+
 -- what its replies depend on
 abbrev pub model_of : Session → Model
 model_of session = record {
   state = state_of (store_of session);
   room = room_of (store_of session);
+  save = option_map progress_of (save_of (store_of session));
   portrayal = portrayal_of session;
 }
 
@@ -98,9 +105,17 @@ pub record AcceptsOne {E : Type 0} (failed : E) (result : Result Reply E) (befor
   pub one_command : count_of (store_of now) ≤ count_of (store_of before) + 1
   pub unaccepted : result ≡ Err failed → count_of (store_of now) ≡ count_of (store_of before)
 
--- Nothing is said, and of the desk's files all but the bank's stay, at a crash too.
-pub record KeepsOthers {D : Type 0} (tells : Bool) (said : D → List ℕ) (contents : D → ℕ → List ℕ)
-    (may_leave : D → ℕ → List ℕ → Type 0) (desk desk' : D) : Type 0 where
-  pub silent : IsTrue tells → said desk' ≡ said desk
-  pub others : IsTrue tells → SameOthers 1 (contents desk) (contents desk')
-  pub crash_others : IsTrue tells → LeavesNoMoreOfOthers 1 (may_leave desk) (may_leave desk')
+-- the file of the current bank of its store
+abbrev pub file_of : Session → ℕ
+file_of session = (pair_of (store_of session)).file
+
+-- slices of the save that is under way are written at the event
+abbrev pub WritesSlices : Model → Event → Type 0
+WritesSlices model (asks.SaveStep slices) = model.save ≢ None
+WritesSlices model other = ⊥
+
+-- Of the desk's files all but this one stay, at a crash too.
+pub record KeepsOthers {D : Type 0} (tells : Bool) (contents : D → ℕ → List ℕ) (may_leave : D → ℕ → List ℕ → Type 0)
+    (file : ℕ) (desk desk' : D) : Type 0 where
+  pub others : IsTrue tells → SameOthers file (contents desk) (contents desk')
+  pub crash_others : IsTrue tells → LeavesNoMoreOfOthers file (may_leave desk) (may_leave desk')

@@ -36,6 +36,8 @@ most_steps_at fetches model (asks.Load name) =
     most_steps_for model.state (load_order name (fetches FILE_LIMIT name))
 most_steps_at fetches model (asks.Rollback key update) = most_steps_for model.state (Ok (rollback_order key update))
 most_steps_at fetches model (asks.Drop key) = most_steps_for model.state (Ok (drop_order key))
+most_steps_at fetches model asks.Save = 0
+most_steps_at fetches model (asks.SaveStep slices) = 0
 most_steps_at fetches model (asks.Make areas update) = most_steps_for model.state (make_order areas update)
 most_steps_at fetches model (asks.Reissue key) = most_steps_for model.state (reissue_order model.state.cells key)
 

@@ -1,23 +1,26 @@
 -- The turn of an event: what is replied to it, and what it leaves.
-use Rattle.std.specs.Prelude.{Option, Some, None, Result, Ok, Err}
+use Rattle.std.specs.Prelude.{ℕ, ◌+◌, if◌then◌else◌, Option, Some, None, Result, Ok, Err}
 use Rattle.chart_model.specs.declared.command.Command.{Command}
 use Rattle.chart_store.specs.declared.refusal.Refusal as of_store
+use Rattle.chart_store.specs.declared.refusal.Refusal.TheVariants.{BankFull}
 use Rattle.chart_store.specs.Loaded.{FILE_LIMIT, Outcome}
 use Rattle.chart_store.specs.Outcome.{accepted}
 use Rattle.script_reader.specs.declared.event.Event.{Event}
 use Rattle.script_reader.specs.declared.event.Event.TheVariants as asks
 use Rattle.script_reader.specs.declared.reply.Reply.{Reply}
+use Rattle.script_reader.specs.declared.reply.Reply.TheVariants as replies
 use Rattle.session_core.specs.declared.refusal.LineRefusal.{LineRefusal}
-use Rattle.session_core.specs.declared.refusal.LineRefusal.TheVariants.{Store}
+use Rattle.session_core.specs.declared.refusal.LineRefusal.TheVariants.{Busy, NothingBegun, Store}
 use Rattle.session_core.specs.Draw.{draw_of}
 use Rattle.session_core.specs.Fetch.{Fetches}
 use Rattle.session_core.specs.Info.{info_of}
 use Rattle.session_core.specs.Listing.{cells_reply}
-use Rattle.session_core.specs.Model.{Model, model_with}
+use Rattle.session_core.specs.Model.{Model, Progress, model_with}
 use Rattle.session_core.specs.Order.{drop_order, load_order, make_order, reissue_order, reply_to, rollback_order}
 use Rattle.session_core.specs.declared.changes.order.Order.{Order}
 use Rattle.session_core.specs.Refusal.{reply_of}
 use Rattle.session_core.specs.Route.{ROUTE_LIMIT, route_of}
+use Rattle.session_core.specs.Save.{bank_bytes, is_done_by, is_too_long, model_saving, model_stepped, slices_of}
 
 -- what is replied, the command that is accepted, where one is, and the model after it
 pub record Turn : Type 0 where
@@ -52,6 +55,27 @@ abbrev pub order_turn : Model → Result Order LineRefusal → Turn
 order_turn model (Ok order) = command_turn model order.command (λ done. reply_to order.success done.key done.held)
 order_turn model (Err refusal) = refusal_turn model refusal
 
+-- a save goes on, and nothing that is held changes
+abbrev pub save_turn : Reply → Model → Turn
+save_turn reply model = record { reply = reply; command = None; model = model }
+
+-- a save begins, unless one is under way, or the other bank would be too long
+abbrev pub begin_turn : Model → Option Progress → Turn
+begin_turn model (Some save) = refusal_turn model Busy
+begin_turn model None =
+    if is_too_long model.state then refusal_turn model (Store (BankFull 0 (bank_bytes model.state)))
+    else save_turn (replies.Save (slices_of model.state)) (model_saving model)
+
+-- what is replied once so many more slices are written
+abbrev pub reply_stepped : Progress → ℕ → Reply
+reply_stepped save n =
+    if is_done_by save n then replies.Saved else replies.SaveStep (save.written + n) save.slices
+
+-- so many more slices of the save that is under way are written
+abbrev pub step_turn : Model → ℕ → Option Progress → Turn
+step_turn model n None = refusal_turn model NothingBegun
+step_turn model n (Some save) = save_turn (reply_stepped save n) (model_stepped model save n)
+
 -- the turn of each event, by what the shelf answers
 unfoldable pub turn_of : Fetches → Model → Event → Turn
 turn_of fetches model (asks.Info name) = reply_turn model (info_of name (fetches FILE_LIMIT name))
@@ -62,5 +86,13 @@ turn_of fetches model (asks.Route name) =
 turn_of fetches model (asks.Load name) = order_turn model (load_order name (fetches FILE_LIMIT name))
 turn_of fetches model (asks.Rollback key update) = order_turn model (Ok (rollback_order key update))
 turn_of fetches model (asks.Drop key) = order_turn model (Ok (drop_order key))
+turn_of fetches model asks.Save = begin_turn model model.save
+turn_of fetches model (asks.SaveStep slices) = step_turn model slices model.save
 turn_of fetches model (asks.Make areas update) = order_turn model (make_order areas update)
 turn_of fetches model (asks.Reissue key) = order_turn model (reissue_order model.state.cells key)
+
+-- the lines that begin a save and go on with it
+abbrev pub IsOfSave : Event → Type 0
+IsOfSave asks.Save = Unit {0}
+IsOfSave (asks.SaveStep slices) = Unit {0}
+IsOfSave other = ⊥

@@ -7,7 +7,7 @@ ghost use Rattle.std.specs.Prelude.{◌≡◌, List, ℕ, IfSome};
 ghost use Rattle.std.specs.Option.{option_copied};
 ghost use Rattle.chart_closure.specs.Closed.{IsClosed};
 ghost use Rattle.chart_model.specs.Cell.{CellValue};
-ghost use Rattle.chart_store.specs.Live.{AreLive};
+ghost use Rattle.chart_model.specs.State.{IsState};
 ghost use Rattle.chart_store.specs.Store.{state_of};
 ghost use Rattle.session_core.specs.Held.{chart_of};
 
@@ -17,7 +17,7 @@ use chart_store::Store;
 /// The cells that a store holds.
 pub fn cells_of(store: &Store) -> &HoldingMap
     ensures cells { result.now ≡ (state_of store.now).cells }
-    ensures live { AreLive result.now }
+    ensures held { IsState (record { cells = result.now }) }
     ensures closed { (key : List ℕ) → IfSome (chart_of result.now key) IsClosed }
 {
     &store.state().cells

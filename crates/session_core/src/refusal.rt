@@ -32,6 +32,10 @@ pub enum LineRefusal {
     NoFile(Word),
     /// 72: the shelf failed.
     ShelfFault,
+    /// 76: no save is under way.
+    NothingBegun,
+    /// 79: a save is under way.
+    Busy,
     /// 10 to 63, 73 and 74: the store refuses.
     Store(StoreRefusal),
 }
@@ -197,6 +201,8 @@ impl LineRefusal {
             LineRefusal::BadLine(_) => 70,
             LineRefusal::NoFile(_) => 71,
             LineRefusal::ShelfFault => 72,
+            LineRefusal::NothingBegun => 76,
+            LineRefusal::Busy => 79,
             LineRefusal::Store(refusal) => store_code(refusal),
         }
     }
@@ -216,7 +222,9 @@ impl LineRefusal {
             | LineRefusal::RouteMany(number)
             | LineRefusal::BadLine(number) => join(alloc, &[Value::Number(*number)]),
             LineRefusal::NoFile(name) => join(alloc, &[Value::Text(name.as_str().as_bytes())]),
-            LineRefusal::ShelfFault => join(alloc, &[]),
+            LineRefusal::ShelfFault | LineRefusal::NothingBegun | LineRefusal::Busy => {
+                join(alloc, &[])
+            }
             LineRefusal::Store(refusal) => store_values(alloc, refusal),
         }
     }

@@ -9,10 +9,14 @@ use crate::changes::{Order, drop_order, load_order, make_order, reissue_order, r
 use crate::fault::{EventFault, TurnFault};
 use crate::held::{cells_of, chart_of};
 use crate::questions::{check_route, draw_chart, inform, list_cells};
+use crate::refusal::LineRefusal;
 use crate::upkeep::{all_grids, all_users, renew_grids, renew_users};
 use chart_model::Settings;
 use chart_ports::{Desk, Shelf, Steps};
-use chart_store::{Accepted, Store, commands_change_their_cell_alone, kept_stores_are_read};
+use chart_store::{
+    Accepted, SaveState, Store, begun_saves_are_kept, commands_change_their_cell_alone,
+    kept_stores_are_read,
+};
 use lookup_table::Table;
 use script_reader::{Event, Reply};
 use spatial_grid::GridMap;
@@ -34,13 +38,17 @@ pub struct Session {
 }
 
 impl Session {
-    ghost use Rattle.std.specs.Prelude.{◌≡◌, ◌≢◌, ◌+◌, ◌<◌, ◌≤◌, ◌^◌, ℕ, List, length, Ok, Err, IfOk, IsTrue, OnOk};
+    ghost use Rattle.std.specs.Prelude.{◌≡◌, ◌≢◌, ◌+◌, ◌<◌, ◌≤◌, ◌^◌, ℕ, List, length, None, Ok, Err};
+    ghost use Rattle.std.specs.Prelude.{IfOk, IsTrue, OnErr, OnOk};
     ghost use Rattle.std.specs.FinMap as finite;
     ghost use Rattle.bank_journal.specs.Fault.{HasDeskCause};
     ghost use Rattle.chart_difference.specs.Difference.{AreChanged};
-    ghost use Rattle.chart_ports.specs.Moments.{LeavesOnly};
+    ghost use Rattle.chart_ports.specs.Moments.{LeavesOnly, images_of};
+    ghost use Rattle.chart_store.specs.Images.{StandFor};
     ghost use Rattle.chart_store.specs.Outcome.{most_steps};
-    ghost use Rattle.chart_store.specs.Store.{StandsForEither, count_of, is_sound, state_of};
+    ghost use Rattle.chart_store.specs.Saving.{HasBegun};
+    ghost use Rattle.chart_store.specs.Store.{StandsForEither, StandsForSame, count_of, is_sound, save_of, state_of};
+    ghost use Rattle.chart_store.specs.Store.{store_of as value_of};
     ghost use Rattle.script_reader.specs.Line.{AreInRange};
     ghost use Rattle.script_reader.specs.declared.event.Event.TheVariants.{Reissue};
     ghost use Rattle.session_core.specs.declared.fault.EventFault.TheVariants.{DeskFault as EventFailed};
@@ -52,10 +60,10 @@ impl Session {
     ghost use Rattle.session_core.specs.Model.{portrayal_with};
     ghost use Rattle.session_core.specs.Reissue.{ReissueKeepsChart};
     ghost use Rattle.session_core.specs.Session.{AcceptsOne, GivesEvent, GivesTurn, IsReady, KeepsCharts};
-    ghost use Rattle.session_core.specs.Session.{KeepsOthers, TakesTurn};
+    ghost use Rattle.session_core.specs.Session.{KeepsOthers, TakesTurn, WritesSlices, file_of};
     ghost use Rattle.session_core.specs.Session.{grids_in, model_of, portrayal_of, store_of, users_in};
     ghost use Rattle.session_core.specs.Steps.{TakesAtMost};
-    ghost use Rattle.session_core.specs.Turn.{order_turn};
+    ghost use Rattle.session_core.specs.Turn.{begin_turn, order_turn, step_turn};
     ghost use Rattle.spatial_grid.specs.Box.{IsGridOf};
     ghost use Rattle.topology_cache.specs.Users.{AreUsersOf};
 
@@ -70,6 +78,7 @@ impl Session {
     ) -> Result<Session, AllocError>
         requires sound { IsTrue (is_sound store) }
         requires fresh { count_of store ≡ 0 }
+        requires idle { save_of store ≡ None }
         ensures store { IfOk result (λ session. store_of session ≡ store) }
         ensures portrayal { IfOk result (λ session. portrayal_of session ≡ portrayal_with table settings) }
         ensures charts { IfOk result KeepsCharts }
@@ -138,15 +147,18 @@ impl Session {
         requires count { count_of (store_of self.old) < 2 ^ 63 }
         ensures given { GivesEvent result (model_of self.old) (model_of self.new)
             (order_turn (model_of self.old) (Ok order)) }
-        ensures moments { IsTrue D.tells → LeavesOnly D.clock D.might desk.old desk.new
-            (StandsForEither (D.said desk.old) (model_of self.old).state
+        ensures moments { IsTrue D.tells → StandFor (images_of (D.contents desk.old)) (model_of self.old).state →
+            LeavesOnly D.clock D.might desk.old desk.new (StandsForEither (D.said desk.old) (model_of self.old).state
             (order_turn (model_of self.old) (Ok order)).model.state) }
+        ensures stood { IsTrue D.tells → StandFor (images_of (D.contents desk.old)) (model_of self.old).state →
+            result ≢ Err EventFailed → StandFor (images_of (D.contents desk.new)) (model_of self.new).state }
         ensures accepted { OnOk result (count_of (store_of self.new) ≡ count_of (store_of self.old) + 1) }
         ensures accepts { AcceptsOne EventFailed result self.old self.new }
         ensures untouched { result ≢ Err EventFailed →
             count_of (store_of self.new) ≡ count_of (store_of self.old) → desk.new ≡ desk.old }
         ensures cause { HasDeskCause EventFailed (D.faults desk.old) (D.faults desk.new) result }
-        ensures others { KeepsOthers D.tells D.said D.contents D.may_leave desk.old desk.new }
+        ensures said { IsTrue D.tells → D.said desk.new ≡ D.said desk.old }
+        ensures others { KeepsOthers D.tells D.contents D.may_leave (file_of self.old) desk.old desk.new }
         ensures ready { result ≢ Err EventFailed → result ≢ Err NoMemoryForEvent →
             IsReady D.tells (D.contents desk.new) (D.may_leave desk.new) self.new }
         ensures steps { TakesAtMost (most_steps (model_of self.old).state order.command) (model_of self.old).state
@@ -157,6 +169,53 @@ impl Session {
         let done = self.store.submit(alloc, command, desk, steps)?;
         self.keep_up(alloc, &done, steps)?;
         Ok(success.reply(&done))
+    }
+
+    /// Begins to save what is held, unless a save is under way. No call of the desk is made.
+    fn begin_save(&mut self, alloc: Global) -> Result<Reply, EventFault>
+        requires sound { IsTrue (is_sound (store_of self.old)) }
+        ensures given { GivesEvent result (model_of self.old) (model_of self.new)
+            (begin_turn (model_of self.old) (model_of self.old).save) }
+        ensures begun { OnOk result ((slices : ℕ) × HasBegun slices (store_of self.old) (store_of self.new)) }
+        ensures err { OnErr result (value_of (store_of self.new) ≡ value_of (store_of self.old)) }
+        ensures no_desk { result ≢ Err EventFailed }
+        ensures portrayal { portrayal_of self.new ≡ portrayal_of self.old }
+        ensures users { users_in self.new ≡ users_in self.old }
+        ensures grids { grids_in self.new ≡ grids_in self.old }
+    {
+        if self.store.is_saving() {
+            return Err(EventFault::Refused(LineRefusal::Busy));
+        }
+        Ok(Reply::Save(self.store.begin_save(alloc)?))
+    }
+
+    /// Writes the next slices of the save that is under way, so many, or those that are left.
+    fn write_slices<D: Desk>(&mut self, desk: &mut D, slices: u32) -> Result<Reply, EventFault>
+        requires ready { IsReady D.tells (D.contents desk.old) (D.may_leave desk.old) self.old }
+        requires some { 1 ≤ slices }
+        ensures given { GivesEvent result (model_of self.old) (model_of self.new)
+            (step_turn (model_of self.old) slices (model_of self.old).save) }
+        ensures moments { IsTrue D.tells → StandFor (images_of (D.contents desk.old)) (model_of self.old).state →
+            LeavesOnly D.clock D.might desk.old desk.new (StandsForSame (D.said desk.old) (model_of self.old).state) }
+        ensures stood { IsTrue D.tells → StandFor (images_of (D.contents desk.old)) (model_of self.old).state →
+            result ≢ Err EventFailed → StandFor (images_of (D.contents desk.new)) (model_of self.new).state }
+        ensures count { count_of (store_of self.new) ≡ count_of (store_of self.old) }
+        ensures held { (model_of self.new).state ≡ (model_of self.old).state }
+        ensures untouched { (model_of self.old).save ≡ None → desk.new ≡ desk.old }
+        ensures memory { result ≢ Err NoMemoryForEvent }
+        ensures cause { HasDeskCause EventFailed (D.faults desk.old) (D.faults desk.new) result }
+        ensures said { IsTrue D.tells → D.said desk.new ≡ D.said desk.old }
+        ensures ready { result ≢ Err EventFailed →
+            IsReady D.tells (D.contents desk.new) (D.may_leave desk.new) self.new }
+    {
+        kept_stores_are_read::<D>();
+        if !self.store.is_saving() {
+            return Err(EventFault::Refused(LineRefusal::NothingBegun));
+        }
+        match self.store.save_step(desk, slices)? {
+            SaveState::Under(written, all) => Ok(Reply::SaveStep(written, all)),
+            SaveState::Saved => Ok(Reply::Saved),
+        }
     }
 
     /// Carries out an event, and tells its reply where it isn't refused.
@@ -172,22 +231,28 @@ impl Session {
         requires count { count_of (store_of self.old) < 2 ^ 63 }
         requires ranges { AreInRange event }
         ensures turned { TakesTurn (AreFetched L.tells (L.files shelf.old) (L.faults shelf.old) (L.faults shelf.new))
-            (λ P. IsTrue D.tells → LeavesOnly D.clock D.might desk.old desk.new P) (D.said desk.old)
+            (λ P. IsTrue D.tells → StandFor (images_of (D.contents desk.old)) (model_of self.old).state →
+            LeavesOnly D.clock D.might desk.old desk.new P) (D.said desk.old)
             event (model_of self.old)
             (λ most. TakesAtMost most (model_of self.old).state (model_of self.new).state steps.old steps.new)
             (GivesEvent result (model_of self.old) (model_of self.new)) }
+        ensures stood { IsTrue D.tells → StandFor (images_of (D.contents desk.old)) (model_of self.old).state →
+            result ≢ Err EventFailed → StandFor (images_of (D.contents desk.new)) (model_of self.new).state }
         ensures reissue { result ≢ Err NoMemoryForEvent → (key : List ℕ) → event ≡ Reissue key →
             ReissueKeepsChart (model_of self.old) key }
         ensures accepts { AcceptsOne EventFailed result self.old self.new }
-        ensures untouched { result ≢ Err EventFailed →
+        ensures untouched { ¬ WritesSlices (model_of self.old) event → result ≢ Err EventFailed →
             count_of (store_of self.new) ≡ count_of (store_of self.old) → desk.new ≡ desk.old }
         ensures cause { HasDeskCause EventFailed (D.faults desk.old) (D.faults desk.new) result }
-        ensures others { KeepsOthers D.tells D.said D.contents D.may_leave desk.old desk.new }
+        ensures said { IsTrue D.tells → D.said desk.new ≡ D.said desk.old }
+        ensures others { ¬ WritesSlices (model_of self.old) event →
+            KeepsOthers D.tells D.contents D.may_leave (file_of self.old) desk.old desk.new }
         ensures ready { result ≢ Err EventFailed → result ≢ Err NoMemoryForEvent →
             IsReady D.tells (D.contents desk.new) (D.may_leave desk.new) self.new }
         ensures shelf { KeepsShelf L.tells L.files L.faults shelf.old shelf.new }
     {
         kept_stores_are_read::<D>();
+        begun_saves_are_kept::<D>();
         match event {
             Event::Info(name) => inform(alloc, name, shelf, steps),
             Event::Cells => list_cells(alloc, cells_of(&self.store)),
@@ -207,6 +272,8 @@ impl Session {
                 self.obey(alloc, rollback_order(key, update), desk, steps)
             }
             Event::Drop(key) => self.obey(alloc, drop_order(key), desk, steps),
+            Event::Save => self.begin_save(alloc),
+            Event::SaveStep(slices) => self.write_slices(desk, slices),
             Event::Make(areas, update) => {
                 let order = make_order(alloc, areas, update)?;
                 self.obey(alloc, order, desk, steps)
@@ -241,24 +308,33 @@ impl Session {
 
         // The reply and what is held after it are those of the event, by what the shelf answered. No more steps are
         // taken than the data records that are come to at the event, and the names whose records differ after it. A
-        // crash at any moment leaves what stands for what was held, or for what the event leaves.
+        // crash at any moment leaves what stands for what was held, or for what the event leaves, where what a read
+        // gives before stands for what was held.
         ensures turned { TakesTurn (AreFetched L.tells (L.files shelf.old) (L.faults shelf.old) (L.faults shelf.new))
-            (λ P. IsTrue D.tells → LeavesOnly D.clock D.might desk.old desk.new P) (D.said desk.old)
+            (λ P. IsTrue D.tells → StandFor (images_of (D.contents desk.old)) (model_of self.old).state →
+            LeavesOnly D.clock D.might desk.old desk.new P) (D.said desk.old)
             event (model_of self.old)
             (λ most. TakesAtMost most (model_of self.old).state (model_of self.new).state steps.old steps.new)
             (GivesTurn result (model_of self.old) (model_of self.new)) }
+
+        // What a read of the files gives stands for what is held, where it did before.
+        ensures stood { IsTrue D.tells → StandFor (images_of (D.contents desk.old)) (model_of self.old).state →
+            result ≢ Err DeskFault → StandFor (images_of (D.contents desk.new)) (model_of self.new).state }
 
         // A held chart is re-issued, unless there is no room, and stays as it is.
         ensures reissue { OnOk result ((key : List ℕ) → event ≡ Reissue key →
             ReissueKeepsChart (model_of self.old) key) }
 
-        // One command at most is accepted, and none where the desk fails. Where none is, the desk is left as it is,
-        // unless it fails, and that has its cause. Nothing is said, and files that aren't the bank's stay.
+        // One command at most is accepted, and none where the desk fails. Where none is, and no slices of a save are
+        // written, the desk is left as it is, unless it fails, and that has its cause. Nothing is said, and files that
+        // aren't the current bank's stay, unless slices are written.
         ensures accepts { AcceptsOne DeskFault result self.old self.new }
-        ensures untouched { result ≢ Err DeskFault →
+        ensures untouched { ¬ WritesSlices (model_of self.old) event → result ≢ Err DeskFault →
             count_of (store_of self.new) ≡ count_of (store_of self.old) → desk.new ≡ desk.old }
         ensures cause { HasDeskCause DeskFault (D.faults desk.old) (D.faults desk.new) result }
-        ensures others { KeepsOthers D.tells D.said D.contents D.may_leave desk.old desk.new }
+        ensures said { IsTrue D.tells → D.said desk.new ≡ D.said desk.old }
+        ensures others { ¬ WritesSlices (model_of self.old) event →
+            KeepsOthers D.tells D.contents D.may_leave (file_of self.old) desk.old desk.new }
 
         // The next turn may follow: the session keeps the users and the grid of each chart that is held now.
         ensures ready { OnOk result (IsReady D.tells (D.contents desk.new) (D.may_leave desk.new) self.new) }

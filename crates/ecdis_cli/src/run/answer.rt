@@ -11,10 +11,10 @@ ghost use Rattle.chart_ports.specs.Moments.{Elapses, LeavesOnly};
 ghost use Rattle.chart_ports.specs.Said.{SaysFront};
 ghost use Rattle.script_reader.specs.Reply.{bytes_of_reply};
 ghost use Rattle.session_core.specs.Session.{model_of};
-ghost use Rattle.ecdis_cli.specs.Devices.{KeepsDevices, LeavesBetween};
+ghost use Rattle.ecdis_cli.specs.Devices.{KeepsDevices, LeavesWhere};
 ghost use Rattle.ecdis_cli.specs.Progress.{LineIsAnswered, ReplyIsInterrupted};
 ghost use Rattle.ecdis_cli.specs.Replied.{GivesStep, LeavesSaying, ReplyIsFound};
-ghost use Rattle.ecdis_cli.specs.Standing.{IsReadyFor, standing_at};
+ghost use Rattle.ecdis_cli.specs.Standing.{IsReadyFor, Stands, standing_at};
 
 use crate::run::devices::Devices;
 use crate::run::line::front_of;
@@ -62,12 +62,16 @@ fn reply_to<L: Shelf, D: Desk, C: Ledger>(
     requires number { number < 2 ^ 63 }
     requires ready { IsReadyFor D.tells D.contents D.may_leave devices.old number session.old }
 
-    // The line's step is taken and counted, and nothing is said.
+    // The line's step is taken and counted, and nothing is said. What a read of the files gives stands for what is
+    // held, where it did before.
     ensures replied { ReplyIsFound L.tells (L.files devices.old.shelf.now)
-        (λ P. IsTrue D.tells → LeavesBetween D.clock D.might devices.old devices.new P)
+        (λ P. IsTrue D.tells →
+        LeavesWhere (Stands D.contents devices.old session.old) D.clock D.might devices.old devices.new P)
         (standing_at L.faults D.said session.old devices.old number line.now) (L.faults devices.new.shelf.now)
         devices.new.steps.now (GivesStep result (model_of session.new)) }
     ensures said { IsTrue D.tells → D.said devices.new.desk.now ≡ D.said devices.old.desk.now }
+    ensures stood { IsTrue D.tells → Stands D.contents devices.old session.old →
+        OnOk result (Stands D.contents devices.new session.new) }
 
     // The next line may follow, and what stops the run has its cause.
     ensures ready { OnOk result (IsReadyFor D.tells D.contents D.may_leave devices.new (number + 1) session.new) }
@@ -102,15 +106,18 @@ pub fn answer<L: Shelf, D: Desk, C: Ledger>(
     requires number { number < 2 ^ 63 }
     requires ready { IsReadyFor D.tells D.contents D.may_leave devices.old number session.old }
 
-    // The line's step is taken, and its reply said, or a front of it where the run ends.
+    // The line's step is taken, and its reply said, or a front of it where the run ends. What a read of the files gives
+    // stands for what is held, where it did before.
     ensures said { IsTrue D.tells → OnOk result (LineIsAnswered L.tells (L.files devices.old.shelf.now)
-        (LeavesBetween D.clock D.might devices.old devices.new)
+        (LeavesWhere (Stands D.contents devices.old session.old) D.clock D.might devices.old devices.new)
         (standing_at L.faults D.said session.old devices.old number line.now)
         (standing_at L.faults D.said session.new devices.new (number + 1) [])) }
     ensures front { IsTrue D.tells → OnErr result (ReplyIsInterrupted L.tells (L.files devices.old.shelf.now)
-        (LeavesBetween D.clock D.might devices.old devices.new)
+        (LeavesWhere (Stands D.contents devices.old session.old) D.clock D.might devices.old devices.new)
         (standing_at L.faults D.said session.old devices.old number line.now)
         (standing_at L.faults D.said session.new devices.new (number + 1) [])) }
+    ensures stood { IsTrue D.tells → Stands D.contents devices.old session.old →
+        OnOk result (Stands D.contents devices.new session.new) }
 
     // The next line may follow, and what stops the run has its cause.
     ensures ready { OnOk result (IsReadyFor D.tells D.contents D.may_leave devices.new (number + 1) session.new) }

@@ -7,7 +7,7 @@ ghost use Rattle.std.specs.Prelude.{◌≡◌, ◌+◌, ◌<◌, ◌≤◌, ◌�
 ghost use Rattle.chart_ports.specs.Count.{IsSteady, Rose, RoseBy};
 ghost use Rattle.chart_ports.specs.Disk.{SameFiles};
 ghost use Rattle.chart_ports.specs.Moments.{MayBeLeft, images_of};
-ghost use Rattle.chart_store.specs.Images.{Reading, read_of};
+ghost use Rattle.chart_store.specs.Images.{Reading, StandFor, read_of};
 ghost use Rattle.chart_store.specs.Store.{LeavesBefore, LeavesReading};
 ghost use Rattle.session_core.specs.Model.{portrayal_with};
 ghost use Rattle.ecdis_cli.specs.Counted.{most_at_opening, most_in_bank};
@@ -21,7 +21,7 @@ use crate::run::rounds::run_script;
 use crate::run::status::Status;
 use chart_model::Settings;
 use chart_ports::{Desk, Shelf, Source};
-use chart_store::{files_that_stand_are_read, open_store};
+use chart_store::open_store;
 use lookup_table::Table;
 use session_core::{Session, turns_follow_their_commands};
 use std::alloc::Global;
@@ -38,11 +38,13 @@ pub fn run_opened<S: Source, L: Shelf, D: Desk, C: Ledger>(
     script: &mut S,
     devices: &mut Devices<L, D, C>,
 ) -> Status
-    // From files that read as what is held, the replies to the script's lines are said, and a crash leaves what they
-    // acknowledge, or what one might have left before. No more is counted than the opening and the lines may count.
+    // From files that read as what is held, the replies to the script's lines are said, and where the files stand for
+    // that, a crash leaves what they acknowledge, or what one might have left before. No more is counted than the
+    // opening and the lines may count.
     ensures ran { IsTrue S.tells → IsTrue D.tells → (opening : Reading) →
         read_of (images_of (D.contents devices.old.desk.now)) ≡ Ok opening →
         Ran L.tells (L.files devices.old.shelf.now) (model_at (portrayal_with table settings) opening) result
+        (StandFor (images_of (D.contents devices.old.desk.now)) opening.state)
         (LeavesBetween D.clock D.might devices.old devices.new)
         (LeavesBefore (D.may_leave devices.old.desk.now) (D.said devices.old.desk.now))
         (MayBeLeft (D.may_leave devices.new.desk.now))
@@ -88,7 +90,6 @@ pub fn run_opened<S: Source, L: Shelf, D: Desk, C: Ledger>(
     ensures script_later { S.faults script.old ≤ S.faults script.new }
     ensures keeps { KeepsDevices L.tells L.files L.faults D.faults devices.old devices.new }
 {
-    files_that_stand_are_read();
     turns_follow_their_commands();
     let store = match open_store(alloc, devices.desk, devices.steps) {
         Ok(store) => store,

@@ -8,9 +8,9 @@ ghost use Rattle.std.specs.Prelude.{length, All, vec_len, ◌==◌, nat_lt, fals
 ghost use Rattle.chart_ports.specs.Count.{Rose};
 ghost use Rattle.session_core.specs.Session.{model_of};
 ghost use Rattle.ecdis_cli.specs.declared.run.line.TheConstants.{LOOKED_AT};
-ghost use Rattle.ecdis_cli.specs.Devices.{KeepsDevices, LeavesBetween};
+ghost use Rattle.ecdis_cli.specs.Devices.{KeepsDevices, LeavesWhere};
 ghost use Rattle.ecdis_cli.specs.Progress.{BytesAreTaken, RunIsStopped, ScriptIsFinished, ScriptIsUnfinished};
-ghost use Rattle.ecdis_cli.specs.Standing.{IsReadyFor, at_start};
+ghost use Rattle.ecdis_cli.specs.Standing.{IsReadyFor, Stands, at_start};
 
 use crate::run::answer::answer;
 use crate::run::devices::Devices;
@@ -62,13 +62,15 @@ impl Reader {
 
         // The line is taken, or the run stops within its reply.
         ensures ok { IsTrue D.tells → OnOk result (BytesAreTaken L.tells (L.files devices.old.shelf.now)
-            (LeavesBetween D.clock D.might devices.old devices.new)
+            (LeavesWhere (Stands D.contents devices.old self.old.session) D.clock D.might devices.old devices.new)
             (reader_at L.faults D.said self.old devices.old) (10 ∷ [])
             (reader_at L.faults D.said self.new devices.new)) }
         ensures err { IsTrue D.tells → OnErr result (RunIsStopped L.tells (L.files devices.old.shelf.now)
-            (LeavesBetween D.clock D.might devices.old devices.new)
+            (LeavesWhere (Stands D.contents devices.old self.old.session) D.clock D.might devices.old devices.new)
             (reader_at L.faults D.said self.old devices.old) (10 ∷ [])
             (reader_at L.faults D.said self.new devices.new)) }
+        ensures stood { IsTrue D.tells → Stands D.contents devices.old self.old.session →
+            OnOk result (Stands D.contents devices.new self.new.session) }
 
         // The next line may follow, and what stops the run has its cause.
         ensures number { self.new.number ≤ self.old.number + 1 }
@@ -113,13 +115,15 @@ impl Reader {
 
         // The byte is taken, or the run stops within it.
         ensures ok { IsTrue D.tells → OnOk result (BytesAreTaken L.tells (L.files devices.old.shelf.now)
-            (LeavesBetween D.clock D.might devices.old devices.new)
+            (LeavesWhere (Stands D.contents devices.old self.old.session) D.clock D.might devices.old devices.new)
             (reader_at L.faults D.said self.old devices.old) (byte ∷ [])
             (reader_at L.faults D.said self.new devices.new)) }
         ensures err { IsTrue D.tells → OnErr result (RunIsStopped L.tells (L.files devices.old.shelf.now)
-            (LeavesBetween D.clock D.might devices.old devices.new)
+            (LeavesWhere (Stands D.contents devices.old self.old.session) D.clock D.might devices.old devices.new)
             (reader_at L.faults D.said self.old devices.old) (byte ∷ [])
             (reader_at L.faults D.said self.new devices.new)) }
+        ensures stood { IsTrue D.tells → Stands D.contents devices.old self.old.session →
+            OnOk result (Stands D.contents devices.new self.new.session) }
 
         // The next line may follow, and what stops the run has its cause.
         ensures number { self.new.number ≤ self.old.number + 1 }
@@ -150,13 +154,15 @@ impl Reader {
 
         // The bytes are taken, or the run stops within them.
         ensures ok { IsTrue D.tells → OnOk result (BytesAreTaken L.tells (L.files devices.old.shelf.now)
-            (LeavesBetween D.clock D.might devices.old devices.new)
+            (LeavesWhere (Stands D.contents devices.old self.old.session) D.clock D.might devices.old devices.new)
             (reader_at L.faults D.said self.old devices.old) bytes.now
             (reader_at L.faults D.said self.new devices.new)) }
         ensures err { IsTrue D.tells → OnErr result (RunIsStopped L.tells (L.files devices.old.shelf.now)
-            (LeavesBetween D.clock D.might devices.old devices.new)
+            (LeavesWhere (Stands D.contents devices.old self.old.session) D.clock D.might devices.old devices.new)
             (reader_at L.faults D.said self.old devices.old) bytes.now
             (reader_at L.faults D.said self.new devices.new)) }
+        ensures stood { IsTrue D.tells → Stands D.contents devices.old self.old.session →
+            OnOk result (Stands D.contents devices.new self.new.session) }
 
         // The next line may follow, and what stops the run has its cause.
         ensures number { self.new.number ≤ self.old.number + length bytes.now }
@@ -184,13 +190,15 @@ impl Reader {
 
         // The last line is answered, or the run stops within its reply.
         ensures ok { IsTrue D.tells → OnOk result (ScriptIsFinished L.tells (L.files devices.old.shelf.now)
-            (LeavesBetween D.clock D.might devices.old devices.new)
+            (LeavesWhere (Stands D.contents devices.old self.old.session) D.clock D.might devices.old devices.new)
             (reader_at L.faults D.said self.old devices.old)
             (reader_at L.faults D.said self.new devices.new)) }
         ensures err { IsTrue D.tells → OnErr result (ScriptIsUnfinished L.tells (L.files devices.old.shelf.now)
-            (LeavesBetween D.clock D.might devices.old devices.new)
+            (LeavesWhere (Stands D.contents devices.old self.old.session) D.clock D.might devices.old devices.new)
             (reader_at L.faults D.said self.old devices.old)
             (reader_at L.faults D.said self.new devices.new)) }
+        ensures stood { IsTrue D.tells → Stands D.contents devices.old self.old.session →
+            OnOk result (Stands D.contents devices.new self.new.session) }
 
         // What is held is kept, and what stops the run has its cause.
         ensures ready { OnOk result

@@ -10,7 +10,7 @@ ghost use Rattle.session_core.specs.Session.{model_of};
 ghost use Rattle.ecdis_cli.specs.Devices.{KeepsDevices, LeavesBetween};
 ghost use Rattle.ecdis_cli.specs.Run.{Ran, outside_of};
 ghost use Rattle.ecdis_cli.specs.Status.{is_early};
-ghost use Rattle.ecdis_cli.specs.Standing.{IsReadyFor};
+ghost use Rattle.ecdis_cli.specs.Standing.{IsReadyFor, Stands};
 
 use crate::run::devices::Devices;
 use crate::run::reader::Reader;
@@ -37,9 +37,10 @@ pub fn run_script<S: Source, L: Shelf, D: Desk, C: Ledger>(
     requires ready { IsReadyFor D.tells D.contents D.may_leave devices.old 1 session }
 
     // The replies to the script's lines are said, the lines that were come to are counted, and a crash leaves what the
-    // replies acknowledge.
+    // replies acknowledge, where the files stand for what is held.
     ensures ran { IsTrue S.tells → IsTrue D.tells →
         Ran L.tells (L.files devices.old.shelf.now) (model_of session) result
+        (Stands D.contents devices.old session)
         (LeavesBetween D.clock D.might devices.old devices.new) (λ images so_far. ⊥)
         (MayBeLeft (D.may_leave devices.new.desk.now))
         (outside_of (S.left script.old) (D.said devices.old.desk.now) (L.faults devices.old.shelf.now)

@@ -1,4 +1,5 @@
-//! A script that is stopped at each call of the desk, and the store that is opened then.
+//! A script that is stopped at each call of the desk, and the store that is opened then. Two saves stand among its
+//! lines.
 //!
 //! A call that fails is torn, and leaves the images that a crash inside it may leave. A store is opened on three of
 //! these, and has to list what the commands left whose replies were begun, or one command more.
@@ -14,51 +15,63 @@ use std::marker::Brand;
 use std::sync::ledger::{Blank, Ledger};
 use std::test::Fail;
 
-/// A line, its reply, and what `cells` lists once it is run, where the line is accepted.
-static LINES: [(&str, &str, Option<&str>); 15] = [
-    ("cells\n", "ok cells 0\n", None),
+/// A line, its reply, what `cells` lists once it is run, where the line is accepted, and how many calls of the disk it
+/// makes: four for a command, and nine for the one slice of a save in which one command was accepted.
+static LINES: [(&str, &str, Option<&str>, usize); 18] = [
+    ("cells\n", "ok cells 0\n", None, 0),
     (
         "load T\n",
         "ok load AA5TEST1 1 0\n",
         Some("ok cells 1\ncell AA5TEST1 1 0 1 2\n"),
+        4,
     ),
-    ("load NONE\n", "no 71 NONE\n", None),
+    ("save\n", "ok save 1\n", None, 0),
+    ("load NONE\n", "no 71 NONE\n", None, 0),
     (
         "load U\n",
         "ok load AA5TEST1 1 1\n",
         Some("ok cells 1\ncell AA5TEST1 1 1 2 2\n"),
+        4,
     ),
-    ("hello\n", "no 70 5\n", None),
+    ("save-step 1\n", "ok saved\n", None, 9),
+    ("hello\n", "no 70 7\n", None, 0),
     (
         "load T0\n",
         "ok load AA5TEST0 1 0\n",
         Some("ok cells 2\ncell AA5TEST0 1 0 1 2\ncell AA5TEST1 1 1 2 2\n"),
+        4,
     ),
-    ("rollback AA5TEST1 7\n", "no 74 AA5TEST1 7\n", None),
+    ("rollback AA5TEST1 7\n", "no 74 AA5TEST1 7\n", None, 0),
     (
         "rollback AA5TEST1 0\n",
         "ok rollback AA5TEST1 1 0\n",
         Some("ok cells 2\ncell AA5TEST0 1 0 1 2\ncell AA5TEST1 1 0 1 2\n"),
+        4,
     ),
     (
         "load CANCEL\n",
         "ok cancel AA5TEST1\n",
         Some("ok cells 2\ncell AA5TEST0 1 0 1 2\ncell AA5TEST1 1 0 2 cancelled\n"),
+        4,
     ),
-    ("load U\n", "no 34 AA5TEST1\n", None),
+    ("load U\n", "no 34 AA5TEST1\n", None, 0),
+    // A save that is never ended.
+    ("save\n", "ok save 1\n", None, 0),
     (
         "rollback AA5TEST1 0\n",
         "ok rollback AA5TEST1 1 0\n",
         Some("ok cells 2\ncell AA5TEST0 1 0 1 2\ncell AA5TEST1 1 0 1 2\n"),
+        4,
     ),
-    ("drop ZZ\n", "no 73 ZZ\n", None),
+    ("drop ZZ\n", "no 73 ZZ\n", None, 0),
     (
         "drop AA5TEST0\n",
         "ok drop AA5TEST0\n",
         Some("ok cells 1\ncell AA5TEST1 1 0 1 2\n"),
+        4,
     ),
-    ("# a remark\n", "", None),
-    ("drop AA5TEST0\n", "no 73 AA5TEST0\n", None),
+    ("# a remark\n", "", None, 0),
+    ("drop AA5TEST0\n", "no 73 AA5TEST0\n", None, 0),
 ];
 
 /// What is listed of an empty store.
@@ -68,8 +81,8 @@ const NOTHING: &str = "ok cells 0\n";
 const OPENING: u64 = 8;
 
 /// The sides that a store shows which is opened after one of a command's calls failed, or its reply, with each fill of
-/// the bytes that are uncertain: what was held before it, or after it. A line that is not accepted has a reply alone,
-/// and shows what was held before it, as the first.
+/// the bytes that are uncertain: what was held before it, or after it. A line that is not accepted shows what was held
+/// before it wherever it is stopped, a save too.
 static FAILED: [&str; 5] = ["bbb", "bbb", "bba", "baa", "aaa"];
 
 fn run_with<C: Ledger>(
@@ -97,7 +110,7 @@ fn run(alloc: Global, script: &[u8], desk: &mut MemoryDesk) -> Result<Status, Al
 /// The whole script.
 fn script(alloc: Global) -> Result<Vec<u8>, AllocError> {
     let mut script = Vec::new(alloc);
-    for (line, _, _) in &LINES {
+    for (line, _, _, _) in &LINES {
         script.extend_from_slice(line.as_bytes())?;
     }
     Ok(script)
@@ -146,15 +159,12 @@ fn stops(
     Ok(ended == status && sides.as_str() == wanted)
 }
 
-/// How many calls a line makes: those of its command and of its reply, where there are such.
-fn calls_of(reply: &str, accepted: Option<&str>) -> usize {
-    if accepted.is_some() {
-        5
-    } else if reply.is_empty() {
-        0
-    } else {
-        1
+/// The sides where a line is stopped at its call of this number, from 0.
+fn wanted(accepted: bool, call: usize) -> &'static str {
+    if !accepted {
+        return "bbb";
     }
+    FAILED.get(call).copied().unwrap_or("?")
 }
 
 #[test]
@@ -171,10 +181,13 @@ fn a_crash_leaves_the_commands_that_were_acknowledged(rt: HostRuntime) -> Result
     let alloc = rt.alloc();
     let mut calls = OPENING;
     let mut before = NOTHING;
-    for (line, reply, accepted) in &LINES {
+    for (line, reply, accepted, count) in &LINES {
         let after = accepted.unwrap_or(before);
-        for wanted in FAILED.iter().take(calls_of(reply, *accepted)) {
+        // The last call says the reply, where there is one.
+        let all = count.saturating_add(usize::from(!reply.is_empty()));
+        for call in 0..all {
             calls = calls.saturating_add(1);
+            let wanted = wanted(accepted.is_some(), call);
             let stops = stops(alloc, calls, Status::DeskFault, before, after, wanted)?;
             assert!(rt; stops, "at call {calls}, {line}");
         }
@@ -190,7 +203,7 @@ fn a_crash_leaves_the_commands_that_were_acknowledged(rt: HostRuntime) -> Result
 fn the_output_is_the_replies(rt: HostRuntime) -> Result<(), Fail> {
     let alloc = rt.alloc();
     let mut said = Vec::new(alloc);
-    for (_, reply, _) in &LINES {
+    for (_, reply, _, _) in &LINES {
         said.extend_from_slice(reply.as_bytes())?;
     }
     let mut desk = MemoryDesk::new(alloc, failing(alloc, 0)?);

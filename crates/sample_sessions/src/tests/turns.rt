@@ -34,7 +34,7 @@ const FIRST: &[u8] =
 0000;&   \x1f*NAME!ORNT!USAG!MASK\x1f(B(40),3b11)\x1e";
 
 /// The records of a base file: general information; parameters; an isolated node; a point feature there.
-const BASE: &[u8] = b"00074 D   0900043   23 4DSID29000DSSI02029\x1e\
+pub const BASE: &[u8] = b"00074 D   0900043   23 4DSID29000DSSI02029\x1e\
 AA5TEST1.000\x1f1\x1f0\x1f20240131\x01&\x02\x1e\
 \x01\x1e\
 00049 D   0900034   23 4DSPM15000\x1e\
@@ -101,7 +101,7 @@ pub fn failing(alloc: Global, number: u64) -> Result<FailingCalls, AllocError> {
 }
 
 /// Puts a file of these records on the shelf.
-fn add_file(
+pub fn add_file(
     alloc: Global,
     shelf: &mut MemoryShelf,
     name: &str,
@@ -165,12 +165,12 @@ pub fn replies<C: Ledger>(
     Ok(said)
 }
 
-/// The replies to lines over a new store, where a call of the shelf and one of the desk fail.
+/// The replies to lines over the store of a desk, with the files of a shelf.
 fn replies_with<C: Ledger>(
     alloc: Global,
     lines: &[&[u8]],
-    fetch: u64,
-    call: u64,
+    shelf: &mut MemoryShelf,
+    desk: &mut MemoryDesk,
     blank: Blank,
 ) -> Result<Vec<u8>, AllocError>
     requires name { blank.name ≡ C.name }
@@ -178,26 +178,30 @@ fn replies_with<C: Ledger>(
     requires share { 0 < C.parts }
 {
     let mut steps = Steps::<C>::new(blank);
-    let mut shelf = shelf(alloc, fetch)?;
-    let mut desk = MemoryDesk::new(alloc, failing(alloc, call)?);
-    match open_store(alloc, &mut desk, &mut steps) {
+    match open_store(alloc, desk, &mut steps) {
         Ok(store) => {
             let mut session = Session::new(alloc, store, table(alloc)?, SETTINGS, &mut steps)?;
-            replies(
-                alloc,
-                &mut session,
-                &mut shelf,
-                &mut desk,
-                &mut steps,
-                lines,
-            )
+            replies(alloc, &mut session, shelf, desk, &mut steps, lines)
         }
         Err(_) => Vec::from_slice(alloc, b"not opened"),
     }
 }
 
+/// The same with a counter of its own.
+pub fn said_on(
+    alloc: Global,
+    lines: &[&[u8]],
+    shelf: &mut MemoryShelf,
+    desk: &mut MemoryDesk,
+) -> Result<Vec<u8>, AllocError> {
+    replies_with::<Brand>(alloc, lines, shelf, desk, Blank::new(1))
+}
+
+/// The replies over a new store, where a call of the shelf and one of the desk fail.
 fn said(alloc: Global, lines: &[&[u8]], fetch: u64, call: u64) -> Result<Vec<u8>, AllocError> {
-    replies_with::<Brand>(alloc, lines, fetch, call, Blank::new(1))
+    let mut shelf = shelf(alloc, fetch)?;
+    let mut desk = MemoryDesk::new(alloc, failing(alloc, call)?);
+    said_on(alloc, lines, &mut shelf, &mut desk)
 }
 
 /// Lines of a session, from one that asks about a file to one that lists the cells when the last is gone.

@@ -1,7 +1,7 @@
 //! Files that are no store's, with the place of their first fault worked out by hand.
 //!
-//! Any bytes may come from a disk, and the answer is the first fault in a fixed order: the head, the layout and the
-//! lengths of the bank, a checkpoint, and then the first record whose command is none or is refused.
+//! Any bytes may come from a disk, and the answer is the first fault in a fixed order: the layout and the lengths of
+//! the bank that the head names, its checkpoint, and then the first record whose command is none or is refused.
 
 use crate::banks::{CLOSED, DROPS, EXTENDS, HEAD, LOADS};
 use crate::files::{FIRST, GENERAL, MOVED, RECORDS, UPDATE, joined};
@@ -17,10 +17,11 @@ const UNKNOWN: &[u8] = b"\x01\0\0\0\x01\x04";
 const SILENT: &[u8] = b"\x01\0\0\0\0";
 
 /// The head, the bank, and what an opening answers.
-static FILES: [(&[u8], &[&[u8]], &str); 27] = [
-    // The head comes before the bank.
-    (b"\0", &[], "Foreign(0, 0)"),
-    (b"\0", &[b"\x01\0\0\0\0\0\0\0\0\0"], "Foreign(0, 0)"),
+static FILES: [(&[u8], &[&[u8]], &str); 28] = [
+    // The lowest bit of the head's first byte names the bank: 0 is bank 1, and bank 2 is empty.
+    (b"\0", &[], ""),
+    (b"\xfe\x01", &[b"\x01\0\0\0\0\0\0\0\0\0"], "Foreign(1, 0)"),
+    (b"\x01", &[b"\x01\0\0\0\0\0\0\0\0\0"], ""),
     // Nine bytes are an empty bank, whatever they are, and of ten the first is the layout.
     (b"", &[b"\x01\xff\xff\xff\xff\xff\xff\xff\x01"], ""),
     (b"", &[HEAD, b"\0\x01"], ""),

@@ -7,7 +7,7 @@ use crate::files::{ADDED, BASE, CANCEL, EDITION, FIRST_UPDATE, Given, OTHER, REC
 use crate::stores::{failing_desk, tell};
 use std::test::Fail;
 
-/// How many calls an opening of empty files makes: a sync of each of the three, the lengths of the head and the bank, a
+/// How many calls an opening of empty files makes: a sync of each of the three, a read of the head, the length and a
 /// read of the bank, and a write and a sync of nine zeros.
 pub const OPENING: u64 = 8;
 

@@ -9,7 +9,7 @@ ghost use Rattle.std.specs.Int.{IsInRange};
 ghost use Rattle.cell_bytes.specs.Generator.{made_cell};
 ghost use Rattle.cell_bytes.specs.Written.{data_records};
 ghost use Rattle.chart_closure.specs.Closed.{IsClosed};
-ghost use Rattle.chart_store.specs.Live.{AreLive};
+ghost use Rattle.chart_model.specs.State.{IsState};
 ghost use Rattle.session_core.specs.declared.fault.EventFault.TheVariants.{DeskFault, NoMemory};
 ghost use Rattle.session_core.specs.Answers.{Gives};
 ghost use Rattle.session_core.specs.Held.{chart_of};
@@ -119,7 +119,7 @@ fn reissue(alloc: Global, key: Key, cells: &HoldingMap) -> Result<Octets, EventF
 
 /// What the line `reissue` orders.
 pub fn reissue_order(alloc: Global, key: Key, cells: &HoldingMap) -> Result<Order, EventFault>
-    requires live { AreLive cells.now }
+    requires held { IsState (record { cells = cells.now }) }
     requires closed { IfSome (chart_of cells.now key) IsClosed }
     ensures given { Gives result (reissue_order cells.now key) }
     ensures keeps { result ≢ Err NoMemory → (model : Model) → model.state.cells ≡ cells.now →

@@ -1,37 +1,60 @@
--- What was judged can be built, and is then what the files leave.
+-- What was judged can be built, and can then be held.
 use Rattle.std.proofs.Common.{◌∙◌, Option, sym, ap, subst}
 use Rattle.std.specs.FinMap as map
 use Rattle.chart_difference.specs.Difference.{AreChanged}
 use Rattle.chart_model.specs.Cell.{CellValue}
-use Rattle.chart_store.specs.Taken.{chart_after, MayBuild}
-use Rattle.chart_store.proofs.Loading.{Laws}
-use Rattle.chart_store.proofs.Placing.{Holds, may-build, chart-found, live-by, state_by_effect-in, changed-in}
+use Rattle.chart_store.specs.Loaded.{chart_after}
+use Rattle.chart_store.specs.Taken.{MayBuild}
+use Rattle.chart_store.proofs.CanBeHeld.{Builds}
+use Rattle.chart_store.proofs.Placing.{may-build, chart-found, held-by, state_by_effect-in, changed-in}
 use Rattle.chart_store.proofs.load.next_by_effect.Goals as goal
 
 pub made_by-requires : goal.made_by-requires
 made_by-requires c =
     let keyed = c.key_of-key.ensures in
     let found = chart-found c.args.live.now.cells _ _ _ _ _ c.chart_of-before.ensures c.get.ensures c.cells.ensures.cells keyed in
-    let holds : Holds = record {
-      held = c.sequences_are_held.ensures.held;
-      closed = c.sequences_are_held.ensures.closed;
-    } in
     subst (λ (chart : Option CellValue). MayBuild chart c.args.effect c.args.dataset) (sym found)
-    (may-build holds c.args.dataset.header.key (map.get c.args.live.now.cells c.args.dataset.header.key)
+    (may-build c.args.dataset.header.key (map.get c.args.live.now.cells c.args.dataset.header.key)
     c.args.dataset c.args.effect (c.files_are_data_sets.ensures.kept c.args.file c.args.dataset c.requires.reads)
-    c.requires.live c.requires.judged)
+    c.requires.holds c.requires.closed c.requires.judged)
 
-pub with_file-requires-clause-live : goal.with_file-requires-clause-live
-with_file-requires-clause-live c =
+pub with_file-requires-clause-holds : goal.with_file-requires-clause-holds
+with_file-requires-clause-holds c =
     let keyed = c.key_of-key.ensures in
     let found = chart-found c.args.live.now.cells _ _ _ _ _ c.chart_of-before.ensures c.get.ensures c.cells.ensures.cells keyed in
     let builds = ap (λ (chart : Option CellValue). chart_after chart c.args.effect c.args.dataset) (sym found)
     ∙ c.in_ok-made.ensures.chart in
-    let laws : Laws = record { none = c.one_file_more.ensures.none; follow = c.accepted_files_follow.ensures } in
-    live-by c.args.live.now c.args.dataset c.args.file c.args.effect c.in_ok-made.made.held
+    let laws : Builds = record {
+      data_sets = c.files_are_data_sets.ensures.kept;
+      changes = c.files_are_data_sets.ensures.changes;
+      closed = c.charts_are_closed.ensures;
+      cells = c.charts_are_cells.ensures;
+      base = c.headers_follow.ensures.base;
+      update = c.headers_follow.ensures.update;
+    } in
+    (held-by c.args.live.now c.args.dataset c.args.file c.args.effect c.in_ok-made.made.held
     c.in_ok-made.made.chart
-    c.key_of-key.result keyed (c.in_ok-made.ensures.held ∙ c.requires.held) builds laws c.requires.live c.requires.reads c.requires.short
-    c.requires.judged
+    c.key_of-key.result keyed (c.in_ok-made.ensures.held ∙ c.requires.held) builds laws c.requires.holds c.requires.reads
+    c.requires.short c.requires.judged).holds
+
+pub with_file-requires-clause-closed : goal.with_file-requires-clause-closed
+with_file-requires-clause-closed c =
+    let keyed = c.key_of-key.ensures in
+    let found = chart-found c.args.live.now.cells _ _ _ _ _ c.chart_of-before.ensures c.get.ensures c.cells.ensures.cells keyed in
+    let builds = ap (λ (chart : Option CellValue). chart_after chart c.args.effect c.args.dataset) (sym found)
+    ∙ c.in_ok-made.ensures.chart in
+    let laws : Builds = record {
+      data_sets = c.files_are_data_sets.ensures.kept;
+      changes = c.files_are_data_sets.ensures.changes;
+      closed = c.charts_are_closed.ensures;
+      cells = c.charts_are_cells.ensures;
+      base = c.headers_follow.ensures.base;
+      update = c.headers_follow.ensures.update;
+    } in
+    (held-by c.args.live.now c.args.dataset c.args.file c.args.effect c.in_ok-made.made.held
+    c.in_ok-made.made.chart
+    c.key_of-key.result keyed (c.in_ok-made.ensures.held ∙ c.requires.held) builds laws c.requires.holds c.requires.reads
+    c.requires.short c.requires.judged).closed
 
 pub returns-clause-after : goal.returns-clause-after
 returns-clause-after c =

@@ -1,21 +1,18 @@
--- The step by what is held is the step by whole files.
+-- The step is the one of the data set that the file is.
 use Rattle.std.proofs.Common.{◌≡◌, ◌≤◌, List, ℕ, length, Ok, Result, sym, ◌∙◌, ap, subst}
 use Rattle.update_sequence.specs.Reading.{data_set_in}
 use Rattle.chart_store.specs.Loaded.{Outcome, FILE_LIMIT}
 use Rattle.chart_store.specs.Next.{GivesNext}
 use Rattle.chart_store.specs.declared.refusal.Refusal.{Refusal}
-use Rattle.chart_store.proofs.Accepting.{loaded-data_set}
-use Rattle.chart_store.proofs.Loading.{Laws}
+use Rattle.chart_store.proofs.Accepting.{loaded-reads}
 use Rattle.chart_store.proofs.load.next_of_file.Goals as goal
 
 pub returns-clause-after : goal.returns-clause-after
 returns-clause-after g c =
-    let laws : Laws = record { none = c.one_file_more.ensures.none; follow = c.accepted_files_follow.ensures } in
     let short : length c.args.file ≤ FILE_LIMIT =
     subst (λ (l : List ℕ). length l ≤ FILE_LIMIT) c.as_slice.ensures c.if-as_slice-gt-FILE_LIMIT.false in
     let reads : data_set_in c.args.file ≡ Ok c.in_ok-dataset.dataset =
     ap data_set_in (sym c.as_slice-2.ensures) ∙ c.in_ok-dataset.ensures.exact in
     subst (λ (wanted : Result Outcome Refusal). GivesNext c.next_of_data_set.result c.args.live.now wanted) (sym
-    (loaded-data_set laws c.args.live.now c.args.file c.in_ok-dataset.dataset
-    c.next_of_data_set.ensures.live short reads))
+    (loaded-reads c.args.live.now c.args.file c.in_ok-dataset.dataset short reads))
     c.next_of_data_set.ensures.after

@@ -22,4 +22,4 @@ returns-clause-stands c =
     taken-stands c.args.live.now.cells c.args.key c.args.effect c.args.made.held c.args.made.chart c.args.file _ _
     c.as_slice.ensures c.bytes_after-bytes.ensures _ _
     (c.get.ensures ∙ ap (λ (m : HoldingsByKey). map.get m c.args.key) c.cells.ensures.cells) c.in_ok-files.ensures
-    c.if-bytes-gt-STORE_LIMIT.false c.requires.live
+    c.if-bytes-gt-STORE_LIMIT.false c.requires.holds c.requires.closed

@@ -13,8 +13,8 @@ pub returns-in-Err-Refused-clause-ran : goal.returns-in-Err-Refused-clause-ran
 returns-in-Err-Refused-clause-ran g c =
     λ s d opening read.
     let desk = c.args.desk.now in
-    ran-untouched g.D.Desk.clock g.D.Desk.might c.files_that_stand_are_read.ensures.reads desk (g.D.Desk.contents desk)
-    (g.D.Desk.may_leave desk) (g.D.Desk.said desk) opening read c.turns_follow_their_commands.ensures.failed
+    ran-untouched g.D.Desk.clock g.D.Desk.might desk (g.D.Desk.contents desk)
+    (g.D.Desk.may_leave desk) (g.D.Desk.said desk) opening c.turns_follow_their_commands.ensures.failed
     (λ images so_far left. g.met.D.Desk.only_now desk images so_far d left) _ _ _ _ _ _ _ _ _ words-status (omega arith)
     (omega arith)
 
@@ -30,8 +30,8 @@ pub returns-in-Err-NoMemory-clause-ran : goal.returns-in-Err-NoMemory-clause-ran
 returns-in-Err-NoMemory-clause-ran g c =
     λ s d opening read.
     let desk = c.args.desk.now in
-    ran-untouched g.D.Desk.clock g.D.Desk.might c.files_that_stand_are_read.ensures.reads desk (g.D.Desk.contents desk)
-    (g.D.Desk.may_leave desk) (g.D.Desk.said desk) opening read c.turns_follow_their_commands.ensures.failed
+    ran-untouched g.D.Desk.clock g.D.Desk.might desk (g.D.Desk.contents desk)
+    (g.D.Desk.may_leave desk) (g.D.Desk.said desk) opening c.turns_follow_their_commands.ensures.failed
     (λ images so_far left. g.met.D.Desk.only_now desk images so_far d left) _ _ _ _ _ _ _ _ _ other-status (omega arith)
     (omega arith)
 
@@ -61,8 +61,8 @@ pub returns-in-Err-clause-ran : goal.returns-in-Err-clause-ran
 returns-in-Err-clause-ran g c =
     λ s d opening read.
     let desk = c.args.desk.now in
-    ran-untouched g.D.Desk.clock g.D.Desk.might c.files_that_stand_are_read.ensures.reads desk (g.D.Desk.contents desk)
-    (g.D.Desk.may_leave desk) (g.D.Desk.said desk) opening read c.turns_follow_their_commands.ensures.failed
+    ran-untouched g.D.Desk.clock g.D.Desk.might desk (g.D.Desk.contents desk)
+    (g.D.Desk.may_leave desk) (g.D.Desk.said desk) opening c.turns_follow_their_commands.ensures.failed
     (λ images so_far left. g.met.D.Desk.only_now desk images so_far d left) _ _ _ _ _ _ _ _ _
     (file-status _ c.in-Err.ensures.ends) c.fetch_tables.ensures.keeps.later (omega arith)
 
@@ -146,10 +146,10 @@ returns-clause-ran g c =
     λ s d opening read. (
       _,
       read-is g.L.Shelf.tells (g.L.Shelf.files c.args.shelf.now) (words_of (map string_bytes c.args.words.now)) (value_of c.in-Ok.words) _ c.in-Ok.ensures.said c.in-Ok-fetch_tables.ensures.found,
-      ran-lent g.L.Shelf.faults g.D.Desk.said g.D.Desk.may_leave g.D.Desk.clock g.D.Desk.might _ _ _ _ _ _ _ _
+      ran-lent g.L.Shelf.faults g.D.Desk.said g.D.Desk.may_leave g.D.Desk.clock g.D.Desk.might _ _ _ _ _ _ _ _ _
           c.run_opened.new.devices.desk.now _ c.run_opened.new.devices.shelf.now _ c.run_opened.new.devices.steps.now _
           (search rules) (search rules) (search rules)
-          (ran-later _ _ _ _ _ _ _ _ _ _ _ _ _ _ c.fetch_tables.ensures.keeps.files_stay
+          (ran-later _ _ _ _ _ _ _ _ _ _ _ _ _ _ _ c.fetch_tables.ensures.keeps.files_stay
           c.fetch_tables.ensures.keeps.later (c.run_opened.ensures.ran s d opening read)),
     )
 

@@ -1,14 +1,13 @@
--- What is put in place is what its files leave, and it is counted.
+-- What is put in place can be held, and it is counted.
 use Rattle.std.proofs.Common.{sym, subst}
 use Rattle.chart_model.specs.State.{StateValue}
 use Rattle.chart_store.specs.Live.{IsStore}
 use Rattle.chart_store.specs.Next.{CanStand}
 use Rattle.chart_store.proofs.Holdings.{IsStore-with}
-use Rattle.chart_store.proofs.Placing.{live-held-if}
 use Rattle.chart_store.proofs.live.LiveCells.set.Goals as goal
 
 pub set-requires : goal.set-requires
-set-requires c = live-held-if c.sequences_are_held.ensures.held c.args.key c.args.holding c.requires.live
+set-requires c = c.requires.holds
 
 pub invariant_of-self-2 : goal.invariant_of-self-2
 invariant_of-self-2 c =

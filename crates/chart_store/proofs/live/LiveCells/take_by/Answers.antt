@@ -3,7 +3,7 @@ use Rattle.std.specs.FinMap as map
 use Rattle.chart_model.specs.State.{StateValue}
 use Rattle.chart_model.specs.declared.state.Holding.{Holding}
 use Rattle.chart_difference.specs.Difference.{AreChanged}
-use Rattle.chart_store.specs.Taken.{chart_of}
+use Rattle.chart_store.specs.Loaded.{chart_of}
 use Rattle.chart_store.proofs.Holdings.{get-with}
 use Rattle.chart_store.proofs.live.LiveCells.take_by.Goals as goal
 

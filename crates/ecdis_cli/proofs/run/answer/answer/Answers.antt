@@ -2,34 +2,35 @@
 use Rattle.std.proofs.Common.{◌∙◌, refl}
 use Rattle.std.specs.Prelude.{IsTrue}
 use Rattle.session_core.specs.Session.{store_of}
-use Rattle.ecdis_cli.proofs.Answering.{Replied-told, answered-said, answered-silent, interrupted-before, interrupted-said}
+use Rattle.ecdis_cli.proofs.Answering.{Replied-told, same-stands, answered-said, answered-silent, interrupted-before, interrupted-said}
 use Rattle.ecdis_cli.proofs.ScriptSteps.{OnErr-from, OnErr-map, OnOk-from, OnOk-map}
 use Rattle.ecdis_cli.proofs.run.answer.answer.Goals as goal
 
 pub returns-in_err-reply-clause-front : goal.returns-in_err-reply-clause-front
 returns-in_err-reply-clause-front g c = λ d.
     let law = c.turns_follow_their_commands.ensures in
-    OnErr-from _ _ (interrupted-before g.D.Desk.clock g.D.Desk.might law.none law.some c.replies_are_spoken.ensures law.failed
+    OnErr-from _ _ (interrupted-before g.D.Desk.clock g.D.Desk.might _ law.none law.some c.replies_are_spoken.ensures law.failed
     _ _ _ _ _ c.reply_to.ensures.keeps.shelf.later _ _ _ _ refl refl (c.reply_to.ensures.said d)
-    (Replied-told g.D.Desk.clock g.D.Desk.might (IsTrue g.D.Desk.tells) d _ _ _ _ _ _ _ _ c.reply_to.ensures.replied))
+    (Replied-told g.D.Desk.clock g.D.Desk.might (IsTrue g.D.Desk.tells) _ d _ _ _ _ _ _ _ _ c.reply_to.ensures.replied))
 
 pub returns-in_default-clause-said : goal.returns-in_default-clause-said
 returns-in_default-clause-said g c = λ d.
     let law = c.turns_follow_their_commands.ensures in
-    answered-silent g.D.Desk.clock g.D.Desk.might law.none law.some c.replies_are_spoken.ensures law.failed
+    answered-silent g.D.Desk.clock g.D.Desk.might _ law.none law.some c.replies_are_spoken.ensures law.failed
     _ _ _ _ _ c.reply_to.ensures.keeps.shelf.later _ _ _ _ refl refl (c.reply_to.ensures.said d)
     (λ step h. (h.0 ∙ c.in_default.is, h.1))
-    (Replied-told g.D.Desk.clock g.D.Desk.might (IsTrue g.D.Desk.tells) d _ _ _ _ _ _ _ _ c.in_ok-reply.ensures.replied)
+    (Replied-told g.D.Desk.clock g.D.Desk.might (IsTrue g.D.Desk.tells) _ d _ _ _ _ _ _ _ _ c.in_ok-reply.ensures.replied)
 
 pub returns-clause-said : goal.returns-clause-said
 returns-clause-said g c = λ d.
     let law = c.turns_follow_their_commands.ensures in
     OnOk-map c.say.result _ _
-    (λ said. answered-said g.D.Desk.clock g.D.Desk.might law.none law.some c.replies_are_spoken.ensures law.failed
+    (λ said. answered-said g.D.Desk.clock g.D.Desk.might _ law.none law.some c.replies_are_spoken.ensures law.failed
     _ _ _ _ _ c.reply_to.ensures.keeps.shelf.later _ _ _ _ _ _ _ _ refl refl (c.reply_to.ensures.said d) said
     (λ step h. (h.0 ∙ c.in-Some.is, h.1))
-    (λ images left. c.kept_stores_are_read.ensures.stands c.reply_to.new.devices.desk.now _ images (c.in_ok-reply.ensures.ready.store.kept d) left)
-    (Replied-told g.D.Desk.clock g.D.Desk.might (IsTrue g.D.Desk.tells) d _ _ _ _ _ _ _ _ c.in_ok-reply.ensures.replied)
+    (λ stood images left. c.kept_stores_are_read.ensures.stands c.reply_to.new.devices.desk.now _ images (c.in_ok-reply.ensures.ready.store.kept d)
+    (c.in_ok-reply.ensures.stood d stood) left)
+    (Replied-told g.D.Desk.clock g.D.Desk.might (IsTrue g.D.Desk.tells) _ d _ _ _ _ _ _ _ _ c.in_ok-reply.ensures.replied)
     (c.say.ensures.moments d))
     (c.say.ensures.said d)
 
@@ -37,11 +38,12 @@ pub returns-clause-front : goal.returns-clause-front
 returns-clause-front g c = λ d.
     let law = c.turns_follow_their_commands.ensures in
     OnErr-map c.say.result _ _
-    (λ front. interrupted-said g.D.Desk.clock g.D.Desk.might law.none law.some c.replies_are_spoken.ensures law.failed
+    (λ front. interrupted-said g.D.Desk.clock g.D.Desk.might _ law.none law.some c.replies_are_spoken.ensures law.failed
     _ _ _ _ _ c.reply_to.ensures.keeps.shelf.later _ _ _ _ _ _ _ _ refl refl (c.reply_to.ensures.said d) front
     (λ step h. (h.0 ∙ c.in-Some.is, h.1))
-    (λ images left. c.kept_stores_are_read.ensures.stands c.reply_to.new.devices.desk.now _ images (c.in_ok-reply.ensures.ready.store.kept d) left)
-    (Replied-told g.D.Desk.clock g.D.Desk.might (IsTrue g.D.Desk.tells) d _ _ _ _ _ _ _ _ c.in_ok-reply.ensures.replied)
+    (λ stood images left. c.kept_stores_are_read.ensures.stands c.reply_to.new.devices.desk.now _ images (c.in_ok-reply.ensures.ready.store.kept d)
+    (c.in_ok-reply.ensures.stood d stood) left)
+    (Replied-told g.D.Desk.clock g.D.Desk.might (IsTrue g.D.Desk.tells) _ d _ _ _ _ _ _ _ _ c.in_ok-reply.ensures.replied)
     (c.say.ensures.moments d))
     (c.say.ensures.front d)
 
@@ -57,3 +59,10 @@ returns-clause-ready g c =
       };
       counted = ready.counted;
     })
+
+pub returns-in_default-clause-stood : goal.returns-in_default-clause-stood
+returns-in_default-clause-stood g c = λ d stood. c.in_ok-reply.ensures.stood d stood
+
+pub returns-clause-stood : goal.returns-clause-stood
+returns-clause-stood g c = λ d stood.
+    OnOk-from c.say.result _ (same-stands _ _ _ (c.say.ensures.files d) (c.in_ok-reply.ensures.stood d stood))

@@ -22,9 +22,9 @@ returns-clause-given c = next-done next (reissue_file c.args.cells.now c.args.ke
 
 pub returns-in_err-file-clause-keeps : goal.returns-in_err-file-clause-keeps
 returns-in_err-file-clause-keeps c = λ other model same.
-    same-cells c.reissues_keep_the_chart.ensures _ _ c.requires.live
+    same-cells c.reissues_keep_the_chart.ensures _ _ c.requires.held
     (c.in_err-file.ensures.reads_back (not-passed c.from_residual.result c.in_err-file.field-0.0 NoMemory c.from_residual.ensures.1 other)) model same
 
 pub returns-clause-keeps : goal.returns-clause-keeps
 returns-clause-keeps c = λ other model same.
-    same-cells c.reissues_keep_the_chart.ensures _ _ c.requires.live (c.in_ok-file.ensures.reads_back (λ e. cc)) model same
+    same-cells c.reissues_keep_the_chart.ensures _ _ c.requires.held (c.in_ok-file.ensures.reads_back (λ e. cc)) model same

@@ -1,6 +1,8 @@
 -- Each event is answered, or stopped by a fault.
-use Rattle.std.proofs.Common.{◌≡◌, ◌+◌, ◌≤◌, ℕ, false, Ok, Err, sym, ◌∙◌, ap, subst}
+use Rattle.std.proofs.Common.{◌≡◌, ◌+◌, ◌≤◌, ℕ, false, Ok, Err, sym, ◌∙◌, ap, subst, arith}
 use Rattle.chart_model.specs.State.{StateValue}
+use Rattle.chart_ports.specs.Moments.{images_of}
+use Rattle.chart_store.specs.Images.{StandFor}
 use Rattle.chart_store.specs.Loaded.{HoldingsByKey}
 use Rattle.route_check.specs.Grids.{HasGrids}
 use Rattle.script_reader.specs.Line.{AreInRange, CanBeMade}
@@ -21,7 +23,9 @@ use Rattle.session_core.proofs.Fetching.{are-served}
 use Rattle.session_core.proofs.Reissuing.{event-keeps, not-passed}
 use Rattle.session_core.proofs.Renewing.{has-grids}
 use Rattle.session_core.proofs.Stepping.{none-taken, within, within-none}
-use Rattle.session_core.proofs.Turning.{no-call, question-turns, order-fails, order-turns, info-is, info-steps, cells-is, draw-is, route-is, load-is, rollback-is, drop-is, make-is, reissue-is}
+use Rattle.session_core.proofs.Saves.{begun-count, begun-held, begun-ready, held-within, no-slices}
+use Rattle.session_core.proofs.Turning.{no-call, question-turns, order-fails, order-turns, save-turns, same-either}
+use Rattle.session_core.proofs.Turning.{info-is, info-steps, cells-is, draw-is, route-is, load-is, rollback-is, drop-is, save-is, save-step-is, make-is, reissue-is}
 use Rattle.topology_cache.specs.Users.{AreUsersOf}
 use Rattle.session_core.proofs.session.Session.carry_out.Goals as goal
 
@@ -34,33 +38,33 @@ returns-in-Info-clause-turned g c =
     (within (model_of c.args.self.now).state (model_of c.args.self.now).state c.args.steps.now c.inform.new.steps) found.0 _ c.inform.result found.1 (info-is found.0 (model_of c.args.self.now) c.args.event c.in-Info.name c.in-Info.is)
     (within-none _ (model_of c.args.self.now).state c.args.steps.now c.inform.new.steps
     (subst (λ (most : ℕ). c.inform.new.steps ≤ c.args.steps.now + most)
-    (sym (info-steps found.0 (model_of c.args.self.now) c.args.event c.in-Info.name c.in-Info.is)) found.3)) found.2 (λ after tells.
+    (sym (info-steps found.0 (model_of c.args.self.now) c.args.event c.in-Info.name c.in-Info.is)) found.3)) found.2 (λ after tells stood.
     no-call g.D.Desk.clock g.D.Desk.might c.args.desk.now (g.D.Desk.may_leave c.args.desk.now) (g.D.Desk.said c.args.desk.now)
     (model_of c.args.self.now).state after
     (λ images bytes left. g.met.D.Desk.only_now c.args.desk.now images bytes tells left)
-    (λ images left. c.kept_stores_are_read.ensures.stands c.args.desk.now (store_of c.args.self.now) images (c.requires.ready.kept tells) left))
+    (λ images left. c.kept_stores_are_read.ensures.stands c.args.desk.now (store_of c.args.self.now) images (c.requires.ready.kept tells) stood left))
 
 pub returns-in-Cells-clause-turned : goal.returns-in-Cells-clause-turned
 returns-in-Cells-clause-turned g c =
     question-turns _ _ _ c.args.event (model_of c.args.self.now)
     (within (model_of c.args.self.now).state (model_of c.args.self.now).state c.args.steps.now c.args.steps.now) (fetches_of (g.L.Shelf.files c.args.shelf.now) false) _ c.list_cells.result (are-served g.L.Shelf.tells (g.L.Shelf.files c.args.shelf.now) _ _) (cells-is (fetches_of (g.L.Shelf.files c.args.shelf.now) false) (model_of c.args.self.now) c.args.event c.in-Cells.is)
     (none-taken _ (model_of c.args.self.now).state c.args.steps.now)
-    (subst (λ (held : HoldingsByKey). Gives {A = Reply} c.list_cells.result (Ok (cells_reply held))) c.cells_of.ensures.cells c.list_cells.ensures.given) (λ after tells.
+    (subst (λ (held : HoldingsByKey). Gives {A = Reply} c.list_cells.result (Ok (cells_reply held))) c.cells_of.ensures.cells c.list_cells.ensures.given) (λ after tells stood.
     no-call g.D.Desk.clock g.D.Desk.might c.args.desk.now (g.D.Desk.may_leave c.args.desk.now) (g.D.Desk.said c.args.desk.now)
     (model_of c.args.self.now).state after
     (λ images bytes left. g.met.D.Desk.only_now c.args.desk.now images bytes tells left)
-    (λ images left. c.kept_stores_are_read.ensures.stands c.args.desk.now (store_of c.args.self.now) images (c.requires.ready.kept tells) left))
+    (λ images left. c.kept_stores_are_read.ensures.stands c.args.desk.now (store_of c.args.self.now) images (c.requires.ready.kept tells) stood left))
 
 pub returns-in-Draw-clause-turned : goal.returns-in-Draw-clause-turned
 returns-in-Draw-clause-turned g c =
     question-turns _ _ _ c.args.event (model_of c.args.self.now)
     (within (model_of c.args.self.now).state (model_of c.args.self.now).state c.args.steps.now c.args.steps.now) (fetches_of (g.L.Shelf.files c.args.shelf.now) false) _ c.draw_chart.result (are-served g.L.Shelf.tells (g.L.Shelf.files c.args.shelf.now) _ _) (draw-is (fetches_of (g.L.Shelf.files c.args.shelf.now) false) (model_of c.args.self.now) c.args.event c.in-Draw.key c.in-Draw.is)
     (none-taken _ (model_of c.args.self.now).state c.args.steps.now)
-    (subst (λ (held : HoldingsByKey). Gives {A = Reply} c.draw_chart.result (draw_of (model_of c.args.self.now).portrayal held c.in-Draw.key)) c.cells_of-cells.ensures.cells c.draw_chart.ensures.given) (λ after tells.
+    (subst (λ (held : HoldingsByKey). Gives {A = Reply} c.draw_chart.result (draw_of (model_of c.args.self.now).portrayal held c.in-Draw.key)) c.cells_of-cells.ensures.cells c.draw_chart.ensures.given) (λ after tells stood.
     no-call g.D.Desk.clock g.D.Desk.might c.args.desk.now (g.D.Desk.may_leave c.args.desk.now) (g.D.Desk.said c.args.desk.now)
     (model_of c.args.self.now).state after
     (λ images bytes left. g.met.D.Desk.only_now c.args.desk.now images bytes tells left)
-    (λ images left. c.kept_stores_are_read.ensures.stands c.args.desk.now (store_of c.args.self.now) images (c.requires.ready.kept tells) left))
+    (λ images left. c.kept_stores_are_read.ensures.stands c.args.desk.now (store_of c.args.self.now) images (c.requires.ready.kept tells) stood left))
 
 pub returns-in-Route-clause-turned : goal.returns-in-Route-clause-turned
 returns-in-Route-clause-turned g c =
@@ -69,11 +73,11 @@ returns-in-Route-clause-turned g c =
     (within (model_of c.args.self.now).state (model_of c.args.self.now).state c.args.steps.now c.args.steps.now) found.0 _ c.check_route.result found.1 (route-is found.0 (model_of c.args.self.now) c.args.event c.in-Route.name c.in-Route.is)
     (none-taken _ (model_of c.args.self.now).state c.args.steps.now)
     (subst (λ (state : StateValue). Gives {A = Reply} c.check_route.result (route_of (model_of c.args.self.now).portrayal.settings state c.in-Route.name (found.0 ROUTE_LIMIT c.in-Route.name)))
-    c.state-state.ensures.state found.2) (λ after tells.
+    c.state-state.ensures.state found.2) (λ after tells stood.
     no-call g.D.Desk.clock g.D.Desk.might c.args.desk.now (g.D.Desk.may_leave c.args.desk.now) (g.D.Desk.said c.args.desk.now)
     (model_of c.args.self.now).state after
     (λ images bytes left. g.met.D.Desk.only_now c.args.desk.now images bytes tells left)
-    (λ images left. c.kept_stores_are_read.ensures.stands c.args.desk.now (store_of c.args.self.now) images (c.requires.ready.kept tells) left))
+    (λ images left. c.kept_stores_are_read.ensures.stands c.args.desk.now (store_of c.args.self.now) images (c.requires.ready.kept tells) stood left))
 
 -- ---- changes
 
@@ -82,11 +86,11 @@ returns-in_err-order-in-Load-clause-turned g c =
     let found = c.in_err-order-in-Load.ensures.found in
     order-fails _ _ _ c.args.event (model_of c.args.self.now)
     (within (model_of c.args.self.now).state (model_of c.args.self.now).state c.args.steps.now c.args.steps.now) found.0 _ c.from_residual.result c.in_err-order-in-Load.field-0.0 found.1
-    (load-is found.0 (model_of c.args.self.now) c.args.event c.in-Load.name c.in-Load.is) (none-taken _ (model_of c.args.self.now).state c.args.steps.now) c.from_residual.ensures.1 found.2 (λ after tells.
+    (load-is found.0 (model_of c.args.self.now) c.args.event c.in-Load.name c.in-Load.is) (none-taken _ (model_of c.args.self.now).state c.args.steps.now) c.from_residual.ensures.1 found.2 (λ after tells stood.
     no-call g.D.Desk.clock g.D.Desk.might c.args.desk.now (g.D.Desk.may_leave c.args.desk.now) (g.D.Desk.said c.args.desk.now)
     (model_of c.args.self.now).state after
     (λ images bytes left. g.met.D.Desk.only_now c.args.desk.now images bytes tells left)
-    (λ images left. c.kept_stores_are_read.ensures.stands c.args.desk.now (store_of c.args.self.now) images (c.requires.ready.kept tells) left))
+    (λ images left. c.kept_stores_are_read.ensures.stands c.args.desk.now (store_of c.args.self.now) images (c.requires.ready.kept tells) stood left))
 
 pub returns-in_ok-order-in-Load-clause-turned : goal.returns-in_ok-order-in-Load-clause-turned
 returns-in_ok-order-in-Load-clause-turned g c =
@@ -109,6 +113,74 @@ returns-in-Drop-clause-turned g c =
     (drop-is (fetches_of (g.L.Shelf.files c.args.shelf.now) false) (model_of c.args.self.now) c.args.event c.in-Drop.key c.in-Drop.is) (ap Ok (sym c.drop_order.ensures))
     c.obey-in-Drop.ensures.steps c.obey-in-Drop.ensures.given c.obey-in-Drop.ensures.moments
 
+-- ---- saves
+
+pub returns-in-Save-clause-turned : goal.returns-in-Save-clause-turned
+returns-in-Save-clause-turned g c =
+    let fetches = fetches_of (g.L.Shelf.files c.args.shelf.now) false in
+    let before = model_of c.args.self.now in
+    save-turns _ _ _ c.args.event before
+    (within before.state (model_of c.begin_save.new.self).state c.args.steps.now c.args.steps.now) fetches _ c.begin_save.result (model_of c.begin_save.new.self)
+    (are-served g.L.Shelf.tells (g.L.Shelf.files c.args.shelf.now) _ _) (save-is fetches before c.args.event c.in-Save.is)
+    (held-within _ before.state (model_of c.begin_save.new.self).state c.args.steps.now
+    (begun-held c.args.self.now c.begin_save.new.self c.begin_save.result c.begin_save.ensures.begun c.begin_save.ensures.err))
+    c.begin_save.ensures.given (λ after tells stood.
+    no-call g.D.Desk.clock g.D.Desk.might c.args.desk.now (g.D.Desk.may_leave c.args.desk.now) (g.D.Desk.said c.args.desk.now)
+    before.state after
+    (λ images bytes left. g.met.D.Desk.only_now c.args.desk.now images bytes tells left)
+    (λ images left. c.kept_stores_are_read.ensures.stands c.args.desk.now (store_of c.args.self.now) images (c.requires.ready.kept tells) stood left))
+
+pub returns-in-Save-clause-ready : goal.returns-in-Save-clause-ready
+returns-in-Save-clause-ready g c = λ no_fault no_want.
+    let old = c.args.self.now in
+    let new = c.begin_save.new.self in
+    begun-ready g.D.Desk.tells (g.D.Desk.contents c.args.desk.now) (g.D.Desk.may_leave c.args.desk.now) old new c.begin_save.result
+    (λ slices begun kept. c.begun_saves_are_kept.ensures c.args.desk.now slices (store_of old) (store_of new) kept begun)
+    c.begin_save.ensures.begun c.begin_save.ensures.err c.begin_save.ensures.users c.begin_save.ensures.grids c.requires.ready
+
+pub returns-in-Save-clause-accepts : goal.returns-in-Save-clause-accepts
+returns-in-Save-clause-accepts g c =
+    let same = begun-count c.args.self.now c.begin_save.new.self c.begin_save.result c.begin_save.ensures.begun c.begin_save.ensures.err in
+    record { one_command = omega (arith, same); unaccepted = λ e. same }
+
+pub returns-in-Save-clause-stood : goal.returns-in-Save-clause-stood
+returns-in-Save-clause-stood g c = λ tells stood no_fault.
+    subst (StandFor (images_of (g.D.Desk.contents c.args.desk.now)))
+    (sym (begun-held c.args.self.now c.begin_save.new.self c.begin_save.result c.begin_save.ensures.begun c.begin_save.ensures.err)) stood
+
+pub write_slices-requires-clause-some : goal.write_slices-requires-clause-some
+write_slices-requires-clause-some g c = subst AreInRange c.in-SaveStep.is c.requires.ranges
+
+pub returns-in-SaveStep-clause-turned : goal.returns-in-SaveStep-clause-turned
+returns-in-SaveStep-clause-turned g c =
+    let fetches = fetches_of (g.L.Shelf.files c.args.shelf.now) false in
+    let before = model_of c.args.self.now in
+    save-turns _ _ _ c.args.event before
+    (within before.state (model_of c.write_slices.new.self).state c.args.steps.now c.args.steps.now) fetches _ c.write_slices.result (model_of c.write_slices.new.self)
+    (are-served g.L.Shelf.tells (g.L.Shelf.files c.args.shelf.now) _ _) (save-step-is fetches before c.args.event c.in-SaveStep.slices c.in-SaveStep.is)
+    (held-within _ before.state (model_of c.write_slices.new.self).state c.args.steps.now c.write_slices.ensures.held)
+    c.write_slices.ensures.given (λ after tells stood.
+    same-either g.D.Desk.clock g.D.Desk.might c.args.desk.now c.write_slices.new.desk (g.D.Desk.said c.args.desk.now) before.state after
+    (c.write_slices.ensures.moments tells stood))
+
+pub returns-in-SaveStep-clause-accepts : goal.returns-in-SaveStep-clause-accepts
+returns-in-SaveStep-clause-accepts g c =
+    let same = c.write_slices.ensures.count in
+    record { one_command = omega (arith, same); unaccepted = λ e. same }
+
+pub returns-in-SaveStep-clause-untouched : goal.returns-in-SaveStep-clause-untouched
+returns-in-SaveStep-clause-untouched g c = λ none no_fault count.
+    no-slices (model_of c.args.self.now) c.args.event c.in-SaveStep.slices c.in-SaveStep.is none c.write_slices.ensures.untouched
+
+pub returns-in-SaveStep-clause-others : goal.returns-in-SaveStep-clause-others
+returns-in-SaveStep-clause-others g c = λ none.
+    no-slices (model_of c.args.self.now) c.args.event c.in-SaveStep.slices c.in-SaveStep.is none (λ idle.
+    let same = c.write_slices.ensures.untouched idle in
+    record {
+      others = λ tells file apart. ap (λ desk. g.D.Desk.contents desk file) same;
+      crash_others = λ tells file apart bytes left. subst (λ desk. g.D.Desk.may_leave desk file bytes) same left;
+    })
+
 -- the numbers of the line are in their ranges
 in-range : (event : Event) (areas update : ℕ) → event ≡ Make areas update → AreInRange event → CanBeMade areas update
 in-range event areas update is h = subst AreInRange is h
@@ -124,11 +196,11 @@ returns-in_err-order-in-Make-clause-turned g c =
     order-fails _ _ _ c.args.event (model_of c.args.self.now)
     (within (model_of c.args.self.now).state (model_of c.args.self.now).state c.args.steps.now c.args.steps.now) (fetches_of (g.L.Shelf.files c.args.shelf.now) false) _ c.from_residual-in_err-order-in-Make.result c.in_err-order-in-Make.field-0.0 (are-served g.L.Shelf.tells (g.L.Shelf.files c.args.shelf.now) _ _)
     (make-is (fetches_of (g.L.Shelf.files c.args.shelf.now) false) (model_of c.args.self.now) c.args.event c.in-Make.areas c.in-Make.update c.in-Make.is) (none-taken _ (model_of c.args.self.now).state c.args.steps.now) c.from_residual-in_err-order-in-Make.ensures.1
-    c.in_err-order-in-Make.ensures.given (λ after tells.
+    c.in_err-order-in-Make.ensures.given (λ after tells stood.
     no-call g.D.Desk.clock g.D.Desk.might c.args.desk.now (g.D.Desk.may_leave c.args.desk.now) (g.D.Desk.said c.args.desk.now)
     (model_of c.args.self.now).state after
     (λ images bytes left. g.met.D.Desk.only_now c.args.desk.now images bytes tells left)
-    (λ images left. c.kept_stores_are_read.ensures.stands c.args.desk.now (store_of c.args.self.now) images (c.requires.ready.kept tells) left))
+    (λ images left. c.kept_stores_are_read.ensures.stands c.args.desk.now (store_of c.args.self.now) images (c.requires.ready.kept tells) stood left))
 
 pub returns-in_ok-order-in-Make-clause-turned : goal.returns-in_ok-order-in-Make-clause-turned
 returns-in_ok-order-in-Make-clause-turned g c =
@@ -143,11 +215,11 @@ returns-in_err-order-in-Reissue-clause-turned g c =
     order-fails _ _ _ c.args.event (model_of c.args.self.now)
     (within (model_of c.args.self.now).state (model_of c.args.self.now).state c.args.steps.now c.args.steps.now) (fetches_of (g.L.Shelf.files c.args.shelf.now) false) _ c.from_residual-in_err-order-in-Reissue.result c.in_err-order-in-Reissue.field-0.0 (are-served g.L.Shelf.tells (g.L.Shelf.files c.args.shelf.now) _ _)
     (reissue-is (fetches_of (g.L.Shelf.files c.args.shelf.now) false) (model_of c.args.self.now) c.args.event c.in-Reissue.key c.in-Reissue.is) (none-taken _ (model_of c.args.self.now).state c.args.steps.now) c.from_residual-in_err-order-in-Reissue.ensures.1
-    (subst (λ (held : HoldingsByKey). Gives {A = Order} (Err c.in_err-order-in-Reissue.field-0.0) (reissue_order held c.in-Reissue.key)) same c.in_err-order-in-Reissue.ensures.given) (λ after tells.
+    (subst (λ (held : HoldingsByKey). Gives {A = Order} (Err c.in_err-order-in-Reissue.field-0.0) (reissue_order held c.in-Reissue.key)) same c.in_err-order-in-Reissue.ensures.given) (λ after tells stood.
     no-call g.D.Desk.clock g.D.Desk.might c.args.desk.now (g.D.Desk.may_leave c.args.desk.now) (g.D.Desk.said c.args.desk.now)
     (model_of c.args.self.now).state after
     (λ images bytes left. g.met.D.Desk.only_now c.args.desk.now images bytes tells left)
-    (λ images left. c.kept_stores_are_read.ensures.stands c.args.desk.now (store_of c.args.self.now) images (c.requires.ready.kept tells) left))
+    (λ images left. c.kept_stores_are_read.ensures.stands c.args.desk.now (store_of c.args.self.now) images (c.requires.ready.kept tells) stood left))
 
 pub returns-in_ok-order-in-Reissue-clause-turned : goal.returns-in_ok-order-in-Reissue-clause-turned
 returns-in_ok-order-in-Reissue-clause-turned g c =

@@ -1,26 +1,29 @@
 -- What is kept follows the store.
-use Rattle.std.proofs.Common.{◌≡◌, sym, subst}
+use Rattle.std.proofs.Common.{◌≡◌, refl, sym, subst}
 use Rattle.std.specs.Prelude.{IsTrue}
-use Rattle.chart_store.specs.Store.{IsKept, is_sound, room_of, state_of}
+use Rattle.chart_model.specs.State.{StateValue}
+use Rattle.chart_ports.specs.Moments.{LeavesOnly, images_of}
+use Rattle.chart_store.specs.Images.{StandFor}
+use Rattle.chart_store.specs.Store.{IsKept, StandsForEither, StoreValue, is_sound, room_of, state_of}
 use Rattle.chart_store.specs.declared.store.Store.{Store}
 use Rattle.session_core.specs.Kept.{IsKeptOfEach}
-use Rattle.session_core.specs.Session.{grids_in, store_of, users_in}
+use Rattle.session_core.specs.Session.{grids_in, model_of, store_of, users_in}
 use Rattle.spatial_grid.specs.Box.{IsGridOf}
 use Rattle.topology_cache.specs.Users.{AreUsersOf}
 use Rattle.session_core.proofs.Keeping.{kept-renewed}
-use Rattle.session_core.proofs.Renewing.{other-fault, others-stay, refused-steps, stays-sound}
+use Rattle.session_core.proofs.Renewing.{order-leaves, other-fault, others-stay, refused-given, refused-steps, stays-sound}
 use Rattle.session_core.proofs.session.Session.obey.Goals as goal
 
 pub returns-in_err-done-clause-ready : goal.returns-in_err-done-clause-ready
 returns-in_err-done-clause-ready g c = λ no_fault no_want.
     let apart = other-fault c.from_residual.result c.in_err-done.field-0.0 c.from_residual.ensures.1 no_fault in
-    let same : c.submit.new.self ≡ store_of c.args.self.now = (c.in_err-done.ensures.unchanged apart).0 in
+    let same = (c.in_err-done.ensures.unchanged apart).0 in
     record {
-      sound = subst (λ (store : Store). IsTrue (is_sound store)) (sym same) c.requires.ready.sound;
+      sound = subst (λ (store : StoreValue). IsTrue store.sound) (sym same) c.requires.ready.sound;
       kept = λ tells. c.in_err-done.ensures.kept tells apart;
       charts = record {
-        users = subst (λ (store : Store). IsKeptOfEach AreUsersOf (state_of store).cells (users_in c.args.self.now)) (sym same) c.requires.ready.charts.users;
-        grids = subst (λ (store : Store). IsKeptOfEach IsGridOf (state_of store).cells (grids_in c.args.self.now)) (sym same) c.requires.ready.charts.grids;
+        users = subst (λ (store : StoreValue). IsKeptOfEach AreUsersOf store.state.cells (users_in c.args.self.now)) (sym same) c.requires.ready.charts.users;
+        grids = subst (λ (store : StoreValue). IsKeptOfEach IsGridOf store.state.cells (grids_in c.args.self.now)) (sym same) c.requires.ready.charts.grids;
       };
     }
 
@@ -46,3 +49,32 @@ returns-clause-ready g c = λ no_fault no_want.
             c.requires.ready.charts.grids stay c.in_ok-keep_up.ensures.grids);
       };
     }
+
+pub returns-in_err-done-clause-given : goal.returns-in_err-done-clause-given
+returns-in_err-done-clause-given g c =
+    refused-given c.args.self.now (record c.args.self.now { store = c.submit.new.self }) c.args.order c.in_err-done.field-0.0 c.from_residual.result c.from_residual.ensures.1
+    c.in_err-done.ensures.outcome (λ apart. (c.in_err-done.ensures.unchanged apart).0) c.in_err-done.ensures.held.0 refl
+
+-- ---- what a read gives
+
+pub returns-in_err-done-clause-stood : goal.returns-in_err-done-clause-stood
+returns-in_err-done-clause-stood g c = λ tells stood no_fault.
+    c.in_err-done.ensures.stood tells stood (other-fault c.from_residual.result c.in_err-done.field-0.0 c.from_residual.ensures.1 no_fault)
+
+pub returns-in_err-keep_up-clause-stood : goal.returns-in_err-keep_up-clause-stood
+returns-in_err-keep_up-clause-stood g c = λ tells stood no_fault.
+    subst (λ (store : Store). StandFor (images_of (g.D.Desk.contents c.submit.new.desk)) (state_of store)) (sym c.in_err-keep_up.ensures.store)
+    (c.in_ok-done.ensures.stood tells stood (λ e. cc))
+
+pub returns-clause-stood : goal.returns-clause-stood
+returns-clause-stood g c = λ tells stood no_fault.
+    subst (λ (store : Store). StandFor (images_of (g.D.Desk.contents c.submit.new.desk)) (state_of store)) (sym c.in_ok-keep_up.ensures.store)
+    (c.in_ok-done.ensures.stood tells stood (λ e. cc))
+
+-- ---- what a crash leaves
+
+pub returns-in_err-done-clause-moments : goal.returns-in_err-done-clause-moments
+returns-in_err-done-clause-moments g c = λ tells stood.
+    subst (λ (after : StateValue). LeavesOnly g.D.Desk.clock g.D.Desk.might c.args.desk.now c.submit.new.desk
+    (StandsForEither (g.D.Desk.said c.args.desk.now) (state_of (store_of c.args.self.now)) after))
+    (order-leaves (model_of c.args.self.now) c.args.order) (c.submit.ensures.moments tells stood)

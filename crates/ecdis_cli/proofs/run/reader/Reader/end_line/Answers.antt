@@ -1,10 +1,10 @@
 -- The line ends, and the next has not begun.
 use Rattle.std.proofs.Common.{List, ℕ, ◌+◌, ◌∷◌, [], sym, ap, ◌∙◌, subst}
 use Rattle.std.specs.Str.Lines.{strip_carriage_return}
-use Rattle.ecdis_cli.specs.Devices.{LeavesBetween}
+use Rattle.ecdis_cli.specs.Devices.{LeavesWhere}
 use Rattle.ecdis_cli.specs.Progress.{BytesAreTaken}
 use Rattle.ecdis_cli.specs.ReaderStanding.{reader_at}
-use Rattle.ecdis_cli.specs.Standing.{standing_at}
+use Rattle.ecdis_cli.specs.Standing.{Stands, standing_at}
 use Rattle.ecdis_cli.proofs.ScriptSteps.{Advanced-feed, Stopped-feed, OnErr-from}
 use Rattle.ecdis_cli.proofs.run.reader.Reader.end_line.Goals as goal
 
@@ -17,7 +17,8 @@ returns-in_err-answer-clause-err g c = λ d.
 pub returns-clause-ok : goal.returns-clause-ok
 returns-clause-ok g c = λ d.
     let before = reader_at g.L.Shelf.faults g.D.Desk.said c.args.self.now c.args.devices.now in
-    let leaves = LeavesBetween g.D.Desk.clock g.D.Desk.might c.args.devices.now c.answer.new.devices in
+    let leaves = LeavesWhere (Stands g.D.Desk.contents c.args.devices.now c.args.self.now.session)
+    g.D.Desk.clock g.D.Desk.might c.args.devices.now c.answer.new.devices in
     subst (λ (line : List ℕ). BytesAreTaken g.L.Shelf.tells (g.L.Shelf.files c.args.devices.now.shelf.now) leaves before (10 ∷ [])
     (standing_at g.L.Shelf.faults g.D.Desk.said c.answer.new.session c.answer.new.devices (c.args.self.now.number + 1) line))
     (sym c.clear.ensures.items)
