@@ -3,7 +3,9 @@
 //! RCNM isn't written: it is 100 for each of them (S-57 Part 3). A primitive other than 1, 2, 3 and 255, and a pointer
 //! with a topology (TOPI), which only an edge's pointers have, are refused.
 
-ghost use Rattle.std.specs.Prelude.{◌≡◌};
+ghost use Rattle.std.specs.Prelude.{◌≡◌, ◌<◌, ◌^◌, ◌++◌};
+ghost use Rattle.std.specs.Int.{w16, w32};
+ghost use Rattle.page_parts.specs.Numbers.{byte, number};
 ghost use Rattle.page_parts.specs.Reader.{Finds};
 ghost use Rattle.chart_pages.specs.Features.{feature_name_at, feature_pointers_at, have_no_topology, is_prim, prim_at};
 
@@ -11,8 +13,8 @@ use crate::records::Record;
 use chart_model::codes::{AREA, FEATURE, NO_PRIMITIVE, NULL, POINT};
 use chart_model::{Feature, Name, Octets, Pointer, Pointers};
 use page_parts::{
-    PageFault, put_attributes, put_byte, put_foid, put_four_bytes, put_list, put_two_bytes,
-    read_attributes, read_byte, read_foid, read_four_bytes, read_list, read_two_bytes,
+    PageFault, put_attributes, put_foid, put_list, read_attributes, read_byte, read_foid,
+    read_four_bytes, read_list, read_two_bytes,
 };
 use std::alloc::{AllocError, Global};
 
@@ -67,6 +69,21 @@ fn read_feature_name(bytes: &[u8]) -> Result<(Name, &[u8]), PageFault>
     Ok((name, rest))
 }
 
+/// The ten bytes of a feature's number, what it is, and its version (S-57 Part 3, FRID).
+fn identifier_bytes(rcid: u32, prim: u8, grup: u8, class: u16, version: u16) -> [u8; 10]
+    ensures bytes { result ≡
+        number w32 rcid ++ byte prim ++ byte grup ++ number w16 class ++ number w16 version }
+    ensures rcid { rcid < 2 ^ 32 }
+    ensures grup { grup < 256 }
+    ensures class { class < 2 ^ 16 }
+    ensures version { version < 2 ^ 16 }
+{
+    let [r0, r1, r2, r3] = rcid.to_be_bytes();
+    let [c0, c1] = class.to_be_bytes();
+    let [v0, v1] = version.to_be_bytes();
+    [r0, r1, r2, r3, prim, grup, c0, c1, v0, v1]
+}
+
 impl Record for Feature {
     ghost use Rattle.chart_pages.specs.Features.{IsFeatureInRange, feature_at, feature_record};
 
@@ -102,11 +119,14 @@ impl Record for Feature {
 
     #[tactic(auto, unfolding(crate::specs::Features::feature_record))]
     fn put(&self, out: &mut Octets, name: Name) -> Result<(), AllocError> {
-        put_four_bytes(out, name.rcid)?;
-        put_byte(out, self.prim)?;
-        put_byte(out, self.grup)?;
-        put_two_bytes(out, self.class)?;
-        put_two_bytes(out, self.version)?;
+        let identifier = identifier_bytes(
+            name.rcid,
+            self.prim,
+            self.grup,
+            self.class,
+            self.version,
+        );
+        out.extend_from_slice(&identifier)?;
         put_foid(out, self.foid)?;
         put_attributes(out, &self.attrs)?;
         put_list(out, self.related.as_slice())?;

@@ -3,7 +3,10 @@
 //! Their names are written whole, since isolated nodes, connected nodes and edges (RCNM 110, 120 and 130, S-57 Part 3)
 //! stand in one list. A name of another kind is refused.
 
-ghost use Rattle.std.specs.Prelude.{◌≡◌};
+ghost use Rattle.std.specs.Prelude.{◌≡◌, ◌<◌, ◌^◌, ◌++◌};
+ghost use Rattle.std.specs.Int.{w16};
+ghost use Rattle.page_parts.specs.Numbers.{number};
+ghost use Rattle.page_parts.specs.Pointers.{IsNameInRange, name};
 ghost use Rattle.page_parts.specs.Reader.{Finds};
 ghost use Rattle.chart_pages.specs.Vectors.{is_vector_name, vector_name_at};
 
@@ -11,8 +14,8 @@ use crate::records::Record;
 use chart_model::codes::{CONNECTED_NODE, EDGE, ISOLATED_NODE};
 use chart_model::{Name, Octets, Vector};
 use page_parts::{
-    PageFault, put_attributes, put_coords, put_list, put_name, put_two_bytes, read_attributes,
-    read_coords, read_list, read_name, read_two_bytes,
+    PageFault, name_bytes, put_attributes, put_coords, put_list, read_attributes, read_coords,
+    read_list, read_name, read_two_bytes,
 };
 use std::alloc::{AllocError, Global};
 
@@ -33,6 +36,18 @@ fn read_vector_name(bytes: &[u8]) -> Result<(Name, &[u8]), PageFault>
         return Err(PageFault::Unspelled);
     }
     Ok((name, rest))
+}
+
+/// The seven bytes of what stands before a vector's lists: its name and its version.
+#[tactic(auto, unfolding(page_parts::specs::Pointers::name))]
+fn head_bytes(value: Name, version: u16) -> [u8; 7]
+    ensures bytes { result ≡ name value ++ number w16 version }
+    ensures named { IsNameInRange value }
+    ensures version { version < 2 ^ 16 }
+{
+    let [a, b, c, d, e] = name_bytes(value);
+    let [v0, v1] = version.to_be_bytes();
+    [a, b, c, d, e, v0, v1]
 }
 
 impl Record for Vector {
@@ -62,8 +77,7 @@ impl Record for Vector {
 
     #[tactic(auto, unfolding(crate::specs::Vectors::vector_record))]
     fn put(&self, out: &mut Octets, name: Name) -> Result<(), AllocError> {
-        put_name(out, name)?;
-        put_two_bytes(out, self.version)?;
+        out.extend_from_slice(&head_bytes(name, self.version))?;
         put_attributes(out, &self.attrs)?;
         put_list(out, self.pointers.as_slice())?;
         put_coords(out, self.coords.as_slice())

@@ -13,9 +13,9 @@ ghost use Rattle.page_parts.specs.Attributes.{IsEntryInRange, attribute, attribu
 ghost use Rattle.page_parts.specs.Attributes.{is_kept_text, is_plain_text};
 
 use crate::fault::PageFault;
-use crate::numbers::{put_eight_bytes, put_two_bytes, read_eight_bytes, read_two_bytes};
+use crate::numbers::{put_eight_bytes, read_eight_bytes, read_two_bytes};
 use crate::order::is_behind;
-use crate::texts::{put_text, read_span};
+use crate::texts::read_span;
 use chart_model::codes::{FIELD_TERMINATOR, UNIT_TERMINATOR};
 use chart_model::{Attr, AttrMap, Octets};
 use std::alloc::{AllocError, Global};
@@ -38,13 +38,15 @@ fn is_kept_text(text: &[u8]) -> bool
 }
 
 /// Adds an attribute.
-#[tactic(auto, unfolding(crate::specs::Attributes::attribute))]
+#[tactic(auto, unfolding(crate::specs::Attributes::attribute, crate::specs::Texts::text))]
 fn put_attribute(out: &mut Octets, code: u16, text: &[u8]) -> Result<(), AllocError>
     ensures bytes { OnOk result (out.new ≡ out.old ++ attribute (code, text.now)) }
     ensures in_range { OnOk result (IsEntryInRange (code, text.now)) }
 {
-    put_two_bytes(out, code)?;
-    put_text(out, text)
+    let [c0, c1] = code.to_be_bytes();
+    let [l0, l1, l2, l3, l4, l5, l6, l7] = text.len().to_be_bytes();
+    out.extend_from_slice(&[c0, c1, l0, l1, l2, l3, l4, l5, l6, l7])?;
+    out.extend_from_slice(text)
 }
 
 /// Adds attributes one behind the other.

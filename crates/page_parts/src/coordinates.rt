@@ -6,21 +6,32 @@
 ghost use Rattle.std.specs.Prelude.{◌≡◌, ◌<◌, ◌^◌, ◌++◌, length, is_some, is_none, OnOk};
 ghost use Rattle.std.specs.List.{list_all};
 ghost use Rattle.page_parts.specs.Reader.{Finds};
-ghost use Rattle.page_parts.specs.Coordinates.{are_alike, coords, coords_at, depth, depth_at, is_coord, is_depth};
+ghost use Rattle.page_parts.specs.Coordinates.{are_alike, coords, coords_at, depth_at, is_coord, is_depth};
 ghost use Rattle.page_parts.specs.Coordinates.{signed_number, signed_number_at};
+ghost use Rattle.page_parts.specs.Numbers.{byte};
 
 use crate::fault::PageFault;
 use crate::lists::{Part, put_list, read_list};
-use crate::numbers::{put_byte, put_four_bytes, read_byte, read_four_bytes};
+use crate::numbers::read_four_bytes;
 use chart_model::{Coord, Coords, Octets};
 use std::alloc::{AllocError, Global};
 
-/// Adds a whole number of four bytes in two's complement.
+/// The bytes of a whole number in two's complement.
 #[tactic(auto, unfolding(crate::specs::Coordinates::signed_number))]
-fn put_signed(out: &mut Octets, value: i32) -> Result<(), AllocError>
-    ensures { OnOk result (out.new ≡ out.old ++ signed_number value) }
+fn signed_bytes(value: i32) -> [u8; 4]
+    ensures { result ≡ signed_number value }
 {
-    put_four_bytes(out, value.cast_unsigned())
+    value.cast_unsigned().to_be_bytes()
+}
+
+/// The nine bytes of a place, and of the flag behind it that tells whether a depth follows.
+#[tactic(auto, unfolding(crate::specs::Coordinates::signed_number))]
+fn place_bytes(value: Coord, flag: u8) -> [u8; 9]
+    ensures { result ≡ signed_number value.x ++ signed_number value.y ++ byte flag }
+{
+    let [x0, x1, x2, x3] = signed_bytes(value.x);
+    let [y0, y1, y2, y3] = signed_bytes(value.y);
+    [x0, x1, x2, x3, y0, y1, y2, y3, flag]
 }
 
 /// Reads a whole number of four bytes in two's complement.
@@ -30,20 +41,6 @@ fn read_signed(bytes: &[u8]) -> Result<(i32, &[u8]), PageFault>
 {
     let (value, rest) = read_four_bytes(bytes)?;
     Ok((value.cast_signed(), rest))
-}
-
-/// Adds a flag, and the depth where there is one.
-#[tactic(auto, unfolding(crate::specs::Coordinates::depth))]
-fn put_depth(out: &mut Octets, value: Option<i32>) -> Result<(), AllocError>
-    ensures { OnOk result (out.new ≡ out.old ++ depth value) }
-{
-    match value {
-        Some(value) => {
-            put_byte(out, 1)?;
-            put_signed(out, value)
-        }
-        None => put_byte(out, 0),
-    }
 }
 
 /// Reads a flag, and the depth where there is one.
@@ -101,11 +98,15 @@ impl Part for Coord {
         Ok((coord, rest))
     }
 
-    #[tactic(auto, unfolding(crate::specs::Coordinates::coord))]
+    #[tactic(auto, unfolding(crate::specs::Coordinates::coord, crate::specs::Coordinates::depth))]
     fn put(&self, out: &mut Octets) -> Result<(), AllocError> {
-        put_signed(out, self.x)?;
-        put_signed(out, self.y)?;
-        put_depth(out, self.z)
+        match self.z {
+            Some(depth) => {
+                out.extend_from_slice(&place_bytes(*self, 1))?;
+                out.extend_from_slice(&signed_bytes(depth))
+            }
+            None => out.extend_from_slice(&place_bytes(*self, 0)),
+        }
     }
 }
 

@@ -9,18 +9,38 @@ ghost use Rattle.page_parts.specs.Pointers.{IsNameInRange, IsPointerInRange, nam
 
 use crate::fault::PageFault;
 use crate::lists::Part;
-use crate::numbers::{put_byte, put_four_bytes, read_byte, read_four_bytes};
+use crate::numbers::{read_byte, read_four_bytes};
 use chart_model::{Name, Octets, Pointer};
 use std::alloc::{AllocError, Global};
 
-/// Adds the name of a record.
+/// The five bytes of the name of a record, for what begins with a name and is added whole.
 #[tactic(auto, unfolding(crate::specs::Pointers::name))]
+pub fn name_bytes(value: Name) -> [u8; 5]
+    ensures bytes { result ≡ name value }
+    ensures in_range { IsNameInRange value }
+{
+    let [a, b, c, d] = value.rcid.to_be_bytes();
+    [value.rcnm, a, b, c, d]
+}
+
+/// Adds the name of a record.
 pub fn put_name(out: &mut Octets, value: Name) -> Result<(), AllocError>
     ensures bytes { OnOk result (out.new ≡ out.old ++ name value) }
     ensures in_range { OnOk result (IsNameInRange value) }
 {
-    put_byte(out, value.rcnm)?;
-    put_four_bytes(out, value.rcid)
+    out.extend_from_slice(&name_bytes(value))
+}
+
+/// The nine bytes of a pointer.
+#[tactic(auto, unfolding(crate::specs::Pointers::name, crate::specs::Pointers::pointer))]
+fn pointer_bytes(value: Pointer) -> [u8; 9]
+    ensures bytes { result ≡ pointer value }
+    ensures in_range { IsPointerInRange value }
+{
+    let [a, b, c, d, e] = name_bytes(value.target);
+    [
+        a, b, c, d, e, value.ornt, value.usag, value.topi, value.mask,
+    ]
 }
 
 /// Reads the name of a record.
@@ -59,12 +79,7 @@ impl Part for Pointer {
         Ok((pointer, rest))
     }
 
-    #[tactic(auto, unfolding(crate::specs::Pointers::pointer))]
     fn put(&self, out: &mut Octets) -> Result<(), AllocError> {
-        put_name(out, self.target)?;
-        put_byte(out, self.ornt)?;
-        put_byte(out, self.usag)?;
-        put_byte(out, self.topi)?;
-        put_byte(out, self.mask)
+        out.extend_from_slice(&pointer_bytes(*self))
     }
 }

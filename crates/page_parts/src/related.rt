@@ -5,25 +5,42 @@
 
 ghost use Rattle.std.specs.Prelude.{◌≡◌, ◌++◌, OnOk};
 ghost use Rattle.page_parts.specs.Reader.{Finds};
-ghost use Rattle.page_parts.specs.RelatedObjects.{IsFoidInRange, foid, foid_at};
+ghost use Rattle.page_parts.specs.RelatedObjects.{IsFoidInRange, IsRelatedInRange, foid, foid_at, related_object};
 
 use crate::fault::PageFault;
 use crate::lists::Part;
-use crate::numbers::{
-    put_byte, put_four_bytes, put_two_bytes, read_byte, read_four_bytes, read_two_bytes,
-};
+use crate::numbers::{read_byte, read_four_bytes, read_two_bytes};
 use chart_model::{Foid, Octets, Related};
 use std::alloc::{AllocError, Global};
 
-/// Adds the identifier of a feature object.
+/// The eight bytes of the identifier of a feature object.
 #[tactic(auto, unfolding(crate::specs::RelatedObjects::foid))]
+fn foid_bytes(value: Foid) -> [u8; 8]
+    ensures bytes { result ≡ foid value }
+    ensures in_range { IsFoidInRange value }
+{
+    let [a0, a1] = value.agen.to_be_bytes();
+    let [f0, f1, f2, f3] = value.fidn.to_be_bytes();
+    let [s0, s1] = value.fids.to_be_bytes();
+    [a0, a1, f0, f1, f2, f3, s0, s1]
+}
+
+/// Adds the identifier of a feature object.
 pub fn put_foid(out: &mut Octets, value: Foid) -> Result<(), AllocError>
     ensures bytes { OnOk result (out.new ≡ out.old ++ foid value) }
     ensures in_range { OnOk result (IsFoidInRange value) }
 {
-    put_two_bytes(out, value.agen)?;
-    put_four_bytes(out, value.fidn)?;
-    put_two_bytes(out, value.fids)
+    out.extend_from_slice(&foid_bytes(value))
+}
+
+/// The nine bytes of a related object.
+#[tactic(auto, unfolding(crate::specs::RelatedObjects::foid, crate::specs::RelatedObjects::related_object))]
+fn related_bytes(value: Related) -> [u8; 9]
+    ensures bytes { result ≡ related_object value }
+    ensures in_range { IsRelatedInRange value }
+{
+    let [a, b, c, d, e, f, g, h] = foid_bytes(value.foid);
+    [a, b, c, d, e, f, g, h, value.rind]
 }
 
 /// Reads the identifier of a feature object.
@@ -53,9 +70,7 @@ impl Part for Related {
         Ok((Related { foid, rind }, rest))
     }
 
-    #[tactic(auto, unfolding(crate::specs::RelatedObjects::related_object))]
     fn put(&self, out: &mut Octets) -> Result<(), AllocError> {
-        put_foid(out, self.foid)?;
-        put_byte(out, self.rind)
+        out.extend_from_slice(&related_bytes(*self))
     }
 }
