@@ -14,5 +14,6 @@ pub mod Standing
 pub mod Telling
 pub mod Meeting
 pub mod Once
-pub mod Parted
+pub mod Looking
+pub mod Counts
 pub mod Asked

@@ -1,7 +1,7 @@
 -- Names in order, each once.
-use Rattle.std.proofs.Common.{◌≡◌, Bool, true, false, ◌&&◌, T, List, refl, sym, ap, ◌∙◌, subst}
+use Rattle.std.proofs.Common.{◌≡◌, Bool, true, false, cond, ◌&&◌, T, ℕ, ◌+◌, ◌≤◌, List, [], ◌∷◌, length, refl, sym, ap, ◌∙◌, subst, arith}
 use Rattle.std.specs.Prelude.{◌↔◌, ◌==◌, AllPairs}
-use Rattle.std.specs.List.{Contains, dedup}
+use Rattle.std.specs.List.{Contains, dedup, dedup_from}
 use Rattle.std.specs.List.Sorted.{IsSorted, IsPermutation}
 use Rattle.std.specs.declared.cmp.Ordering.TheVariants.{Less}
 use Rattle.std.specs.Ordering.{is_eq, eq_by_cmp}
@@ -9,7 +9,7 @@ use Rattle.std.specs.Cmp.{IsEquivalence, tied_itself}
 use Rattle.std.proofs.lemmas.Bool.{eqb-true}
 use Rattle.std.proofs.lemmas.Cmp.{eq_by_cmp_equiv}
 use Rattle.std.proofs.lemmas.List.Kept.{IsStrictlySortedBy-dedup, Contains-dedup, Contains-from_dedup}
-use Rattle.std.proofs.lemmas.List.Sorted.{Contains-permutation, IsPermutation-sym}
+use Rattle.std.proofs.lemmas.List.Sorted.{Contains-permutation, IsPermutation-sym, length_permutation}
 use Rattle.std.proofs.lemmas.Map.Keys.{Less-from_sorted}
 use Rattle.std.proofs.Math.Dec.{eqb_refl}
 use Rattle.chart_model.specs.declared.name.Name.{Name}
@@ -71,3 +71,19 @@ once_same xs ys zs moved e name = (
   λ h. Contains-permutation ys xs name (IsPermutation-sym xs ys moved) (Contains-from_dedup same ys name (subst (λ (l : List Name). Contains l name) e h)),
   λ h. subst (λ (l : List Name). Contains l name) (sym e) (Contains-dedup same_equivalence same_is ys name (Contains-permutation xs ys name moved h)),
 )
+
+no_more_of : (b : Bool) (k : Name) (p q : List Name) (n : ℕ) → length p ≤ n → length q ≤ n → length (cond b p (k ∷ q)) ≤ n + 1
+no_more_of true k p q n a b = omega (arith, a)
+no_more_of false k p q n a b = omega (arith, b)
+
+no_more_from : (k : Name) (xs : List Name) → length (dedup_from same k xs) ≤ length xs + 1
+no_more_from k [] = omega arith
+no_more_from k (x ∷ xs) =
+    omega (arith, no_more_of (same x k) k (dedup_from same k xs) (dedup_from same x xs) (length xs + 1) (no_more_from k xs) (no_more_from x xs))
+
+no_more : (xs : List Name) → length (dedup same xs) ≤ length xs
+no_more [] = omega arith
+no_more (x ∷ xs) = omega (arith, no_more_from x xs)
+
+pub once_no_more : (xs ys zs : List Name) → IsPermutation xs ys → zs ≡ dedup same ys → length zs ≤ length xs
+once_no_more xs ys zs moved e = omega (arith, ap length e, no_more ys, length_permutation xs ys moved)

@@ -4,11 +4,13 @@
 //! beside the area. One that stands in several of these buckets is found several times, so names are put in order at
 //! the end.
 
-ghost use Rattle.std.specs.Prelude.{◌≡◌, ◌↔◌, OnOk, Contains, AllPairs};
+ghost use Rattle.std.specs.Prelude.{◌≡◌, ◌↔◌, ◌+◌, ◌≤◌, OnOk, IfOk, Contains, AllPairs, length, min};
+ghost use Rattle.std.specs.List.{filter};
 ghost use Rattle.std.specs.declared.cmp.Ordering.TheVariants.{Less};
 ghost use Rattle.std.specs.List.Sorted.{IsNonDecreasingBy};
 ghost use Rattle.chart_model.specs.Names.{name_cmp};
 ghost use Rattle.spatial_grid.specs.Buckets.{bucket_of, AreEntered};
+ghost use Rattle.spatial_grid.specs.Looked.{looks_among, stands_between, stands_within};
 ghost use Rattle.spatial_grid.specs.Met.{IsMet, IsTold, AreTold, AreToldBetween, AreToldIn};
 
 use crate::axis::{Axis, Span};
@@ -24,7 +26,8 @@ fn push_at(
     area: Bounds,
     place: u32,
 ) -> Result<(), AllocError>
-    ensures { OnOk result (IsTold boxes.now area place names.old.items names.new.items) }
+    ensures told { OnOk result (IsTold boxes.now area place names.old.items names.new.items) }
+    ensures no_more { OnOk result (length names.new.items ≤ length names.old.items + 1) }
 {
     let Some(boxed) = boxes.get(place as usize) else {
         return Ok(());
@@ -42,7 +45,8 @@ fn push_entries(
     area: Bounds,
     entries: &[Entry],
 ) -> Result<(), AllocError>
-    ensures { OnOk result (AreTold boxes.now area entries.now names.old.items names.new.items) }
+    ensures told { OnOk result (AreTold boxes.now area entries.now names.old.items names.new.items) }
+    ensures no_more { OnOk result (length names.new.items ≤ length names.old.items + length entries.now) }
 {
     for entry in entries {
         push_at(names, boxes, area, entry.place)?;
@@ -61,8 +65,10 @@ fn push_between(
     last: u16,
 ) -> Result<usize, AllocError>
     requires { IsNonDecreasingBy bucket_of entries.now }
-    ensures { OnOk result
+    ensures told { OnOk result
         (AreToldBetween boxes.now area entries.now first last names.old.items names.new.items) }
+    ensures counted { IfOk result (λ looked_at. looked_at ≡ length (filter (stands_between first last) entries.now)) }
+    ensures no_more { IfOk result (λ looked_at. length names.new.items ≤ length names.old.items + looked_at) }
 {
     let those = between(entries, first, last);
     push_entries(names, boxes, area, those)?;
@@ -80,8 +86,11 @@ fn push_rows(
     columns: Span,
 ) -> Result<usize, AllocError>
     requires { IsNonDecreasingBy bucket_of entries.now }
-    ensures { OnOk result (AreToldIn boxes.now area entries.now rows.first rows.last columns.first columns.last
+    ensures told { OnOk result (AreToldIn boxes.now area entries.now rows.first rows.last columns.first columns.last
         names.old.items names.new.items) }
+    ensures counted { IfOk result (λ looked_at. looked_at ≡ min (length
+        (filter (stands_within rows.first rows.last columns.first columns.last) entries.now)) usize.MAX) }
+    ensures no_more { IfOk result (λ looked_at. length names.new.items ≤ length names.old.items + looked_at) }
 {
     let mut looked_at: usize = 0;
     for row in rows.first..rows.last + 1 {
@@ -105,7 +114,9 @@ pub(crate) fn find_met(
 ) -> Result<usize, AllocError>
     requires ordered { IsNonDecreasingBy bucket_of entries.now }
     requires entered { AreEntered boxes.now rows columns entries.now }
-    ensures { OnOk result ((name : Name) → Contains names.new.items name ↔ IsMet boxes.now area name) }
+    ensures met { OnOk result ((name : Name) → Contains names.new.items name ↔ IsMet boxes.now area name) }
+    ensures counted { IfOk result (λ looked_at. looked_at ≡ min (looks_among entries.now rows columns area) usize.MAX) }
+    ensures no_more { IfOk result (λ looked_at. length names.new.items ≤ looked_at) }
 {
     names.clear();
     let beside = push_between(names, boxes, area, entries, BESIDE, BESIDE)?;
@@ -119,6 +130,7 @@ pub(crate) fn find_met(
 pub(crate) fn keep_each_once(names: &mut Vec<Name>)
     ensures same { (name : Name) → Contains names.new.items name ↔ Contains names.old.items name }
     ensures ordered { AllPairs (λ x y. name_cmp x y ≡ Less) names.new.items }
+    ensures no_more { length names.new.items ≤ length names.old.items }
 {
     names.sort_unstable();
     names.dedup();

@@ -3,10 +3,12 @@
 //! All entries stand in one list in the order of their buckets, and the buckets of a row follow each other. So those of
 //! a row that an area covers are one slice, found by two binary searches, and no bucket has a list of its own.
 
-ghost use Rattle.std.specs.Prelude.{◌≡◌, ◌≤◌, IfOk, Contains, length};
+ghost use Rattle.std.specs.Prelude.{◌≡◌, ◌≤◌, IfOk, length};
 ghost use Rattle.std.specs.Prelude.{true, false, nat_lt, nat_le};
+ghost use Rattle.std.specs.List.{filter};
 ghost use Rattle.std.specs.List.Sorted.{IsNonDecreasingBy, IsPartitionPoint};
 ghost use Rattle.spatial_grid.specs.Buckets.{Keeps, bucket_of};
+ghost use Rattle.spatial_grid.specs.Looked.{stands_between};
 
 use std::alloc::AllocError;
 
@@ -54,8 +56,7 @@ fn end_with(entries: &[Entry], bucket: u16) -> usize
 /// The entries of the buckets from one up to another. It costs two binary searches, and takes no memory.
 pub(crate) fn between(entries: &[Entry], first: u16, last: u16) -> &[Entry]
     requires { IsNonDecreasingBy bucket_of entries.now }
-    ensures { (entry : Entry) → Contains entries.now entry → first ≤ entry.bucket → entry.bucket ≤ last →
-        Contains result.now entry }
+    ensures { result.now ≡ filter (stands_between first last) entries.now }
 {
     let from = end_before(entries, first);
     let to = end_with(entries, last);

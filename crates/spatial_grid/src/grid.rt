@@ -92,7 +92,7 @@ pub fn grid_of(alloc: Global, cell: &Cell) -> Result<Grid, AllocError>
 }
 
 impl Grid {
-    ghost use Rattle.std.specs.Prelude.{◌≡◌, Some, IfOk, OnOk, OnErr};
+    ghost use Rattle.std.specs.Prelude.{◌≡◌, ◌≤◌, Some, IfOk, OnOk, OnErr, length};
     ghost use Rattle.chart_difference.specs.Difference.{HasAll};
     ghost use Rattle.spatial_grid.specs.Box.{IsGridOf};
     ghost use Rattle.spatial_grid.specs.Candidates.{AreCandidates};
@@ -111,7 +111,10 @@ impl Grid {
     /// how many boxes it looked at, one that stands in several buckets once for each: that is what it costs. Where there
     /// is no memory the list may hold any names.
     pub fn find_candidates(&self, names: &mut Vec<Name>, area: &Bounds) -> Result<usize, AllocError>
-        ensures { OnOk result (AreCandidates self.now area.now names.new.items) }
+        ensures names { OnOk result (AreCandidates self.now area.now names.new.items) }
+
+        // Each box whose name is told was looked at.
+        ensures counted { IfOk result (λ looked_at. length names.new.items ≤ looked_at) }
     {
         let boxes = self.boxes.as_slice();
         let entries = self.entries.as_slice();

@@ -10,6 +10,6 @@ pub returns : goal.returns
 returns c =
     let names = c.find_candidates.new.names.items in
     let asks = c.args.asks.now.items in
-    let candidates = subst (λ (area : Bounds). AreCandidates c.args.grid.now area names) c.reach_of.ensures c.in_ok-looked_at.ensures in
+    let candidates = subst (λ (area : Bounds). AreCandidates c.args.grid.now area names) c.reach_of.ensures c.in_ok-looked_at.ensures.names in
     leg_gains c.args.grid.now c.args.leg c.args.before names asks c.push_names.new.asks.items candidates
     (c.in_ok-push_names.ensures ∙ ap (λ (l : List Name). asks ++ map (ask_for c.args.before) l) c.as_slice.ensures.value)

@@ -1,4 +1,4 @@
-use Rattle.std.proofs.Common.{List, sym, subst}
+use Rattle.std.proofs.Common.{List, sym, subst, arith}
 use Rattle.std.specs.Prelude.{◌↔◌}
 use Rattle.std.specs.List.{Contains}
 use Rattle.std.specs.FinMap as finite
@@ -18,14 +18,17 @@ find_met-requires-clause-entered c =
     subst (λ (l : List (Name × Bounds)). AreEntered l inside.rows inside.columns c.as_slice-entries.result.now) (sym c.as_slice-boxes.ensures.value)
     (subst (λ (l : List Entry). AreEntered inside.boxes.items inside.rows inside.columns l) (sym c.as_slice-entries.ensures.value) c.self.invariant.entered)
 
-pub returns : goal.returns
-returns c =
+pub returns-clause-names : goal.returns-clause-names
+returns-clause-names c =
     let boxes = c.self.inside.boxes.items in
     let area = c.args.area.now in
     let met = c.find_met.new.names.items in
     let names = c.keep_each_once.new.names.items in
     let told =
-    subst (λ (l : List (Name × Bounds)). (name : Name) → Contains met name ↔ IsMet l area name) c.as_slice-boxes.ensures.value c.in_ok-looked_at.ensures in
+    subst (λ (l : List (Name × Bounds)). (name : Name) → Contains met name ↔ IsMet l area name) c.as_slice-boxes.ensures.value c.in_ok-looked_at.ensures.met in
     let made =
     candidates_of boxes c.self.invariant.sorted area met names told c.keep_each_once.ensures.same c.keep_each_once.ensures.ordered in
     subst (λ (grid : finite.FinMap name_cmp Bounds). AreCandidates grid area names) c.self.view_is made
+
+pub returns-clause-counted : goal.returns-clause-counted
+returns-clause-counted c = omega (arith, c.in_ok-looked_at.ensures.no_more, c.keep_each_once.ensures.no_more)
