@@ -6,7 +6,7 @@ use Rattle.chart_ports.specs.declared.images.Images.{Images}
 use Rattle.chart_ports.specs.Disk.{LeavesNoMoreOfOthers, Only, Torn, with_bytes}
 use Rattle.chart_ports.specs.Moments.{LeavesOnly, image_of}
 use Rattle.chart_ports.proofs.Moments.{and_then, weaker}
-use Rattle.bank_journal.specs.declared.content.BankContent.{BankContent}
+use Rattle.bank_journal.specs.Content.{Content}
 use Rattle.bank_journal.specs.Bank.{frame_of, IsBodyLength, with_body, HasContent, gate_of}
 use Rattle.bank_journal.specs.Moments.{IsBeforeOrAfter, IsInStep, LeavesFile}
 use Rattle.bank_journal.specs.Reading.{bank_of}
@@ -14,7 +14,7 @@ use Rattle.bank_journal.proofs.Fronts.{kept, torn_gate, opened_gate, staged_insi
 use Rattle.bank_journal.proofs.BankRead.{given}
 
 -- what has a content is read so
-pub reads : (bytes : List ℕ) (content : BankContent) → HasContent bytes content → bank_of bytes ≡ Ok content
+pub reads : (bytes : List ℕ) (content : Content) → HasContent bytes content → bank_of bytes ≡ Ok content
 reads bytes content has = given bytes content (reads_content bytes content has)
 
 -- a file reaches to where it was written from
@@ -25,7 +25,7 @@ reaches at bytes old new within is =
     omega (arith, length-append (take at old ++ bytes) rest, length-append (take at old) bytes, length-take-le at old within) in
     subst (λ (l : List ℕ). at ≤ length l) (sym is) past
 
-module _ (bytes : List ℕ) (content : BankContent) (has : HasContent bytes content) (place : ℕ)
+module _ (bytes : List ℕ) (content : Content) (has : HasContent bytes content) (place : ℕ)
     (place_is : place ≡ gate_of content) (body framed : List ℕ) (fits : IsBodyLength (length body))
     (framed_is : framed ≡ frame_of body) where
   -- the first write leaves the closed gate and what stands before it
@@ -118,7 +118,7 @@ file_then clock might old mid new file first then_may said then_said P Q so_far 
 
 module _ {D : Type 0} {clock : D → ℕ} {might : D → ℕ → Images → List ℕ
     → Type 0} {old mid : D} {file : ℕ} {may_leave : Leaving} {said : List ℕ}
-    {bytes : List ℕ} {content : BankContent} {place : ℕ} {settled : List ℕ
+    {bytes : List ℕ} {content : Content} {place : ℕ} {settled : List ℕ
     → Type 0} (step : IsInStep bytes settled place content) (body : List ℕ) {framed : List ℕ}
     (fits : IsBodyLength (length body)) (framed_is : framed ≡ frame_of body)
     (first : LeavesOnly clock might old mid (LeavesFile file may_leave said (Torn (place + 1) (length framed) bytes)))

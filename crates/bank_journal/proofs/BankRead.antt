@@ -9,7 +9,7 @@ use Rattle.std.proofs.lemmas.Bool.{false_from_ne_true, and_parts, ltb-true, eqb-
 use Rattle.std.proofs.lemmas.List.{take_at, drop_at, drop-drop, drop_more}
 use Rattle.byteorder.specs.Endian.{big_number}
 use Rattle.byteorder.specs.Numbers.{big_from-append, big_from-take}
-use Rattle.bank_journal.specs.declared.content.BankContent.{BankContent}
+use Rattle.bank_journal.specs.Content.{Content}
 use Rattle.bank_journal.specs.Bank.{AreRecords, IsShut, checkpoint_length, HasHeader, empty_content, HasContent}
 use Rattle.bank_journal.specs.Bank.{ReadsAs, HasFault}
 use Rattle.bank_journal.specs.Reading.{bodies_in, content_of, bank_of}
@@ -49,7 +49,7 @@ whole_header bytes long header =
 
 -- ---- what is given holds
 
-abbrev pub Says : List ℕ → Result BankContent ℕ → Type 0
+abbrev pub Says : List ℕ → Result Content ℕ → Type 0
 Says bytes (Ok content) = ReadsAs bytes content
 Says bytes (Err offset) = HasFault bytes offset
 
@@ -132,7 +132,7 @@ says bytes =
 -- ---- what holds is given
 
 -- what the parts of a content tell of the bytes
-pub record Told (bytes : List ℕ) (content : BankContent) : Type 0 where
+pub record Told (bytes : List ℕ) (content : Content) : Type 0 where
   pub header : HasHeader bytes
   pub counted : checkpoint_length bytes ≡ length content.checkpoint
   pub checkpoint : take (checkpoint_length bytes) (drop 8 bytes) ≡ content.checkpoint
@@ -176,13 +176,13 @@ told_of checkpoint size records last bodies seven counted are shut =
       };
     }
 
-pub told : (bytes : List ℕ) (content : BankContent) → HasContent bytes content → Told bytes content
+pub told : (bytes : List ℕ) (content : Content) → HasContent bytes content → Told bytes content
 told bytes content has =
     subst (λ (l : List ℕ). Told l content) (sym has.parts)
     (told_of content.checkpoint has.size has.records has.last content.bodies has.seven has.counted has.bodies
     has.shut)
 
-pub given_content : (bytes : List ℕ) (content : BankContent) → 9 < length bytes → HasContent bytes content
+pub given_content : (bytes : List ℕ) (content : Content) → 9 < length bytes → HasContent bytes content
     → bank_of bytes ≡ Ok content
 given_content bytes content long has =
     let t = told bytes content has in
@@ -190,8 +190,8 @@ given_content bytes content long has =
     ∙ ap (content_of bytes) (read_bodies _ _ t.reads)
     ∙ ap (λ (l : List ℕ). Ok (record { checkpoint = l; bodies = content.bodies })) t.checkpoint
 
-pub given : (bytes : List ℕ) (content : BankContent) → ReadsAs bytes content → bank_of bytes ≡ Ok content
-given bytes content (inl short) = short_bank bytes short.0 ∙ ap (λ (c : BankContent). Ok c) (sym short.1)
+pub given : (bytes : List ℕ) (content : Content) → ReadsAs bytes content → bank_of bytes ≡ Ok content
+given bytes content (inl short) = short_bank bytes short.0 ∙ ap (λ (c : Content). Ok c) (sym short.1)
 given bytes content (inr long) = given_content bytes content long.0 long.1
 
 pub given_fault : (bytes : List ℕ) (offset : ℕ) → HasFault bytes offset → bank_of bytes ≡ Err offset
@@ -205,22 +205,22 @@ given_fault bytes offset (long, inr (header, cut)) =
 
 -- ---- the law
 
-pub reading_tells : (bytes : List ℕ) (content : BankContent) → bank_of bytes ≡ Ok content → ReadsAs bytes content
+pub reading_tells : (bytes : List ℕ) (content : Content) → bank_of bytes ≡ Ok content → ReadsAs bytes content
 reading_tells bytes content is = subst (Says bytes) is (says bytes)
 
 pub fault_tells : (bytes : List ℕ) (offset : ℕ) → bank_of bytes ≡ Err offset → HasFault bytes offset
 fault_tells bytes offset is = subst (Says bytes) is (says bytes)
 
-either_of : (bytes : List ℕ) (result : Result BankContent ℕ) → Says bytes result
-    → ((content : BankContent) × ReadsAs bytes content) ⊎ ((offset : ℕ) × HasFault bytes offset)
+either_of : (bytes : List ℕ) (result : Result Content ℕ) → Says bytes result
+    → ((content : Content) × ReadsAs bytes content) ⊎ ((offset : ℕ) × HasFault bytes offset)
 either_of bytes (Ok content) says = inl (content, says)
 either_of bytes (Err offset) says = inr (offset, says)
 
-pub either : (bytes : List ℕ) → ((content : BankContent) × ReadsAs bytes content)
+pub either : (bytes : List ℕ) → ((content : Content) × ReadsAs bytes content)
     ⊎ ((offset : ℕ) × HasFault bytes offset)
 either bytes = either_of bytes (bank_of bytes) (says bytes)
 
-pub one_reading : (bytes : List ℕ) (a b : BankContent) → ReadsAs bytes a → ReadsAs bytes b → a ≡ b
+pub one_reading : (bytes : List ℕ) (a b : Content) → ReadsAs bytes a → ReadsAs bytes b → a ≡ b
 one_reading bytes a b reads_a reads_b =
     let first = given bytes a reads_a in
     let second = given bytes b reads_b in
@@ -232,7 +232,7 @@ one_fault bytes a b fault_a fault_b =
     let second = given_fault bytes b fault_b in
     cc
 
-pub never_both : (bytes : List ℕ) (content : BankContent) (offset : ℕ) → ReadsAs bytes content → HasFault bytes offset
+pub never_both : (bytes : List ℕ) (content : Content) (offset : ℕ) → ReadsAs bytes content → HasFault bytes offset
     → ⊥
 never_both bytes content offset reads fault =
     let first = given bytes content reads in

@@ -7,7 +7,7 @@ use Rattle.std.proofs.lemmas.List.{append-nil, append_assoc, take_at, drop_at, d
 use Rattle.std.proofs.lemmas.List.Sums.{sum_by-cons, sum_by_push}
 use Rattle.byteorder.specs.Endian.{big_number, big_bytes}
 use Rattle.byteorder.specs.Numbers.{big_number-reads_back, length-bytes_high_first}
-use Rattle.bank_journal.specs.declared.content.BankContent.{BankContent}
+use Rattle.bank_journal.specs.Content.{Content}
 use Rattle.bank_journal.specs.Bank.{frame_of, IsBodyLength, IsOpen, BeginsRecord, AreRecords, empty_content, with_body}
 use Rattle.bank_journal.specs.Bank.{HasContent, gate_of, ReadsAs}
 
@@ -87,7 +87,7 @@ length-records bytes (body ∷ bodies) are =
 
 -- ---- what stands before the closed gate
 
-pub record IsFront (front : List ℕ) (content : BankContent) : Type 0 where
+pub record IsFront (front : List ℕ) (content : Content) : Type 0 where
   pub size : List ℕ
   pub records : List ℕ
   pub parts : front ≡ 0 ∷ (size ++ (content.checkpoint ++ records))
@@ -95,7 +95,7 @@ pub record IsFront (front : List ℕ) (content : BankContent) : Type 0 where
   pub counted : big_number 7 size ≡ length content.checkpoint
   pub bodies : AreRecords records content.bodies []
 
-pub length-front : (front : List ℕ) (content : BankContent) → IsFront front content → length front ≡ gate_of content
+pub length-front : (front : List ℕ) (content : Content) → IsFront front content → length front ≡ gate_of content
 length-front front content is =
     omega (
       arith,
@@ -111,7 +111,7 @@ regroup : (size checkpoint records rest : List ℕ)
 regroup size checkpoint records rest = ap (λ (l : List ℕ). size ++ l) (sym (append_assoc checkpoint records rest))
     ∙ sym (append_assoc size (checkpoint ++ records) rest)
 
-pub record Parts (bytes : List ℕ) (content : BankContent) : Type 0 where
+pub record Parts (bytes : List ℕ) (content : Content) : Type 0 where
   pub front : List ℕ
   pub gate : ℕ
   pub behind : List ℕ
@@ -119,7 +119,7 @@ pub record Parts (bytes : List ℕ) (content : BankContent) : Type 0 where
   pub closed : ¬ IsOpen gate
   pub is_front : IsFront front content
 
-pub parts_of : (bytes : List ℕ) (content : BankContent) → HasContent bytes content → Parts bytes content
+pub parts_of : (bytes : List ℕ) (content : Content) → HasContent bytes content → Parts bytes content
 parts_of bytes content has =
     let c = cut has.records content.bodies has.last has.bodies in
     let rest : has.records ≡ c.front ++ has.shut.gate ∷ has.shut.behind = c.parts
@@ -141,7 +141,7 @@ parts_of bytes content has =
       };
     }
 
-pub has_content : (front : List ℕ) (gate : ℕ) (behind : List ℕ) (content : BankContent) → IsFront front content
+pub has_content : (front : List ℕ) (gate : ℕ) (behind : List ℕ) (content : Content) → IsFront front content
     → ¬ IsOpen gate → HasContent (front ++ gate ∷ behind) content
 has_content front gate behind content is closed = record {
   size = is.size;
@@ -170,7 +170,7 @@ record_of gate body opened fits =
       counted = ap (big_number 4) (sym (append-nil size)) ∙ number;
     }
 
-pub front_more : (front : List ℕ) (content : BankContent) (gate : ℕ) (body : List ℕ) → IsFront front content
+pub front_more : (front : List ℕ) (content : Content) (gate : ℕ) (body : List ℕ) → IsFront front content
     → IsOpen gate → IsBodyLength (length body)
     → IsFront (front ++ gate ∷ (big_bytes 4 (length body) ++ body)) (with_body content body)
 front_more front content gate body is opened fits =
@@ -198,7 +198,7 @@ no_room checkpoint (body ∷ bodies) room =
     let size : List ℕ → ℕ = λ b. 5 + length b in
     absurd (omega (arith, sum_by-cons size body bodies))
 
-pub reads_content : (bytes : List ℕ) (content : BankContent) → HasContent bytes content → ReadsAs bytes content
+pub reads_content : (bytes : List ℕ) (content : Content) → HasContent bytes content → ReadsAs bytes content
 reads_content bytes content has =
     elim (cases_lt 9 (length bytes)) [
       | inl long ↦ inr (long, has)
@@ -214,7 +214,7 @@ reads_content bytes content has =
 
 -- ---- bytes that differ from it behind the closed gate, or in the gate
 
-module _ (old : List ℕ) (content : BankContent) (has : HasContent old content) (place : ℕ)
+module _ (old : List ℕ) (content : Content) (has : HasContent old content) (place : ℕ)
     (place_is : place ≡ gate_of content) where
   abbrev pub at_gate : Parts old content
   at_gate = parts_of old content has

@@ -6,7 +6,7 @@ use Rattle.chart_ports.specs.Disk.{Only, Torn, with_bytes}
 use Rattle.chart_ports.specs.Moments.{LeavesOnly}
 use Rattle.chart_ports.specs.declared.images.Images.{Images}
 use Rattle.bank_journal.specs.declared.bank.Bank.{Bank}
-use Rattle.bank_journal.specs.declared.content.BankContent.{BankContent}
+use Rattle.bank_journal.specs.Content.{Content}
 use Rattle.bank_journal.specs.declared.fault.BankFault.{BankFault}
 use Rattle.bank_journal.specs.Bank.{empty_content, HasContent, gate_of, ReadsAs}
 use Rattle.bank_journal.specs.Handle.{place_of}
@@ -58,12 +58,12 @@ zeros_at_each_moment {clock = clock} {might = might} {bytes = bytes} short run =
 
 -- ---- a longer one
 
-has_read : (bytes : List ℕ) (content : BankContent) → 9 < length bytes → ReadsAs bytes content
+has_read : (bytes : List ℕ) (content : Content) → 9 < length bytes → ReadsAs bytes content
     → HasContent bytes content
 has_read bytes content long (inl short) = absurd (omega (arith, short.0))
 has_read bytes content long (inr has) = has.1
 
-pub read_in_step : (old next : List ℕ) (may_leave : List ℕ → Type 0) (place : ℕ) (content : BankContent)
+pub read_in_step : (old next : List ℕ) (may_leave : List ℕ → Type 0) (place : ℕ) (content : Content)
     → 9 < length old → bank_of old ≡ Ok content → place ≡ gate_of content → next ≡ old → Only next may_leave
     → IsInStep next may_leave place content
 read_in_step old next may_leave place content long reads gate same settled =
@@ -77,19 +77,16 @@ read_in_step old next may_leave place content long reads gate same settled =
 
 -- ---- by the answers of the parts
 
-pub zeros_opened : (old next checkpoint : List ℕ) (bodies : List (List ℕ)) (may_leave : List ℕ → Type 0) (place : ℕ)
-    → length old ≤ 9 → next ≡ with_bytes 0 nine_zeros old → Only next may_leave → place ≡ 8
-    → checkpoint ≡ [] → bodies ≡ []
-    → IsInStep next may_leave place (record { checkpoint = checkpoint; bodies = bodies })
-zeros_opened old next checkpoint bodies may_leave place short next_is settled place_is no_checkpoint no_bodies =
+pub zeros_opened : (old next : List ℕ) (content : Content) (may_leave : List ℕ → Type 0) (place : ℕ) → length old ≤ 9
+    → next ≡ with_bytes 0 nine_zeros old → Only next may_leave → place ≡ 8 → content ≡ empty_content
+    → IsInStep next may_leave place content
+zeros_opened old next content may_leave place short next_is settled place_is none =
     let step = zeros_in_step old next may_leave short next_is settled in
-    let same : empty_content ≡ record { checkpoint = checkpoint; bodies = bodies } = λ i. record
-    { checkpoint = sym no_checkpoint i; bodies = sym no_bodies i } in
-    subst (λ (p : ℕ). IsInStep next may_leave p (record { checkpoint = checkpoint; bodies = bodies })) (sym place_is)
-    (subst (IsInStep next may_leave 8) same step)
+    subst (λ (p : ℕ). IsInStep next may_leave p content) (sym place_is)
+    (subst (IsInStep next may_leave 8) (sym none) step)
 
 abbrev pub Opened : Type 0
-Opened = Result (Bank × BankContent) BankFault
+Opened = Result (Bank × Content) BankFault
 
 pub read_opened_in_step : (old next bytes : List ℕ) (may_leave : List ℕ → Type 0) (result : Opened) → bytes ≡ old
     → 9 < length bytes → IfOk result (λ opened. bank_of bytes ≡ Ok opened.1)
@@ -102,7 +99,7 @@ read_opened_in_step old next bytes may_leave (Err fault) same long reads gate ke
 
 pub short_content : (old : List ℕ) (result : Opened) → length old ≤ 9 → IfOk result (λ opened. opened.1 ≡ empty_content)
     → IfOk result (λ opened. bank_of old ≡ Ok opened.1)
-short_content old (Ok opened) short none = short_bank old short ∙ ap (λ (c : BankContent). Ok c) (sym none)
+short_content old (Ok opened) short none = short_bank old short ∙ ap (λ (c : Content). Ok c) (sym none)
 short_content old (Err fault) short none = tt
 
 pub still_settled : (may_leave then_may : List ℕ → Type 0) (old next : List ℕ) → Only old may_leave

@@ -1,11 +1,14 @@
 -- One gate of a walk over the records of a bank.
-use Rattle.std.proofs.Common.{◌≡◌, ℕ, ◌+◌, ◌-◌, ◌<◌, ◌≤◌, List, [], ◌∷◌, ◌++◌, length, take, drop, get_or, Result, Ok}
-use Rattle.std.proofs.Common.{Err, refl, sym, ◌∙◌, ap, arith, length-drop}
+use Rattle.std.proofs.Common.{◌≡◌, ℕ, ◌+◌, ◌-◌, ◌<◌, ◌≤◌, List, [], ◌∷◌, ◌++◌, length, map, take, drop, get_or}
+use Rattle.std.proofs.Common.{Result, Ok, Err, refl, sym, ◌∙◌, ap, subst, arith, length-drop, length-take-le, sum_by}
 use Rattle.std.proofs.lemmas.List.{drop_more, drop-drop, append_assoc, append-nil}
+use Rattle.std.proofs.lemmas.List.Sums.{sum_by_push}
 use Rattle.byteorder.specs.Endian.{big_number}
+use Rattle.bank_journal.specs.declared.content.Span.{Span}
 use Rattle.bank_journal.specs.declared.reading.WalkFault.{WalkFault}
 use Rattle.bank_journal.specs.declared.reading.WalkFault.TheVariants.{Foreign, NoMemory}
-use Rattle.bank_journal.specs.Bank.{IsOpen, HasHeader, checkpoint_length}
+use Rattle.bank_journal.specs.Bank.{IsOpen, HasHeader, checkpoint_length, gate_of}
+use Rattle.bank_journal.specs.Parts.{content_at, part_of, IsWithin}
 use Rattle.bank_journal.specs.WalkFault.{FaultHas}
 use Rattle.bank_journal.specs.Reading.{behind_bodies, body_in, bodies_in, content_of, bank_of}
 use Rattle.bank_journal.proofs.BankRead.{whole_header}
@@ -40,26 +43,53 @@ module _ (bytes behind : List ℕ) (first at : ℕ) (bodies : List (List ℕ)) (
       ∙ ap (behind_bodies bodies) (none_behind gate behind closed)
       ∙ ap (λ (l : List (List ℕ)). Ok l) (append-nil bodies)
 
-  module _ (body : List ℕ) (opened : IsOpen gate) (fits : 4 + big_number 4 behind < length behind)
-      (body_is : body ≡ body_in behind) (counted : length body ≡ big_number 4 behind) where
-    pub walk_inside : at + (5 + length body) < length bytes
-    walk_inside = omega (arith, ap length behind_is, length-drop (at + 1) bytes, fits, counted)
+  -- what is passed by a record whose body has this length
+  module _ (size : ℕ) (opened : IsOpen gate) (fits : 4 + size < length behind) (counted : size ≡ big_number 4 behind)
+    where
+      abbrev pub span : Span
+      span = record { from = at + 5; to = at + 5 + size }
 
-    next : drop (4 + big_number 4 behind) behind ≡ drop (at + (5 + length body)) bytes
-    next =
-        let n = 4 + big_number 4 behind in
-        let places : at + 1 + n ≡ at + (5 + length body) = omega (arith, counted) in
-        ap (λ (l : List ℕ). drop n l) behind_is ∙ drop-drop n (at + 1) bytes ∙ ap (λ (m : ℕ). drop m bytes) places
+      pub walk_inside : at + 5 + size < length bytes
+      walk_inside = omega (arith, ap length behind_is, length-drop (at + 1) bytes, fits)
 
-    pub walk_on : bodies_in 0 (drop first bytes) ≡ behind_bodies (bodies ++ body ∷ [])
-        (bodies_in 0 (drop (at + (5 + length body)) bytes))
-    walk_on =
-        joined ∙ ap (λ (l : List ℕ). behind_bodies bodies (bodies_in 0 l)) here
-        ∙ ap (behind_bodies bodies) (body_behind gate behind opened fits)
-        ∙ joined_more bodies (body_in behind) _
-        ∙ ap (λ (l : List ℕ). behind_bodies (bodies ++ l ∷ []) (bodies_in 0 (drop (4 + big_number 4 behind) behind)))
-        (sym body_is)
-        ∙ ap (λ (l : List ℕ). behind_bodies (bodies ++ body ∷ []) (bodies_in 0 l)) next
+      pub walk_within : IsWithin (length bytes) span
+      walk_within = (omega arith, omega (arith, walk_inside))
+
+      length-part : length (part_of bytes span) ≡ size
+      length-part =
+          let n = at + 5 + size - (at + 5) in
+          let long : n ≤ length (drop (at + 5) bytes) = omega (arith, length-drop (at + 5) bytes, walk_inside) in
+          length-take-le n (drop (at + 5) bytes) long ∙ omega arith
+
+      body_is : part_of bytes span ≡ body_in behind
+      body_is =
+          let n : at + 5 + size - (at + 5) ≡ big_number 4 behind = omega (arith, counted) in
+          let place : at + 1 + 4 ≡ at + 5 = omega arith in
+          let rest : drop 4 behind ≡ drop (at + 5) bytes =
+          ap (λ (l : List ℕ). drop 4 l) behind_is ∙ drop-drop 4 (at + 1) bytes ∙ ap (λ (m : ℕ). drop m bytes) place in
+          ap (λ (m : ℕ). take m (drop (at + 5) bytes)) n ∙ ap (λ (l : List ℕ). take (big_number 4 behind) l) (sym rest)
+
+      next : drop (4 + big_number 4 behind) behind ≡ drop (at + 5 + size) bytes
+      next =
+          let n = 4 + big_number 4 behind in
+          let places : at + 1 + n ≡ at + 5 + size = omega (arith, counted) in
+          ap (λ (l : List ℕ). drop n l) behind_is ∙ drop-drop n (at + 1) bytes ∙ ap (λ (m : ℕ). drop m bytes) places
+
+      pub walk_on : bodies_in 0 (drop first bytes) ≡ behind_bodies (bodies ++ part_of bytes span ∷ [])
+          (bodies_in 0 (drop (at + 5 + size) bytes))
+      walk_on =
+          joined ∙ ap (λ (l : List ℕ). behind_bodies bodies (bodies_in 0 l)) here
+          ∙ ap (behind_bodies bodies)
+          (body_behind gate behind opened (subst (λ (n : ℕ). 4 + n < length behind) counted fits))
+          ∙ joined_more bodies (body_in behind) _
+          ∙ ap (λ (l : List ℕ). behind_bodies (bodies ++ l ∷ []) (bodies_in 0 (drop (4 + big_number 4 behind) behind)))
+          (sym body_is)
+          ∙ ap (λ (l : List ℕ). behind_bodies (bodies ++ part_of bytes span ∷ []) (bodies_in 0 l)) next
+
+      pub walk_place : at ≡ first + sum_by (λ body. 5 + length body) bodies
+          → at + 5 + size ≡ first + sum_by (λ body. 5 + length body) (bodies ++ part_of bytes span ∷ [])
+      walk_place place =
+          omega (arith, place, sum_by_push (λ (b : List ℕ). 5 + length b) bodies (part_of bytes span), length-part)
 
 -- ---- the whole
 
@@ -74,12 +104,19 @@ module _ (bytes : List ℕ) (first : ℕ) (long : 9 < length bytes) (header : Ha
   bank_foreign (Foreign offset) is = given_by ∙ is
   bank_foreign NoMemory is = tt
 
-  pub bank_read : (checkpoint : List ℕ) (bodies : List (List ℕ)) → checkpoint ≡ take (first - 8) (drop 8 bytes)
-      → bodies_in 0 (drop first bytes) ≡ Ok bodies
-      → bank_of bytes ≡ Ok (record { checkpoint = checkpoint; bodies = bodies })
-  bank_read checkpoint bodies checkpoint_is bodies_are =
-      let size : first - 8 ≡ checkpoint_length bytes = omega (arith, place) in
-      let same : take (checkpoint_length bytes) (drop 8 bytes) ≡ checkpoint = ap (λ (n : ℕ). take n (drop 8 bytes))
-      (sym size) ∙ sym checkpoint_is in
+  pub checkpoint_within : IsWithin (length bytes) (record { from = 8; to = first })
+  checkpoint_within = (omega (arith, place), omega (arith, place, header.fits))
+
+  pub bank_read : (bodies : List Span) → bodies_in 0 (drop first bytes) ≡ Ok (map (part_of bytes) bodies)
+      → bank_of bytes ≡ Ok (content_at bytes (record { from = 8; to = first }) bodies)
+  bank_read bodies bodies_are =
+      let size : checkpoint_length bytes ≡ first - 8 = omega (arith, place) in
       given_by ∙ ap (content_of bytes) bodies_are
-      ∙ ap (λ (l : List ℕ). Ok (record { checkpoint = l; bodies = bodies })) same
+      ∙ ap (λ (n : ℕ). Ok (record { checkpoint = take n (drop 8 bytes); bodies = map (part_of bytes) bodies })) size
+
+  pub gate_after : (bodies : List Span) (gate : ℕ)
+      → gate ≡ first + sum_by (λ body. 5 + length body) (map (part_of bytes) bodies)
+      → gate ≡ gate_of (content_at bytes (record { from = 8; to = first }) bodies)
+  gate_after bodies gate gate_is =
+      let long : first - 8 ≤ length (drop 8 bytes) = omega (arith, place, header.fits, length-drop 8 bytes) in
+      omega (arith, place, gate_is, length-take-le (first - 8) (drop 8 bytes) long)

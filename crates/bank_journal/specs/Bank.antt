@@ -2,7 +2,7 @@
 use Rattle.std.specs.Prelude.{◌≡◌, ◌⊎◌, ℕ, ◌+◌, ◌%◌, ◌<◌, ◌≤◌, List, [], ◌∷◌, ◌++◌, length, drop, slice_index}
 use Rattle.std.specs.List.{sum_by}
 use Rattle.byteorder.specs.Endian.{big_number, big_bytes}
-use Rattle.bank_journal.specs.declared.content.BankContent.{BankContent}
+use Rattle.bank_journal.specs.Content.{Content}
 
 -- ---- records
 
@@ -62,12 +62,12 @@ pub record HasHeader (bytes : List ℕ) : Type 0 where
 -- ---- the whole
 
 -- no checkpoint, and no record
-abbrev pub empty_content : BankContent
+abbrev pub empty_content : Content
 empty_content = record { checkpoint = []; bodies = [] }
 
 -- the layout 0, the checkpoint's length in seven bytes, the checkpoint, records with these bodies, a closed gate, and
 -- then anything
-pub record HasContent (bytes : List ℕ) (content : BankContent) : Type 0 where
+pub record HasContent (bytes : List ℕ) (content : Content) : Type 0 where
   pub size : List ℕ
   pub records : List ℕ
   pub last : List ℕ
@@ -78,15 +78,15 @@ pub record HasContent (bytes : List ℕ) (content : BankContent) : Type 0 where
   pub shut : IsShut last
 
 -- the place of the closed gate: behind eight bytes, the checkpoint, and five bytes more than each body has
-abbrev pub gate_of : BankContent → ℕ
+abbrev pub gate_of : Content → ℕ
 gate_of content = 8 + length content.checkpoint + sum_by (λ body. 5 + length body) content.bodies
 
 -- the content with one body more
-abbrev pub with_body : BankContent → List ℕ → BankContent
+abbrev pub with_body : Content → List ℕ → Content
 with_body content body = record { checkpoint = content.checkpoint; bodies = content.bodies ++ body ∷ [] }
 
 -- the bytes read so: as the empty content where there are at most nine, whatever they are; else as they say
-abbrev pub ReadsAs : List ℕ → BankContent → Type 0
+abbrev pub ReadsAs : List ℕ → Content → Type 0
 ReadsAs bytes content =
     ((length bytes ≤ 9) × (content ≡ empty_content)) ⊎ ((9 < length bytes) × HasContent bytes content)
 

@@ -3,13 +3,13 @@ use Rattle.std.specs.Prelude.{◌≡◌, ◌≢◌, ◌⊎◌, ℕ, List, [], �
 use Rattle.chart_ports.specs.declared.images.Images.{Images}
 use Rattle.chart_ports.specs.Disk.{Only}
 use Rattle.chart_ports.specs.Moments.{image_of}
-use Rattle.bank_journal.specs.declared.content.BankContent.{BankContent}
+use Rattle.bank_journal.specs.Content.{Content}
 use Rattle.bank_journal.specs.Bank.{with_body, HasContent, gate_of}
 use Rattle.bank_journal.specs.Reading.{bank_of}
 
 -- the bytes of a bank's file have this content, with the closed gate at this place, and a crash leaves what a read
 -- gives
-pub record IsInStep (bytes : List ℕ) (may_leave : List ℕ → Type 0) (place : ℕ) (content : BankContent) : Type 0 where
+pub record IsInStep (bytes : List ℕ) (may_leave : List ℕ → Type 0) (place : ℕ) (content : Content) : Type 0 where
   pub has : HasContent bytes content
   pub reads : bank_of bytes ≡ Ok content
   pub gate : place ≡ gate_of content
@@ -28,5 +28,5 @@ abbrev pub nine_zeros : List ℕ
 nine_zeros = 0 ∷ 0 ∷ 0 ∷ 0 ∷ 0 ∷ 0 ∷ 0 ∷ 0 ∷ 0 ∷ []
 
 -- the bytes read as the content before the record, or as the content with it
-abbrev pub IsBeforeOrAfter : BankContent → List ℕ → List ℕ → Type 0
+abbrev pub IsBeforeOrAfter : Content → List ℕ → List ℕ → Type 0
 IsBeforeOrAfter content body bytes = (bank_of bytes ≡ Ok content) ⊎ (bank_of bytes ≡ Ok (with_body content body))

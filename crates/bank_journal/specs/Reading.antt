@@ -2,7 +2,7 @@
 use Rattle.std.specs.Prelude.{ℕ, zero, suc, ◌+◌, ◌-◌, ◌%◌, ◌==◌, ◌&&◌, nat_le, nat_lt, if◌then◌else◌, List, [], ◌∷◌}
 use Rattle.std.specs.Prelude.{◌++◌, length, take, drop, slice_index, Result, Ok, Err}
 use Rattle.byteorder.specs.Endian.{big_number}
-use Rattle.bank_journal.specs.declared.content.BankContent.{BankContent}
+use Rattle.bank_journal.specs.Content.{Content}
 use Rattle.bank_journal.specs.Bank.{checkpoint_length, empty_content}
 
 -- these bodies before those that are read
@@ -27,13 +27,13 @@ bodies_in zero (gate ∷ behind) =
     else Ok []
 
 -- the content with these bodies, or the place of what is left
-abbrev pub content_of : List ℕ → Result (List (List ℕ)) ℕ → Result BankContent ℕ
+abbrev pub content_of : List ℕ → Result (List (List ℕ)) ℕ → Result Content ℕ
 content_of bytes (Ok bodies) =
     Ok (record { checkpoint = take (checkpoint_length bytes) (drop 8 bytes); bodies = bodies })
 content_of bytes (Err left) = Err (length bytes - left)
 
 -- the content of a bank with these bytes, or the place of the first fault
-unfoldable pub bank_of : List ℕ → Result BankContent ℕ
+unfoldable pub bank_of : List ℕ → Result Content ℕ
 bank_of bytes =
     if nat_le (length bytes) 9 then Ok empty_content
     else if (slice_index bytes 0 == 0) && nat_lt (8 + checkpoint_length bytes) (length bytes)

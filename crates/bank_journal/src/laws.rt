@@ -3,7 +3,7 @@
 //! Contracts cite a function that reads a bank; the law ties it to what the bytes of a bank are.
 
 ghost use Rattle.std.specs.Prelude.{◌≡◌, ◌⊎◌, ◌↔◌, List, ℕ, Ok, Err};
-ghost use Rattle.bank_journal.specs.declared.content.BankContent.{BankContent as Content};
+ghost use Rattle.bank_journal.specs.Content.{Content};
 ghost use Rattle.bank_journal.specs.Bank.{ReadsAs, HasFault};
 ghost use Rattle.bank_journal.specs.Reading.{bank_of};
 

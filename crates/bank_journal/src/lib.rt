@@ -23,7 +23,7 @@ mod reading;
 mod whole;
 
 pub use bank::Bank;
-pub use content::{BankContent, BodyList};
+pub use content::BankContent;
 pub use fault::{AppendFault, BankFault};
 pub use framing::{Framed, frame};
 pub use laws::banks_are_read;

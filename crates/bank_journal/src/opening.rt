@@ -14,11 +14,10 @@ ghost use Rattle.bank_journal.specs.Moments.{IsInStep, LeavesFile, nine_zeros};
 ghost use Rattle.bank_journal.specs.Reading.{bank_of};
 
 use crate::bank::Bank;
-use crate::content::{BankContent, BodyList};
+use crate::content::BankContent;
 use crate::fault::BankFault;
 use crate::reading::{HEADER, WalkFault, read_bank};
 use crate::whole::{read_whole, write_through};
-use chart_model::Octets;
 use chart_ports::Desk;
 use std::alloc::Global;
 
@@ -29,13 +28,13 @@ const LONGEST_EMPTY: usize = 9;
 const EMPTY: [u8; 9] = [0; 9];
 
 /// The bank that more than nine bytes are.
-fn read_opened(alloc: Global, file: u8, bytes: &[u8]) -> Result<(Bank, BankContent), BankFault>
+fn read_opened(alloc: Global, file: u8, bytes: Vec<u8>) -> Result<(Bank, BankContent), BankFault>
     requires bank { IsInRange 1 2 file }
-    requires long { 9 < length bytes.now }
-    ensures content { IfOk result (λ opened. bank_of bytes.now ≡ Ok opened.1) }
+    requires long { 9 < length bytes.items }
+    ensures content { IfOk result (λ opened. bank_of bytes.items ≡ Ok opened.1) }
     ensures file { IfOk result (λ opened. file_of opened.0 ≡ file) }
     ensures gate { IfOk result (λ opened. place_of opened.0 ≡ gate_of opened.1) }
-    ensures foreign { IfErr result (ForeignHas (λ bank offset. (bank ≡ file) × (bank_of bytes.now ≡ Err offset))) }
+    ensures foreign { IfErr result (ForeignHas (λ bank offset. (bank ≡ file) × (bank_of bytes.items ≡ Err offset))) }
     ensures no_desk { ¬ IsErrOf result DeskFault }
 {
     match read_bank(alloc, bytes) {
@@ -71,15 +70,11 @@ fn write_empty<D: Desk>(
     ensures cause { HasDeskCause DeskFault (D.faults desk.old) (D.faults desk.new) result }
 {
     write_through(desk, file, 0, &EMPTY)?;
-    let checkpoint = Octets::from_vec(Vec::new(alloc));
-    let bodies = BodyList::new(alloc);
-    Ok((
-        Bank::at(file, HEADER as u64),
-        BankContent { checkpoint, bodies },
-    ))
+    let bank = Bank::at(file, HEADER as u64);
+    Ok((bank, BankContent::empty(alloc)))
 }
 
-/// Opens the bank in a file, which is read once.
+/// Opens the bank in a file, which is read once, into one buffer: what is opened are parts of it.
 ///
 /// A bank of at most nine bytes is the empty one, whatever they are. It is written out, at every opening, and
 /// brought to the disk before any record is: so a record never stands behind bytes that a crash can still change.
@@ -124,7 +119,7 @@ pub fn open_bank<D: Desk>(
 {
     let bytes = read_whole(alloc, desk, file)?;
     if bytes.len() > LONGEST_EMPTY {
-        return read_opened(alloc, file, &bytes);
+        return read_opened(alloc, file, bytes);
     }
     write_empty(alloc, desk, file)
 }

@@ -3,18 +3,18 @@
 //! The bytes are walked record by record: a length may be wrong, and what stands behind a closed
 //! gate does not count.
 
-ghost use Rattle.std.specs.Prelude.{◌≡◌, ◌+◌, ◌<◌, ◌≤◌, Ok, Err, IfOk, IfErr, IfSome, IfNone, length, drop};
-ghost use Rattle.std.specs.List.{sum_by};
+ghost use Rattle.std.specs.Prelude.{◌≡◌, ◌+◌, ◌<◌, ◌≤◌, Ok, Err, IfOk, IfErr, IfSome, IfNone, length, drop, map};
+ghost use Rattle.std.specs.List.{All, sum_by};
 ghost use Rattle.byteorder.specs.Endian.{big_number};
 ghost use Rattle.bank_journal.specs.declared.reading.WalkFault.TheVariants.{NoMemory};
 ghost use Rattle.bank_journal.specs.Bank.{HasHeader, checkpoint_length, gate_of};
-ghost use Rattle.bank_journal.specs.Reading.{body_in, bodies_in, content_of, bank_of};
+ghost use Rattle.bank_journal.specs.Parts.{IsWithin, part_of};
+ghost use Rattle.bank_journal.specs.Reading.{bodies_in, content_of, bank_of};
 ghost use Rattle.bank_journal.specs.WalkFault.{FaultHas};
 
-use crate::content::{BankContent, BodyList};
+use crate::content::{BankContent, Span};
 use byteorder::{BigEndian, ByteOrder};
-use chart_model::Octets;
-use std::alloc::{AllocError, Global};
+use std::alloc::{AllocFailed, Global};
 
 /// The bytes before the checkpoint: the layout, and the checkpoint's length.
 pub(crate) const HEADER: usize = 8;
@@ -30,50 +30,50 @@ pub(crate) enum WalkFault {
     NoMemory,
 }
 
-impl From<AllocError> for WalkFault {
+impl<T: Drop> From<AllocFailed<T>> for WalkFault {
     ghost from_gives = { λ _ e. e ≡ NoMemory };
 
-    fn from(_: AllocError) -> WalkFault {
+    fn from(_: AllocFailed<T>) -> WalkFault {
         WalkFault::NoMemory
     }
 }
 
-/// The body whose length in four bytes begins the bytes, where a gate can stand behind it.
-fn body_at(bytes: &[u8]) -> Option<&[u8]>
-    ensures body { IfSome result (λ body. body.now ≡ body_in bytes.now) }
-    ensures counted { IfSome result (λ body. length body.now ≡ big_number 4 bytes.now) }
-    ensures fits { IfSome result (λ body. 4 + big_number 4 bytes.now < length bytes.now) }
+/// The length of a body, which begins the bytes in four of them, where a gate can stand behind the body.
+fn body_length(bytes: &[u8]) -> Option<usize>
+    ensures counted { IfSome result (λ size. size ≡ big_number 4 bytes.now) }
+    ensures fits { IfSome result (λ size. 4 + size < length bytes.now) }
     ensures none { IfNone result (length bytes.now ≤ 4 + big_number 4 bytes.now) }
 {
     if bytes.len() <= 4 {
         return None;
     }
     let size = BigEndian::read_u32(bytes) as usize;
-    let rest = &bytes[4..];
-    if size < rest.len() {
-        Some(&rest[..size])
-    } else {
-        None
-    }
+    let rest = bytes.len() - 4;
+    if size < rest { Some(size) } else { None }
 }
 
-/// The bodies of the records from a gate on, and the place of the closed gate that ends them.
-fn read_bodies(alloc: Global, bytes: &[u8], first: usize) -> Result<(BodyList, usize), WalkFault>
+/// Where the bodies of the records from a gate on lie, and the place of the closed gate that ends them.
+fn find_bodies(alloc: Global, bytes: &[u8], first: usize) -> Result<(Vec<Span>, usize), WalkFault>
     requires { first < length bytes.now }
-    ensures bodies { IfOk result (λ found. bodies_in 0 (drop first bytes.now) ≡ Ok found.0) }
-    ensures gate { IfOk result (λ found. found.1 ≡ first + sum_by (λ body. 5 + length body) found.0) }
+    ensures bodies { IfOk result (λ found.
+        bodies_in 0 (drop first bytes.now) ≡ Ok (map (part_of bytes.now) found.0.items)) }
+    ensures within { IfOk result (λ found. All (IsWithin (length bytes.now)) found.0.items) }
+    ensures gate { IfOk result (λ found.
+        found.1 ≡ first + sum_by (λ body. 5 + length body) (map (part_of bytes.now) found.0.items)) }
     ensures inside { IfOk result (λ found. found.1 < length bytes.now) }
     ensures fault { IfErr result (FaultHas (λ place.
         content_of bytes.now (bodies_in 0 (drop first bytes.now)) ≡ Err place)) }
 {
-    let mut bodies = BodyList::new(alloc);
+    let mut bodies = Vec::new(alloc);
     let mut at = first;
     while bytes[at] % 2 == 1 {
-        let Some(body) = body_at(&bytes[at + 1..]) else {
+        let Some(size) = body_length(&bytes[at + 1..]) else {
             return Err(WalkFault::Foreign(at));
         };
-        bodies.push(Octets::from_slice(alloc, body)?)?;
-        at += OVERHEAD + body.len();
+        let from = at + OVERHEAD;
+        let to = from + size;
+        bodies.push(Span { from, to })?;
+        at = to;
     }
     Ok((bodies, at))
 }
@@ -93,23 +93,26 @@ fn first_gate(bytes: &[u8]) -> Option<usize>
     }
 }
 
-/// The content of a bank of more than nine bytes, and the place of its closed gate. The checkpoint and each body
-/// are copied once.
+/// The content of a bank of more than nine bytes, and the place of its closed gate. The bytes are taken over, and no
+/// part of them is copied.
 ///
 /// # Errors
 ///
 /// `Foreign` exactly where the bytes have no reading, with the place of their first fault; `NoMemory`.
-pub(crate) fn read_bank(alloc: Global, bytes: &[u8]) -> Result<(BankContent, usize), WalkFault>
-    requires { 9 < length bytes.now }
-    ensures content { IfOk result (λ found. bank_of bytes.now ≡ Ok found.0) }
+pub(crate) fn read_bank(alloc: Global, bytes: Vec<u8>) -> Result<(BankContent, usize), WalkFault>
+    requires { 9 < length bytes.items }
+    ensures content { IfOk result (λ found. bank_of bytes.items ≡ Ok found.0) }
     ensures gate { IfOk result (λ found. found.1 ≡ gate_of found.0) }
-    ensures inside { IfOk result (λ found. found.1 < length bytes.now) }
-    ensures fault { IfErr result (FaultHas (λ place. bank_of bytes.now ≡ Err place)) }
+    ensures inside { IfOk result (λ found. found.1 < length bytes.items) }
+    ensures fault { IfErr result (FaultHas (λ place. bank_of bytes.items ≡ Err place)) }
 {
-    let Some(first) = first_gate(bytes) else {
+    let Some(first) = first_gate(&bytes) else {
         return Err(WalkFault::Foreign(0));
     };
-    let (bodies, gate) = read_bodies(alloc, bytes, first)?;
-    let checkpoint = Octets::from_slice(alloc, &bytes[HEADER..first])?;
-    Ok((BankContent { checkpoint, bodies }, gate))
+    let (bodies, gate) = find_bodies(alloc, &bytes, first)?;
+    let checkpoint = Span {
+        from: HEADER,
+        to: first,
+    };
+    Ok((BankContent::of_spans(bytes, checkpoint, bodies), gate))
 }

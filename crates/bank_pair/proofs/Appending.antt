@@ -4,7 +4,7 @@ use Rattle.std.specs.Int.{IsInRange}
 use Rattle.chart_ports.specs.declared.images.Images.{Images}
 use Rattle.chart_ports.specs.Moments.{LeavesOnly, MayBeLeft, image_of}
 use Rattle.chart_ports.proofs.Moments.{started, weaker}
-use Rattle.bank_journal.specs.declared.content.BankContent.{BankContent}
+use Rattle.bank_journal.specs.Content.{Content}
 use Rattle.bank_journal.specs.Bank.{with_body}
 use Rattle.bank_journal.specs.Moments.{IsBeforeOrAfter, LeavesFile}
 use Rattle.bank_journal.specs.Reading.{bank_of}
@@ -12,10 +12,10 @@ use Rattle.bank_pair.specs.Head.{bank_named}
 use Rattle.bank_pair.specs.Pair.{IsPairInStep, LeavesEither, PairValue}
 use Rattle.bank_pair.proofs.Naming.{content_in}
 
-module _ {contents : ℕ → List ℕ} {may_leave : ℕ → List ℕ → Type 0} {pair : PairValue} {content : BankContent}
+module _ {contents : ℕ → List ℕ} {may_leave : ℕ → List ℕ → Type 0} {pair : PairValue} {content : Content}
     (step : IsPairInStep contents may_leave pair content) (said : List ℕ) where
   -- a crash leaves what a read gives, where nothing is under way
-  says_before : (after : BankContent) (images : Images) (so_far : List ℕ) → MayBeLeft may_leave images → so_far ≡ said
+  says_before : (after : Content) (images : Images) (so_far : List ℕ) → MayBeLeft may_leave images → so_far ≡ said
       → LeavesEither said content after images so_far
   says_before after images so_far left silent = record {
     silent = silent;
@@ -25,7 +25,7 @@ module _ {contents : ℕ → List ℕ} {may_leave : ℕ → List ℕ → Type 0}
 
   -- no call of the desk
   pub nothing_done : {D : Type 0} (clock : D → ℕ) (might : D → ℕ → Images → List ℕ → Type 0) (desk : D)
-      (after : BankContent) → ((images : Images) (so_far : List ℕ) → might desk (clock desk) images so_far
+      (after : Content) → ((images : Images) (so_far : List ℕ) → might desk (clock desk) images so_far
       → MayBeLeft may_leave images × (so_far ≡ said))
       → LeavesOnly clock might desk desk (LeavesEither said content after)
   nothing_done clock might desk after only_now =

@@ -6,7 +6,7 @@ use Rattle.chart_ports.specs.declared.images.Images.{Images}
 use Rattle.chart_ports.specs.Disk.{LeavesNoMoreOfOthers, Only, SameOthers}
 use Rattle.chart_ports.specs.Moments.{LeavesOnly, image_of}
 use Rattle.chart_ports.proofs.Moments.{and_then, weaker}
-use Rattle.bank_journal.specs.declared.content.BankContent.{BankContent}
+use Rattle.bank_journal.specs.Content.{Content}
 use Rattle.bank_journal.specs.Moments.{LeavesFile}
 use Rattle.bank_journal.specs.Reading.{bank_of}
 use Rattle.bank_pair.specs.Head.{bank_named, content_named, other_than}
@@ -22,14 +22,14 @@ named_range (byte ∷ bytes) = (omega arith, omega arith)
 
 -- ---- what files say
 
-says_named : (images : Images) (file : ℕ) (bytes : List ℕ) (content : BankContent) → bank_named images.head ≡ file
+says_named : (images : Images) (file : ℕ) (bytes : List ℕ) (content : Content) → bank_named images.head ≡ file
     → image_of images file ≡ bytes → bank_of bytes ≡ Ok content → content_named images ≡ Ok content
 unfolding content_named
 says_named images file bytes content named image reads =
     ap (λ (n : ℕ). bank_of (image_of images n)) named ∙ ap bank_of image ∙ reads
 
 -- whatever the head is, it names the one bank or the other
-says_either : (images : Images) (file other : ℕ) (bytes other_bytes : List ℕ) (before after : BankContent)
+says_either : (images : Images) (file other : ℕ) (bytes other_bytes : List ℕ) (before after : Content)
     → 1 ≤ file → file ≤ 2 → other ≡ other_than file
     → image_of images file ≡ bytes → bank_of bytes ≡ Ok before
     → image_of images other ≡ other_bytes → bank_of other_bytes ≡ Ok after
@@ -45,7 +45,7 @@ says_either images file other bytes other_bytes before after low high other_is t
 
 -- ---- a desk in step with a pair, of which the other bank is written
 
-module _ (contents : ℕ → List ℕ) (may_leave : Leaving) (pair : PairValue) (content : BankContent)
+module _ (contents : ℕ → List ℕ) (may_leave : Leaving) (pair : PairValue) (content : Content)
     (step : IsPairInStep contents may_leave pair content) (other : ℕ) (other_is : other ≡ other_than pair.file) where
   pub low : 1 ≤ pair.file
   low = subst (λ (n : ℕ). 1 ≤ n) step.named (named_range (contents 0)).0
@@ -78,7 +78,7 @@ module _ (contents : ℕ → List ℕ) (may_leave : Leaving) (pair : PairValue) 
       (leaves_content said) run
 
   pub says_before : {D : Type 0} (clock : D → ℕ) (might : D → ℕ → Images → List ℕ → Type 0) (old new : D)
-      (said : List ℕ) (after : BankContent) → LeavesOnly clock might old new (LeavesAnything other may_leave said)
+      (said : List ℕ) (after : Content) → LeavesOnly clock might old new (LeavesAnything other may_leave said)
       → LeavesOnly clock might old new (LeavesEither said content after)
   says_before clock might old new said after run =
       weaker clock might old new (LeavesContent said content) (LeavesEither said content after)
@@ -89,7 +89,7 @@ module _ (contents : ℕ → List ℕ) (may_leave : Leaving) (pair : PairValue) 
 
   module _ (next : ℕ → List ℕ) (then_may : Leaving) (same : SameOthers other contents next)
       (no_more : LeavesNoMoreOfOthers other may_leave then_may) (settled : Only (next other) (then_may other))
-      (after : BankContent) (reads : bank_of (next other) ≡ Ok after) where
+      (after : Content) (reads : bank_of (next other) ≡ Ok after) where
     leaves_either : (said then_said : List ℕ) (P : List ℕ → Type 0) (images : Images) (so_far : List ℕ)
         → then_said ≡ said → LeavesFile 0 then_may then_said P images so_far
         → LeavesEither said content after images so_far

@@ -3,7 +3,7 @@ use Rattle.std.proofs.Common.{◌≡◌, ◌≢◌, ℕ, ◌+◌, ◌-◌, ◌*�
 use Rattle.std.proofs.Common.{refl, sym, ◌∙◌, ap, subst, arith}
 use Rattle.std.specs.Prelude.{option_map}
 use Rattle.chart_ports.specs.Disk.{LeavesNoMoreOfOthers, Only, SameOthers, with_bytes}
-use Rattle.bank_journal.specs.declared.content.BankContent.{BankContent}
+use Rattle.bank_journal.specs.Content.{Content}
 use Rattle.bank_journal.specs.Bank.{HasContent}
 use Rattle.bank_journal.specs.Reading.{bank_of}
 use Rattle.bank_journal.proofs.Appending.{reads}
@@ -46,7 +46,7 @@ ready pair kept kept_is whole save saves =
     } in
     subst (IsReady pair.since.items pair.gate) (one_save (value_of pair) own save own_saves saves) own_ready
 
-module _ (contents : ℕ → List ℕ) (may_leave : Leaving) (pair : PairValue) (content : BankContent)
+module _ (contents : ℕ → List ℕ) (may_leave : Leaving) (pair : PairValue) (content : Content)
     (step : IsPairInStep contents may_leave pair content) (other : ℕ) (other_is : other ≡ other_than pair.file)
     (save : SaveValue) (saves : Saves pair save) (frames : List (List ℕ)) (gate : ℕ)
     (is_ready : IsReady frames gate save) where

@@ -4,7 +4,7 @@ use Rattle.std.specs.Prelude.{Option, Some, None, Ok}
 use Rattle.chart_ports.specs.declared.images.Images.{Images}
 use Rattle.chart_ports.specs.Disk.{Only}
 use Rattle.chart_ports.specs.Moments.{MayBeLeft, images_of}
-use Rattle.bank_journal.specs.declared.content.BankContent.{BankContent}
+use Rattle.bank_journal.specs.Content.{Content}
 use Rattle.bank_journal.specs.Bank.{frame_of, IsBodyLength}
 use Rattle.bank_journal.specs.Moments.{IsInStep}
 use Rattle.bank_pair.specs.Head.{bank_named, content_named, current_of, other_than}
@@ -60,7 +60,7 @@ abbrev pub with_frame : List ℕ → SaveValue → SaveValue
 with_frame frame save = record save { since = save.since ++ frame ∷ [] }
 
 -- what the other bank says in the end, where records with these bodies were appended since the save began
-abbrev pub saved_content : SaveValue → List (List ℕ) → BankContent
+abbrev pub saved_content : SaveValue → List (List ℕ) → Content
 saved_content save bodies = record { checkpoint = save.checkpoint; bodies = bodies }
 
 -- the frames of bodies
@@ -79,7 +79,7 @@ HasSlices bytes (Some save) = save.written ≢ 0 → bytes ≡ written_of save
 -- of both what a read gives. Of the other bank a read gives the slices that are written; what a crash leaves of it
 -- doesn't count.
 pub record IsPairInStep (contents : ℕ → List ℕ) (may_leave : ℕ → List ℕ → Type 0) (pair : PairValue)
-    (content : BankContent) : Type 0 where
+    (content : Content) : Type 0 where
   pub named : bank_named (contents 0) ≡ pair.file
   pub head : Only (contents 0) (may_leave 0)
   pub bank : IsInStep (contents pair.file) (may_leave pair.file) pair.gate content
@@ -88,12 +88,12 @@ pub record IsPairInStep (contents : ℕ → List ℕ) (may_leave : ℕ → List 
 -- ---- what a crash leaves at a moment
 
 -- nothing more is said, and the files say this by the bank that the head names
-pub record LeavesContent (said : List ℕ) (content : BankContent) (images : Images) (so_far : List ℕ) : Type 0 where
+pub record LeavesContent (said : List ℕ) (content : Content) (images : Images) (so_far : List ℕ) : Type 0 where
   pub silent : so_far ≡ said
   pub says : content_named images ≡ Ok content
 
 -- nothing more is said, and the files say one of these
-pub record LeavesEither (said : List ℕ) (before after : BankContent) (images : Images) (so_far : List ℕ)
+pub record LeavesEither (said : List ℕ) (before after : Content) (images : Images) (so_far : List ℕ)
     : Type 0 where
   pub silent : so_far ≡ said
   pub either : (content_named images ≡ Ok before) ⊎ (content_named images ≡ Ok after)

@@ -34,7 +34,7 @@ impl Pair {
     ghost use Rattle.std.specs.Prelude.{◌≢◌, ◌≤◌, ◌↔◌, List, ℕ, Err, IsTrue, OnErr, length, option_map};
     ghost use Rattle.chart_ports.specs.Disk.{LeavesNoMoreOfOthers, SameOthers};
     ghost use Rattle.chart_ports.specs.Moments.{LeavesOnly};
-    ghost use Rattle.bank_journal.specs.declared.content.BankContent.{BankContent as Content};
+    ghost use Rattle.bank_journal.specs.Content.{Content};
     ghost use Rattle.bank_journal.specs.declared.fault.AppendFault.TheVariants.{Full};
     ghost use Rattle.bank_journal.specs.Bank.{with_body, frame_of, IsBodyLength};
     ghost use Rattle.bank_journal.specs.Fault.{HasDeskCause};

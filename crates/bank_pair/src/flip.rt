@@ -17,7 +17,7 @@ use chart_ports::{Desk, Failed};
 const HEAD: u8 = 0;
 
 impl Pair {
-    ghost use Rattle.bank_journal.specs.declared.content.BankContent.{BankContent as Content};
+    ghost use Rattle.bank_journal.specs.Content.{Content};
     ghost use Rattle.bank_pair.specs.Head.{other_than};
     ghost use Rattle.bank_pair.specs.Handle.{spare_of, value_of};
     ghost use Rattle.bank_pair.specs.Pair.{AreFramed, IsPairInStep, IsWritten, LeavesEither, Saves, saved_content};

@@ -51,7 +51,7 @@ impl Save {
 }
 
 impl Pair {
-    ghost use Rattle.bank_journal.specs.declared.content.BankContent.{BankContent as Content};
+    ghost use Rattle.bank_journal.specs.Content.{Content};
     ghost use Rattle.bank_pair.specs.declared.fault.SaveFault.TheVariants.{Full};
     ghost use Rattle.bank_pair.specs.Head.{other_than};
     ghost use Rattle.bank_pair.specs.Handle.{spare_of, value_of};

@@ -2,7 +2,7 @@
 use Rattle.std.proofs.Common.{◌≡◌, ◌≢◌, ℕ, zero, suc, ◌≤◌, List, [], ◌∷◌, Ok, refl, ◌∙◌, ap, subst, arith}
 use Rattle.chart_ports.specs.declared.images.Images.{Images}
 use Rattle.chart_ports.specs.Moments.{MayBeLeft, image_of, images_of}
-use Rattle.bank_journal.specs.declared.content.BankContent.{BankContent}
+use Rattle.bank_journal.specs.Content.{Content}
 use Rattle.bank_journal.specs.Reading.{bank_of}
 use Rattle.bank_pair.specs.Head.{bank_named, content_named}
 use Rattle.bank_pair.specs.Pair.{IsPairInStep, PairValue}
@@ -36,7 +36,7 @@ says_read contents file named =
 
 -- ---- a desk in step with a pair
 
-module _ (contents : ℕ → List ℕ) (may_leave : ℕ → List ℕ → Type 0) (pair : PairValue) (content : BankContent)
+module _ (contents : ℕ → List ℕ) (may_leave : ℕ → List ℕ → Type 0) (pair : PairValue) (content : Content)
     (step : IsPairInStep contents may_leave pair content) where
   -- a read says the content
   pub read_says : content_named (images_of contents) ≡ Ok content

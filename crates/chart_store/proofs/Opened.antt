@@ -5,7 +5,7 @@ use Rattle.std.proofs.lemmas.Result.{IfErr-weaker, IfOk-weaker}
 use Rattle.chart_model.specs.State.{StateValue}
 use Rattle.chart_ports.specs.Disk.{SameFiles, SameOthers}
 use Rattle.chart_ports.specs.Moments.{images_of}
-use Rattle.bank_journal.specs.declared.content.BankContent.{BankContent}
+use Rattle.bank_journal.specs.Content.{Content}
 use Rattle.bank_journal.specs.declared.fault.BankFault.{BankFault}
 use Rattle.bank_journal.specs.declared.fault.BankFault.TheVariants as banks
 use Rattle.bank_journal.specs.Fault as of_bank
@@ -44,10 +44,10 @@ bank_left old new (banks.Foreign bank at) has = has
 bank_left old new banks.NoMemory has = tt
 
 -- a place in the bank where what it holds has its first fault
-abbrev pub IsFaultOf : BankContent → ℕ → Place → Type 0
+abbrev pub IsFaultOf : Content → ℕ → Place → Type 0
 IsFaultOf content bank place = (place.bank ≡ bank) × (state_by content ≡ Err place.at)
 
-pub held_foreign : (contents : ℕ → List ℕ) (content : BankContent) (file : ℕ) → content_named (images_of contents) ≡ Ok content
+pub held_foreign : (contents : ℕ → List ℕ) (content : Content) (file : ℕ) → content_named (images_of contents) ≡ Ok content
     → file ≡ bank_named (contents 0) → (place : Place) → IsFaultOf content file place
     → read_of (images_of contents) ≡ Err place
 held_foreign contents content file says named place is =
@@ -57,11 +57,11 @@ held_foreign contents content file says named place is =
 -- ---- what a bank holds, by its records
 
 -- a place in the bank where what its records hold has its first fault
-abbrev pub IsFaultBehind : BankContent → StateValue → ℕ → ℕ → Place → Type 0
+abbrev pub IsFaultBehind : Content → StateValue → ℕ → ℕ → Place → Type 0
 IsFaultBehind content first gate bank place =
     (place.bank ≡ bank) × (state_after_records first gate content.bodies ≡ Err place.at)
 
-module _ (content : BankContent) (first : StateValue) (starts : checkpoint_in content.checkpoint ≡ Some first) where
+module _ (content : Content) (first : StateValue) (starts : checkpoint_in content.checkpoint ≡ Some first) where
   held_at : (gate : ℕ) → gate ≡ first_gate content
       → state_by content ≡ state_after_records first gate content.bodies
   held_at gate place =
@@ -87,7 +87,7 @@ module _ (content : BankContent) (first : StateValue) (starts : checkpoint_in co
 
 -- ---- what is opened
 
-pub opened-kept : SpelledLaw → (contents : ℕ → List ℕ) (may_leave : ℕ → List ℕ → Type 0) (content : BankContent)
+pub opened-kept : SpelledLaw → (contents : ℕ → List ℕ) (may_leave : ℕ → List ℕ → Type 0) (content : Content)
     (store : Store) → IsPairInStep contents may_leave (pair_of store) content → state_by content ≡ Ok (state_of store)
     → save_of store ≡ None → IsKept contents may_leave store
 opened-kept law contents may_leave content store step holds idle = record {

@@ -10,7 +10,7 @@ use Rattle.chart_model.specs.declared.command.Command.{Command}
 use Rattle.chart_ports.specs.declared.images.Images.{Images}
 use Rattle.command_codec.specs.Reading.{command_in}
 use Rattle.command_codec.specs.Spelling.{Spells}
-use Rattle.bank_journal.specs.declared.content.BankContent.{BankContent}
+use Rattle.bank_journal.specs.Content.{Content}
 use Rattle.bank_journal.specs.Bank.{empty_content, gate_of}
 use Rattle.bank_journal.specs.Reading.{bank_of}
 use Rattle.bank_pair.specs.Head.{content_named, current_of}
@@ -28,11 +28,11 @@ use Rattle.chart_store.specs.Outcome.{outcome}
 -- ---- by the parts
 
 -- what is read of what the bank of a file says
-abbrev reading_named : ℕ → Result BankContent ℕ → Result Reading Place
+abbrev reading_named : ℕ → Result Content ℕ → Result Reading Place
 reading_named file found = or_fault_as (in_bank file) (found >>= reading_by)
 
 -- what is read behind the checkpoint
-abbrev reading_with : ℕ → BankContent → Result StateValue ℕ → Result Reading Place
+abbrev reading_with : ℕ → Content → Result StateValue ℕ → Result Reading Place
 reading_with file content held =
     or_fault_as (in_bank file) (held >>= λ state. Ok (record { state = state; used = gate_of content + 1 }))
 
@@ -46,7 +46,7 @@ same_reading a b same =
     read_by_content a ∙ ap (λ (file : ℕ). reading_named file (content_named a)) same.file
     ∙ ap (reading_named (current_of b)) same.content ∙ sym (read_by_content b)
 
-pub state_in : (images : Images) (content : BankContent) (state : StateValue) → content_named images ≡ Ok content
+pub state_in : (images : Images) (content : Content) (state : StateValue) → content_named images ≡ Ok content
     → state_by content ≡ Ok state → read_of images ≡ Ok (record { state = state; used = gate_of content + 1 })
 state_in images content state says holds =
     read_by_content images ∙ ap (reading_named (current_of images)) says
@@ -58,7 +58,7 @@ pub no_content : (images : Images) (at : ℕ) → content_named images ≡ Err a
     → read_of images ≡ Err (in_bank (current_of images) at)
 no_content images at none = read_by_content images ∙ ap (reading_named (current_of images)) none
 
-pub not_held : (images : Images) (content : BankContent) (at : ℕ) → content_named images ≡ Ok content
+pub not_held : (images : Images) (content : Content) (at : ℕ) → content_named images ≡ Ok content
     → state_by content ≡ Err at → read_of images ≡ Err (in_bank (current_of images) at)
 not_held images content at says none =
     read_by_content images ∙ ap (reading_named (current_of images)) says
@@ -67,18 +67,18 @@ not_held images content at says none =
 -- ---- what the content of a bank holds
 
 -- what is held after the records, where the checkpoint says so much
-abbrev state_behind : BankContent → Option StateValue → Result StateValue ℕ
+abbrev state_behind : Content → Option StateValue → Result StateValue ℕ
 state_behind content first =
     or_fault 8 first >>= λ state. state_after_records state (first_gate content) content.bodies
 
-by_checkpoint : (content : BankContent) → state_by content ≡ state_behind content (checkpoint_in content.checkpoint)
+by_checkpoint : (content : Content) → state_by content ≡ state_behind content (checkpoint_in content.checkpoint)
 unfolding state_by
 by_checkpoint content = refl
 
-pub not_begun : (content : BankContent) → checkpoint_in content.checkpoint ≡ None → state_by content ≡ Err 8
+pub not_begun : (content : Content) → checkpoint_in content.checkpoint ≡ None → state_by content ≡ Err 8
 not_begun content none = by_checkpoint content ∙ ap (state_behind content) none
 
-pub carried_from : (content : BankContent) (first : StateValue) → checkpoint_in content.checkpoint ≡ Some first
+pub carried_from : (content : Content) (first : StateValue) → checkpoint_in content.checkpoint ≡ Some first
     → state_by content ≡ state_after_records first (first_gate content) content.bodies
 carried_from content first starts = by_checkpoint content ∙ ap (state_behind content) starts
 
@@ -203,26 +203,26 @@ held-leads law first gate bodies last replays =
     let found = accepted-records law first gate bodies last replays in
     record { commands = found.commands; spelled = found.spelled; accepted = found.accepted }
 
-pub holds-state : SpelledLaw → (content : BankContent) (state : StateValue) → Holds content state
+pub holds-state : SpelledLaw → (content : Content) (state : StateValue) → Holds content state
     → state_by content ≡ Ok state
 holds-state law content state h =
     carried_from content h.first h.starts
     ∙ leads-held law h.first (first_gate content) content.bodies state h.leads
 
-state-held : SpelledLaw → (content : BankContent) (state : StateValue) (first : Option StateValue)
+state-held : SpelledLaw → (content : Content) (state : StateValue) (first : Option StateValue)
     → checkpoint_in content.checkpoint ≡ first → state_behind content first ≡ Ok state → Holds content state
 state-held law content state None starts e = absurd cc
 state-held law content state (Some first) starts e =
     record { first = first; starts = starts; leads = held-leads law first (first_gate content) content.bodies state e }
 
-pub state-holds : SpelledLaw → (content : BankContent) (state : StateValue) → state_by content ≡ Ok state
+pub state-holds : SpelledLaw → (content : Content) (state : StateValue) → state_by content ≡ Ok state
     → Holds content state
 state-holds law content state e =
     state-held law content state (checkpoint_in content.checkpoint) refl (sym (by_checkpoint content) ∙ e)
 
 -- ---- files that stand for what is held
 
-pub holds-read : SpelledLaw → (images : Images) (content : BankContent) (state : StateValue)
+pub holds-read : SpelledLaw → (images : Images) (content : Content) (state : StateValue)
     → content_named images ≡ Ok content → Holds content state
     → read_of images ≡ Ok (record { state = state; used = gate_of content + 1 })
 holds-read law images content state says holds =
@@ -234,9 +234,9 @@ stands-read law images state h = (gate_of h.content + 1, holds-read law images h
 
 -- the bank that the head names holds a state
 abbrev pub HoldsNamed : Images → StateValue → Type 0
-HoldsNamed images state = (content : BankContent) × (content_named images ≡ Ok content) × Holds content state
+HoldsNamed images state = (content : Content) × (content_named images ≡ Ok content) × Holds content state
 
-by_state : SpelledLaw → (images : Images) (content : BankContent) (state : StateValue) (used : ℕ)
+by_state : SpelledLaw → (images : Images) (content : Content) (state : StateValue) (used : ℕ)
     → content_named images ≡ Ok content → (held : Result StateValue ℕ) → state_by content ≡ held
     → reading_with (current_of images) content held ≡ Ok (record { state = state; used = used })
     → HoldsNamed images state
@@ -248,7 +248,7 @@ by_state law images content state used says (Ok last) held e =
     ok_is : {A E : Type 0} {x y : A} → ◌≡◌ {A = Result A E} (Ok x) (Ok y) → x ≡ y
     ok_is e = cc
 
-by_content : SpelledLaw → (images : Images) (found : Result BankContent ℕ) (state : StateValue) (used : ℕ)
+by_content : SpelledLaw → (images : Images) (found : Result Content ℕ) (state : StateValue) (used : ℕ)
     → content_named images ≡ found
     → reading_named (current_of images) found ≡ Ok (record { state = state; used = used }) → HoldsNamed images state
 by_content law images (Err at) state used says e = absurd cc

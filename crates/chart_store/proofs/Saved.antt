@@ -13,7 +13,7 @@ use Rattle.chart_model.specs.declared.command.Command.{Command}
 use Rattle.chart_ports.specs.declared.images.Images.{Images}
 use Rattle.chart_ports.specs.Moments.{LeavesOnly, MayBeLeft, images_of}
 use Rattle.chart_ports.proofs.Moments.{and_then, started, weaker}
-use Rattle.bank_journal.specs.declared.content.BankContent.{BankContent}
+use Rattle.bank_journal.specs.Content.{Content}
 use Rattle.bank_journal.specs.Bank.{IsBodyLength}
 use Rattle.bank_journal.specs.Moments.{IsInStep}
 use Rattle.bank_pair.specs.Head.{content_named, other_than}
@@ -119,7 +119,7 @@ reached-by first mid bodies reached leads =
 
 -- ---- what is saved
 
-module _ (law : SpelledLaw) (content : BankContent) (state : StateValue) (holds : Holds content state) (save : SaveValue)
+module _ (law : SpelledLaw) (content : Content) (state : StateValue) (holds : Holds content state) (save : SaveValue)
     (of : IsSaveOf content save) where
   -- the checkpoint and the records since hold the same
   abbrev pub saved-holds : Holds (saved_content save of.since) state
@@ -138,7 +138,7 @@ module _ (law : SpelledLaw) (content : BankContent) (state : StateValue) (holds 
       content_named images ≡ Ok (saved_content save of.since) → StandFor images state
   saved-stands other images said stood says =
       let same : content ≡ stood.content = ok_is (sym said ∙ stood.says) in
-      let starts = ap (λ (c : BankContent). checkpoint_in c.checkpoint) same in
+      let starts = ap (λ (c : Content). checkpoint_in c.checkpoint) same in
       let first : of.holds.first ≡ stood.holds.first = some_is (sym of.holds.starts ∙ starts ∙ stood.holds.starts) in
       record {
         content = saved_content save of.since;
@@ -150,7 +150,7 @@ module _ (law : SpelledLaw) (content : BankContent) (state : StateValue) (holds 
 -- ---- the save under way of a store that is kept
 
 -- the save is of what the bank holds
-save-of : (content : BankContent) (o : Option SaveValue) (save : SaveValue) → IfSome o (IsSaveOf content) → o ≡ Some save →
+save-of : (content : Content) (o : Option SaveValue) (save : SaveValue) → IfSome o (IsSaveOf content) → o ≡ Some save →
     IsSaveOf content save
 save-of content o save of is = subst (λ (s : Option SaveValue). IfSome s (IsSaveOf content)) is of
 
@@ -338,7 +338,7 @@ progress-under o save told is tells =
 
 -- no call of the desk
 pub nothing-said : {D : Type 0} (clock : D → ℕ) (might : D → ℕ → Images → List ℕ → Type 0) (desk : D)
-    (contents : ℕ → List ℕ) (may_leave : ℕ → List ℕ → Type 0) (said : List ℕ) (pair : PairValue) (content : BankContent) →
+    (contents : ℕ → List ℕ) (may_leave : ℕ → List ℕ → Type 0) (said : List ℕ) (pair : PairValue) (content : Content) →
     IsPairInStep contents may_leave pair content →
     ((images : Images) (bytes : List ℕ) → might desk (clock desk) images bytes → MayBeLeft may_leave images × (bytes ≡ said))
     → LeavesOnly clock might desk desk (LeavesContent said content)
@@ -350,7 +350,7 @@ nothing-said clock might desk contents may_leave said pair content step only_now
 
 -- one slice more, behind those before it
 pub slices-go : {D : Type 0} (clock : D → ℕ) (might : D → ℕ → Images → List ℕ → Type 0) (old mid new : D)
-    (said then_said : List ℕ) (content : BankContent) → then_said ≡ said →
+    (said then_said : List ℕ) (content : Content) → then_said ≡ said →
     LeavesOnly clock might old mid (LeavesContent said content) →
     LeavesOnly clock might mid new (LeavesContent then_said content) →
     LeavesOnly clock might old new (LeavesContent said content)

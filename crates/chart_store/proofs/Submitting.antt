@@ -15,7 +15,7 @@ use Rattle.chart_ports.specs.declared.images.Images.{Images}
 use Rattle.chart_ports.specs.Moments.{LeavesOnly, MayBeLeft, images_of}
 use Rattle.chart_ports.proofs.Moments.{started, weaker}
 use Rattle.command_codec.specs.Spelling.{spelling, Spells}
-use Rattle.bank_journal.specs.declared.content.BankContent.{BankContent}
+use Rattle.bank_journal.specs.Content.{Content}
 use Rattle.bank_journal.specs.declared.fault.AppendFault.{AppendFault}
 use Rattle.bank_journal.specs.declared.fault.AppendFault.TheVariants as appends
 use Rattle.bank_journal.specs.Bank.{IsBodyLength, frame_of, with_body}
@@ -270,7 +270,7 @@ leads-more first bodies state body command done leads spells e = record {
   accepted = accepted-more first leads.commands state command done leads.accepted e;
 }
 
-abbrev pub holds-more : (content : BankContent) (state : StateValue) (body : List ℕ) (command : Command) (done : Outcome) →
+abbrev pub holds-more : (content : Content) (state : StateValue) (body : List ℕ) (command : Command) (done : Outcome) →
     Holds content state → Spells body command → outcome state command ≡ Ok done →
     Holds (with_body content body) done.state
 holds-more content state body command done holds spells e = record {
@@ -290,7 +290,7 @@ framed-more frames bodies frame body framed is short = record {
       (All-from_recursion (λ (b : List ℕ). IsBodyLength (length b)) (body ∷ []) (short, tt));
 }
 
-pub save-of-more : (content : BankContent) (save : Option SaveValue) (frame body : List ℕ) →
+pub save-of-more : (content : Content) (save : Option SaveValue) (frame body : List ℕ) →
     IfSome save (IsSaveOf content) → frame ≡ frame_of body → IsBodyLength (length body) →
     IfSome (option_map (with_frame frame) save) (IsSaveOf (with_body content body))
 save-of-more content None frame body of is short = tt
@@ -320,7 +320,7 @@ says-stands images other state same stands = record {
 }
 
 -- and with one command more
-pub more-stands : (images other : Images) (content : BankContent) (state : StateValue) (command : Command) (done : Outcome)
+pub more-stands : (images other : Images) (content : Content) (state : StateValue) (command : Command) (done : Outcome)
     → content_named other ≡ Ok content → content_named images ≡ Ok (with_body content (spelling command))
     → StandFor other state → Spells (spelling command) command → outcome state command ≡ Ok done
     → StandFor images done.state
@@ -328,7 +328,7 @@ more-stands images other content state command done said says stands spells leav
     let same : content ≡ stands.content = ok_is (sym said ∙ stands.says) in
     record {
       content = with_body stands.content (spelling command);
-      says = says ∙ ap (λ (c : BankContent). Ok (with_body c (spelling command))) same;
+      says = says ∙ ap (λ (c : Content). Ok (with_body c (spelling command))) same;
       holds = holds-more stands.content state (spelling command) command done stands.holds spells leaves;
       reached = stands.reached;
     }

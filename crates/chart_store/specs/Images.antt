@@ -7,7 +7,7 @@ use Rattle.chart_model.specs.declared.command.Command.{Command}
 use Rattle.chart_ports.specs.declared.images.Images.{Images}
 use Rattle.command_codec.specs.Reading.{command_in}
 use Rattle.command_codec.specs.Spelling.{Spells}
-use Rattle.bank_journal.specs.declared.content.BankContent.{BankContent}
+use Rattle.bank_journal.specs.Content.{Content}
 use Rattle.bank_journal.specs.Bank.{gate_of}
 use Rattle.bank_pair.specs.Head.{content_named, current_of}
 use Rattle.chart_store.specs.declared.refusal.Refusal.{Refusal}
@@ -38,12 +38,12 @@ state_after_records state gate (body ∷ bodies) =
     or_fault gate (state_after_record state body) >>= λ next. state_after_records next (gate + (5 + length body)) bodies
 
 -- the place of the first record's gate
-abbrev pub first_gate : BankContent → ℕ
+abbrev pub first_gate : Content → ℕ
 first_gate content = 8 + length content.checkpoint
 
 -- what is held by the content of a bank: by its checkpoint, whose place is 8, and then after its records; or the first
 -- place where it is none
-unfoldable pub state_by : BankContent → Result StateValue ℕ
+unfoldable pub state_by : Content → Result StateValue ℕ
 state_by content = do
   first ← or_fault 8 (checkpoint_in content.checkpoint)
   state_after_records first (first_gate content) content.bodies
@@ -58,7 +58,7 @@ pub record Reading : Type 0 where
   pub used : ℕ
 
 -- what is read of the content of a bank
-abbrev pub reading_by : BankContent → Result Reading ℕ
+abbrev pub reading_by : Content → Result Reading ℕ
 reading_by content = do
   state ← state_by content
   Ok (record { state = state; used = gate_of content + 1 })
@@ -94,7 +94,7 @@ pub record Lead (first : StateValue) (bodies : List (List ℕ)) (last : StateVal
   pub accepted : AreAccepted first commands last
 
 -- the content of a bank holds a state: its checkpoint says one, from which its records lead there
-pub record Holds (content : BankContent) (state : StateValue) : Type 0 where
+pub record Holds (content : Content) (state : StateValue) : Type 0 where
   pub first : StateValue
   pub starts : checkpoint_in content.checkpoint ≡ Some first
   pub leads : Lead first content.bodies state
@@ -102,7 +102,7 @@ pub record Holds (content : BankContent) (state : StateValue) : Type 0 where
 -- The files stand for what is held: the bank that the head names holds it, and its checkpoint says what accepted commands
 -- left.
 pub record StandFor (images : Images) (state : StateValue) : Type 0 where
-  pub content : BankContent
+  pub content : Content
   pub says : content_named images ≡ Ok content
   pub holds : Holds content state
   pub reached : IsReached holds.first
@@ -128,6 +128,6 @@ abbrev pub most_steps_from : Option StateValue → List (List ℕ) → ℕ
 most_steps_from None bodies = 0
 most_steps_from (Some first) bodies = most_steps_by first bodies
 
-abbrev pub most_steps_in : Result BankContent ℕ → ℕ
+abbrev pub most_steps_in : Result Content ℕ → ℕ
 most_steps_in (Ok content) = most_steps_from (checkpoint_in content.checkpoint) content.bodies
 most_steps_in (Err place) = 0

@@ -3,7 +3,7 @@ use Rattle.std.specs.Prelude.{◌≡◌, ◌⊎◌, ℕ, ◌+◌, Bool, List, �
 use Rattle.chart_model.specs.State.{StateValue}
 use Rattle.chart_ports.specs.declared.images.Images.{Images}
 use Rattle.chart_ports.specs.Moments.{MayBeLeft, images_of}
-use Rattle.bank_journal.specs.declared.content.BankContent.{BankContent}
+use Rattle.bank_journal.specs.Content.{Content}
 use Rattle.bank_pair.specs.Handle.{value_of}
 use Rattle.bank_pair.specs.Pair.{AreFramed, IsPairInStep, PairValue}
 use Rattle.bank_pair.specs.Saving.{SaveValue, gate_of_save}
@@ -54,7 +54,7 @@ store_of store = record { state = state_of store; pair = pair_of store; count = 
 
 -- The save under way is of what the current bank holds: its checkpoint says what the first of the records there led to,
 -- and its frames are those of the other records.
-pub record IsSaveOf (content : BankContent) (save : SaveValue) : Type 0 where
+pub record IsSaveOf (content : Content) (save : SaveValue) : Type 0 where
   pub saved : StateValue
   pub starts : checkpoint_in save.checkpoint ≡ Some saved
   pub before : List (List ℕ)
@@ -68,7 +68,7 @@ pub record IsSaveOf (content : BankContent) (save : SaveValue) : Type 0 where
 -- A desk is in step with a store: it is in step with the pair, whose current bank holds what is held, and a save that is
 -- under way is of that.
 pub record IsKept (contents : ℕ → List ℕ) (may_leave : ℕ → List ℕ → Type 0) (store : Store) : Type 0 where
-  pub content : BankContent
+  pub content : Content
   pub pair : IsPairInStep contents may_leave (pair_of store) content
   pub holds : Holds content (state_of store)
   pub save : IfSome (save_of store) (IsSaveOf content)

@@ -3,7 +3,7 @@
 //! What the session says of a crash is made of these.
 
 ghost use Rattle.std.specs.Prelude.{◌≡◌, [], ℕ, Ok};
-ghost use Rattle.bank_journal.specs.declared.content.BankContent.{BankContent};
+ghost use Rattle.bank_journal.specs.Content.{Content};
 ghost use Rattle.bank_pair.specs.Head.{content_named};
 ghost use Rattle.chart_model.specs.State.{StateValue};
 ghost use Rattle.chart_ports.specs.Disk.{LeavesNoMore, SameFiles};
@@ -25,7 +25,7 @@ pub fn files_that_stand_are_read()
         (used : ℕ) × (read_of images ≡ Ok (record { state = state; used = used })) }
     ensures holds { (images : Images) (state : StateValue) (used : ℕ) →
         read_of images ≡ Ok (record { state = state; used = used }) →
-        (content : BankContent) × (content_named images ≡ Ok content) × Holds content state }
+        (content : Content) × (content_named images ≡ Ok content) × Holds content state }
     ensures empty { StandFor (record { head = []; bank1 = []; bank2 = [] }) nothing_held }
 {
     commands_are_spelled();

@@ -6,7 +6,7 @@
 ghost use Rattle.std.specs.Prelude.{◌≡◌, ◌≢◌, ◌↔◌, ◌+◌, ◌<◌, ◌≤◌, ℕ, true, false, None, Some, Err, IfErr};
 ghost use Rattle.std.specs.Prelude.{IfOk, IsTrue, OnErr, OnOk, length};
 ghost use Rattle.std.specs.Option.{ForSome};
-ghost use Rattle.bank_journal.specs.declared.content.BankContent.{BankContent as Content};
+ghost use Rattle.bank_journal.specs.Content.{Content};
 ghost use Rattle.bank_pair.specs.Handle.{value_of};
 ghost use Rattle.bank_pair.specs.Pair.{HasSliceLeft, IsPairInStep, LeavesContent, Saves};
 ghost use Rattle.bank_pair.specs.Saving.{SaveValue};

@@ -30,10 +30,10 @@ fn desk_of(alloc: Global, bank: &[u8], failing: &[u64]) -> Result<Untold, AllocE
 
 /// A content as a text: the checkpoint, and each body behind a bar.
 fn shown(alloc: Global, content: &BankContent) -> Result<Vec<u8>, AllocError> {
-    let mut text = content.checkpoint.as_slice().to_vec(alloc)?;
-    for body in content.bodies.as_slice() {
+    let mut text = content.checkpoint().to_vec(alloc)?;
+    for number in 0..content.body_count() {
         text.push(b'|')?;
-        text.extend_from_slice(body.as_slice())?;
+        text.extend_from_slice(content.body(number))?;
     }
     Ok(text)
 }

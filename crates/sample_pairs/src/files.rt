@@ -58,14 +58,14 @@ pub fn checkpoint_of(alloc: Global, count: usize) -> Result<Vec<u8>, AllocError>
 /// A content as a text: the length of the checkpoint, with a ? where it has other bytes than `checkpoint_of`, and each
 /// body behind a bar. The bodies have one byte.
 fn shown(alloc: Global, content: &BankContent) -> Result<String, AllocError> {
-    let checkpoint = content.checkpoint.as_slice();
+    let checkpoint = content.checkpoint();
     let mut text = format!(in alloc; "{}", checkpoint.len())?;
     if checkpoint_of(alloc, checkpoint.len())?.as_slice() != checkpoint {
         text.push('?')?;
     }
-    for body in content.bodies.as_slice() {
+    for number in 0..content.body_count() {
         text.push('|')?;
-        text.push(match body.as_slice() {
+        text.push(match content.body(number) {
             [byte] => char::from(*byte),
             _ => '?',
         })?;

@@ -1,4 +1,4 @@
-use Rattle.std.proofs.Common.{◌<◌, ◌≤◌, length, ap, ◌∙◌, arith}
+use Rattle.std.proofs.Common.{◌<◌, ◌≤◌, ℕ, List, length, ap, ◌∙◌, arith}
 use Rattle.bank_journal.proofs.InStep.{read_opened_in_step, short_content, still_settled}
 use Rattle.bank_journal.proofs.opening.open_bank.Goals as goal
 
@@ -9,10 +9,10 @@ returns-then-len-gt-LONGEST_EMPTY-clause-in_step g c = λ tells.
     let next = g.D.Desk.contents c.read_whole.new.desk file in
     let then_may = g.D.Desk.may_leave c.read_whole.new.desk file in
     let same = c.read_whole.ensures.files tells file in
-    let long : 9 < length c.deref.result.now = omega
-    (arith, c.if-len-gt-LONGEST_EMPTY.true, c.len.ensures, c.deref.ensures.len) in
-    read_opened_in_step old next c.deref.result.now then_may c.read_opened.result (c.deref.ensures.value
-    ∙ c.in_ok-bytes.ensures.bytes tells) long
+    let bytes : List ℕ = c.in_ok-bytes.bytes.items in
+    let long : 9 < length bytes = omega
+    (arith, c.if-len-gt-LONGEST_EMPTY.true, c.len.ensures, c.in_ok-bytes.bytes.ok) in
+    read_opened_in_step old next bytes then_may c.read_opened.result (c.in_ok-bytes.ensures.bytes tells) long
     c.read_opened.ensures.content c.read_opened.ensures.gate same
     (still_settled (g.D.Desk.may_leave c.args.desk.now file) then_may old next (c.requires.settled tells)
     (c.read_whole.ensures.crash tells file) same)
