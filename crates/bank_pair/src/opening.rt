@@ -74,7 +74,8 @@ fn open_head<D: Desk>(desk: &mut D) -> Result<u8, Failed>
     read_head(desk)
 }
 
-/// Opens the bank that the head names, which is read once. No save is under way then; the other bank isn't read.
+/// Opens the bank that the head names, which is read once, into one buffer. No save is under way then; the other bank
+/// isn't read.
 ///
 /// A bank of at most nine bytes is the empty one, whatever they are, and is written out.
 ///
