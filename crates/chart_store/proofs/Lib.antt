@@ -16,6 +16,7 @@ mod Preparing
 mod Checkpoints
 mod Naming
 mod Reading
+mod Replaying
 mod Submitting
 mod Saved
 mod Staying

@@ -10,7 +10,7 @@ ghost use Rattle.chart_store.specs.Loaded.{HELD_LIMIT};
 
 use crate::live::LiveCells;
 use chart_closure::{check, first_is_least};
-use chart_model::{Cell, HoldingMap, Octets};
+use chart_model::{Cell, HoldingMap};
 use chart_pages::{decode_store, states_are_spelled};
 use std::alloc::{AllocError, Global};
 
@@ -39,17 +39,17 @@ fn have_closed_charts(cells: &HoldingMap) -> bool
 /// The cells that a checkpoint says are held, or none where it says no state.
 pub(crate) fn read_checkpoint(
     alloc: Global,
-    checkpoint: &Octets,
+    checkpoint: &[u8],
 ) -> Result<Option<LiveCells>, AllocError>
     requires { length checkpoint.now ≤ HELD_LIMIT }
     ensures { IfOk result (λ found. found ≡ checkpoint_in checkpoint.now) }
 {
     states_are_spelled();
     first_is_least();
-    if checkpoint.as_slice().is_empty() {
+    if checkpoint.is_empty() {
         return Ok(Some(LiveCells::new(alloc)));
     }
-    let Some(state) = decode_store(alloc, checkpoint.as_slice())? else {
+    let Some(state) = decode_store(alloc, checkpoint)? else {
         return Ok(None);
     };
     if !have_closed_charts(&state.cells) {

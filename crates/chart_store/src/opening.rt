@@ -32,7 +32,8 @@ use std::sync::ledger::Ledger;
 /// The place of a bank's checkpoint: the layout and the length stand before it.
 const CHECKPOINT: u64 = 8;
 
-/// What the content of a bank holds: its checkpoint, and then the commands of its records one after the other.
+/// What the content of a bank holds: its checkpoint, and then the commands of its records one after the other. The bytes
+/// of the bank are let go behind the last of them.
 ///
 /// # Errors
 ///
@@ -41,22 +42,22 @@ const CHECKPOINT: u64 = 8;
 fn hold<C: Ledger>(
     alloc: Global,
     bank: u8,
-    content: &BankContent,
+    content: BankContent,
     steps: &mut Steps<C>,
 ) -> Result<LiveCells, OpenFault>
-    requires { gate_of content.now < 9223372036854775808 }
-    ensures state { IfOk result (λ live. state_by content.now ≡ Ok live) }
+    requires { gate_of content < 9223372036854775808 }
+    ensures state { IfOk result (λ live. state_by content ≡ Ok live) }
     ensures foreign { IfErr result (ForeignHas (λ place.
-        (place.bank ≡ bank) × (state_by content.now ≡ Err place.at))) }
+        (place.bank ≡ bank) × (state_by content ≡ Err place.at))) }
     ensures no_desk { ¬ IsErrOf result DeskFault }
     ensures at_most { steps.new
-        ≤ steps.old + most_steps_from (checkpoint_in content.now.checkpoint) content.now.bodies }
+        ≤ steps.old + most_steps_from (checkpoint_in content.checkpoint) content.bodies }
 {
-    let Some(first) = read_checkpoint(alloc, &content.checkpoint)? else {
+    let Some(first) = read_checkpoint(alloc, content.checkpoint())? else {
         return Err(OpenFault::Foreign(bank, CHECKPOINT));
     };
-    let gate = CHECKPOINT + content.checkpoint.as_slice().len() as u64;
-    replay(alloc, first, bank, gate, &content.bodies, steps)
+    let gate = CHECKPOINT + content.checkpoint().len() as u64;
+    replay(alloc, first, bank, gate, &content, steps)
 }
 
 /// Opens the store in a desk's files: what is held is what the checkpoint of the bank that the head names says, with its
@@ -109,6 +110,6 @@ pub fn open_store<D: Desk, C: Ledger>(
 {
     commands_are_spelled();
     let (pair, content) = open_pair(alloc, desk)?;
-    let live = hold(alloc, pair.file(), &content, steps)?;
+    let live = hold(alloc, pair.file(), content, steps)?;
     Ok(Store::opened(live, pair))
 }

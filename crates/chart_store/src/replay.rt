@@ -15,7 +15,7 @@ use crate::fault::TakeFault;
 use crate::live::LiveCells;
 use crate::next::Naming;
 use crate::open_fault::OpenFault;
-use bank_journal::BodyList;
+use bank_journal::BankContent;
 use chart_ports::Steps;
 use command_codec::decode_command;
 use std::alloc::Global;
@@ -62,18 +62,18 @@ pub(crate) fn replay<C: Ledger>(
     mut live: LiveCells,
     bank: u8,
     mut gate: u64,
-    bodies: &BodyList,
+    content: &BankContent,
     steps: &mut Steps<C>,
 ) -> Result<LiveCells, OpenFault>
-    requires { gate + sum_by (λ body. 5 + length body) bodies.now < 9223372036854775808 }
-    ensures state { IfOk result (λ after. state_after_records live gate bodies.now ≡ Ok after) }
+    requires { gate + sum_by (λ body. 5 + length body) content.now.bodies < 9223372036854775808 }
+    ensures state { IfOk result (λ after. state_after_records live gate content.now.bodies ≡ Ok after) }
     ensures foreign { IfErr result (ForeignHas (λ place.
-        (place.bank ≡ bank) × (state_after_records live gate bodies.now ≡ Err place.at))) }
+        (place.bank ≡ bank) × (state_after_records live gate content.now.bodies ≡ Err place.at))) }
     ensures no_desk { ¬ IsErrOf result DeskFault }
-    ensures at_most { steps.new ≤ steps.old + most_steps_by live bodies.now }
+    ensures at_most { steps.new ≤ steps.old + most_steps_by live content.now.bodies }
 {
-    for body in bodies.as_slice() {
-        let body = body.as_slice();
+    for number in 0..content.body_count() {
+        let body = content.body(number);
         replay_one(alloc, &mut live, bank, gate, body, steps)?;
         gate += RECORD + body.len() as u64;
     }

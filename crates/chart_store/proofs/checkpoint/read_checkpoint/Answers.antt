@@ -1,7 +1,6 @@
 -- What a checkpoint says: nothing held, a state with closed charts, or none.
 use Rattle.std.proofs.Common.{◌≡◌, ℕ, List, length, Some, sym, ◌∙◌, ap, arith, rules}
 use Rattle.chart_model.specs.State.{StateValue}
-use Rattle.chart_pages.specs.Reading.{state_in}
 use Rattle.chart_store.specs.Checkpoint.{have_closed_charts}
 use Rattle.chart_store.proofs.Checkpoints.{are-closed, closed-said, empty-said, live-least, none-said, open-said}
 use Rattle.chart_store.proofs.checkpoint.read_checkpoint.Goals as goal
@@ -15,12 +14,12 @@ pub returns-in_default : goal.returns-in_default
 returns-in_default c =
     let some : ¬ (length c.args.checkpoint.now ≡ 0) = search rules in
     sym (none-said c.args.checkpoint.now some
-    (ap state_in (sym c.as_slice-2.ensures) ∙ sym c.in_ok-state.ensures.function ∙ c.in_default.is))
+    (sym c.in_ok-state.ensures.function ∙ c.in_default.is))
 
 pub returns-then-not-have_closed_charts : goal.returns-then-not-have_closed_charts
 returns-then-not-have_closed_charts c =
     sym (open-said c.args.checkpoint.now c.in-Some.state
-    (ap state_in (sym c.as_slice-2.ensures) ∙ sym c.in_ok-state.ensures.function ∙ c.in-Some.is)
+    (sym c.in_ok-state.ensures.function ∙ c.in-Some.is)
     (ap (λ (state : StateValue). have_closed_charts state.cells) (sym c.state.view_is)
     ∙ sym c.have_closed_charts.ensures ∙ c.if-not-have_closed_charts.true))
 
@@ -32,7 +31,7 @@ of_state-requires-clause-closed c =
 
 pub of_state-requires-clause-within : goal.of_state-requires-clause-within
 of_state-requires-clause-within c =
-    let spelled = ap state_in (sym c.as_slice-2.ensures) ∙ sym c.in_ok-state.ensures.function ∙ c.in-Some.is in
+    let spelled = sym c.in_ok-state.ensures.function ∙ c.in-Some.is in
     let spells = (c.states_are_spelled.ensures c.args.checkpoint.now c.in-Some.state).0 spelled in
     omega (arith, live-least c.in-Some.state, ap (λ (b : List ℕ). length b) spells.spelled, c.requires)
 
@@ -40,6 +39,6 @@ pub returns : goal.returns
 returns c =
     ap Some c.of_state.ensures
     ∙ sym (closed-said c.args.checkpoint.now c.in-Some.state
-    (ap state_in (sym c.as_slice-2.ensures) ∙ sym c.in_ok-state.ensures.function ∙ c.in-Some.is)
+    (sym c.in_ok-state.ensures.function ∙ c.in-Some.is)
     (ap (λ (state : StateValue). have_closed_charts state.cells) (sym c.state.view_is)
     ∙ sym c.have_closed_charts.ensures ∙ c.if-not-have_closed_charts.false))
