@@ -76,7 +76,7 @@ impl BankContent {
         &self.bytes[span.from..span.to]
     }
 
-    /// How many records stand behind the checkpoint.
+    /// How many records stand behind the checkpoint. It takes no memory.
     pub fn body_count(&self) -> usize
         ensures { result ≡ length self.now.bodies }
     {
