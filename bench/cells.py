@@ -56,7 +56,7 @@ def name(rcnm, rcid):
 SOUNDINGS = 5_000
 
 
-def area_cell(count, wrecks, soundings):
+def area_cell(count, wrecks, soundings, edition=1):
     """A base cell of so many depth areas in a row: for each a connected node, a closed edge from that node to
     itself with three inner points, and a feature, so three data records an area beside the first two. With so many
     wrecks, each of no known depth at the bottom of an area, and so many soundings in features of 5,000 each."""
@@ -67,7 +67,7 @@ def area_cell(count, wrecks, soundings):
         records.append(record(b"D", ((b"0001", number + FIELD),) + fields))
 
     key = b"MK%06d" % count
-    add((b"DSID", struct.pack("<BIBB", 10, 1, 1, 5) + key + b".000" + UNIT + b"1" + UNIT + b"0" + UNIT
+    add((b"DSID", struct.pack("<BIBB", 10, 1, 1, 5) + key + b".000" + UNIT + b"%d" % edition + UNIT + b"0" + UNIT
          + b"20240101" * 2 + b"03.1" + b"\x01" + UNIT + b"2.0" + UNIT + struct.pack("<BH", 1, 550) + UNIT + FIELD),
         (b"DSSI", struct.pack("<BBB8I", 2, 1, 0, 0, 0, count, 0, 0, count, count, 0) + FIELD))
     add((b"DSPM", struct.pack("<BIBBBIBBBBII", 20, 1, 2, 1, 1, 10000, 1, 1, 1, 1, 10_000_000, 10) + UNIT + FIELD))
