@@ -1,0 +1,3 @@
+mod painting;
+mod random;
+mod shared;

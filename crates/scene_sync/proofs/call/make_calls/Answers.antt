@@ -1,0 +1,18 @@
+use Rattle.std.proofs.Common.{length, arith}
+use Rattle.scene_sync.specs.Calls.{call_in}
+use Rattle.scene_sync.proofs.Counts.{counts-on}
+use Rattle.scene_sync.proofs.Paints.{made-on, one-further}
+use Rattle.scene_sync.proofs.call.make_calls.Goals as goal
+
+pub returns-in_err-make_call-clause-at_most : goal.returns-in_err-make_call-clause-at_most
+returns-in_err-make_call-clause-at_most g c =
+    counts-on c.loop-call.call-index 1 (length c.args.next.now) _ _ _ c.loop-call.invariant.counts (omega arith)
+    c.make_call.ensures.at_most
+
+pub loop-call-preserved : goal.loop-call-preserved
+loop-call-preserved g c =
+    made-on _ _ (call_in c.args.target.now c.call-item.result) c.loop-call.call-index _ _ _ _ _ _ _ _ _ _ _ _
+    c.loop-call.invariant
+    (one-further (call_in c.args.target.now) c.args.next.now c.loop-call.call-index c.call-item.result c.loop-call-test.true
+    c.call-item.is)
+    c.in_ok-make_call.ensures.shown c.make_call.ensures.tells c.in_ok-make_call.ensures.counted c.make_call.ensures.later

@@ -1,0 +1,5 @@
+pub mod Fault
+pub mod Same
+pub mod Walk
+pub mod Calls
+pub mod Scene

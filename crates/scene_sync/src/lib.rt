@@ -1,0 +1,20 @@
+//! A panel brought up to date by exactly the differences.
+//!
+//! A display that paints everything flickers, and one that paints too little lies. So a scene remembers what its panel
+//! shows, and a refresh makes one call for each block that differs.
+#![tactic(auto)]
+
+mod call;
+mod change;
+mod fault;
+mod progress;
+mod refresh;
+mod same;
+mod scene;
+mod walk;
+
+pub use change::calls_are_differences;
+pub use fault::PaintFault;
+pub use progress::Progress;
+pub use same::blocks_are_compared;
+pub use scene::Scene;
