@@ -3,6 +3,7 @@ use Rattle.std.specs.Prelude.{ℕ, ◌+◌, ◌≡◌, nat_eq, true, if◌then�
 use Rattle.std.specs.Prelude.{Option, Some, None, IfSome}
 use Rattle.panel_port.specs.Panel.{Scene as Blocks}
 use Rattle.scene_sync.specs.Calls.{PanelCall, after_calls, call_in}
+use Rattle.scene_sync.specs.declared.progress.Progress.{Progress}
 use Rattle.scene_sync.specs.declared.refresh.Refresh.{Refresh}
 use Rattle.scene_sync.specs.declared.scene.Scene.{Scene}
 use Rattle.scene_sync.specs.declared.scene.State.{State}
@@ -41,6 +42,10 @@ shown_of scene = shown_in scene.state
 -- the refresh that is under way, where one is
 abbrev pub refresh_of : Scene → Option UnderWay
 refresh_of scene = refresh_in scene.state
+
+-- how far it has come
+abbrev pub progress_of : UnderWay → Progress
+progress_of refresh = record { done = refresh.made; calls = length refresh.calls }
 
 -- a refresh is finished when all its calls are made
 abbrev pub unless_finished : UnderWay → Option UnderWay

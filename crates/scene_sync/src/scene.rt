@@ -5,10 +5,11 @@
 
 ghost use Rattle.std.specs.Prelude.{◌≡◌, ◌≤◌, None, Some, true, length, is_none, is_some};
 ghost use Rattle.std.specs.Prelude.{IfOk, IfSome, IsErrOf, IsSome, IsTrue, OnErr, OnOk};
+ghost use Rattle.std.specs.Option.{option_map};
 ghost use Rattle.chart_ports.specs.Count.{Rose};
 ghost use Rattle.scene_sync.specs.Calls.{CountsUpTo, after_calls, calls_for, more_calls};
 ghost use Rattle.scene_sync.specs.Scene.{Agrees, advanced, begun, made_after, next_calls, refresh_of, shown_of};
-ghost use Rattle.scene_sync.specs.Scene.{refresh_in, shown_by, shown_in, under_way_in, unless_finished};
+ghost use Rattle.scene_sync.specs.Scene.{progress_of, refresh_in, shown_by, shown_in, under_way_in, unless_finished};
 
 use crate::fault::PaintFault;
 use crate::progress::Progress;
@@ -71,6 +72,16 @@ impl Scene {
         ensures { result ≡ is_some (refresh_of self.now) }
     {
         matches!(&self.state, State::Refreshing(_))
+    }
+
+    /// How far the refresh that is under way has come, where one is. It takes no memory.
+    pub fn progress(&self) -> Option<Progress>
+        ensures { result ≡ option_map progress_of (refresh_of self.now) }
+    {
+        match &self.state {
+            State::Refreshing(refresh) => Some(refresh.progress()),
+            _ => None,
+        }
     }
 
     /// Begins a refresh, which is to make the panel show these blocks, and answers the number of its calls. Without a

@@ -1,0 +1,4 @@
+pub mod Numbered
+pub mod Scene
+pub mod Painting
+pub mod InStep
