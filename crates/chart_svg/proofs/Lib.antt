@@ -1,0 +1,4 @@
+pub mod Arguments
+pub mod Pens
+pub mod Quotients
+pub mod Quiet

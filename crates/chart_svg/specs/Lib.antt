@@ -1,3 +1,4 @@
+pub mod Extent
 pub mod View
 pub mod Look
 pub mod Instruction

@@ -14,7 +14,6 @@ use text_lines::cut_part;
 use text_scan::read_number;
 
 /// What stands between an opening and a closing parenthesis, where the text is these three.
-#[tactic(auto, unfolding(crate::specs::Instruction::argument_of))]
 fn argument<'a>(text: &'a [u8], opening: &[u8]) -> Option<&'a [u8]>
     ensures { option_copied result ≡ argument_of opening.now text.now }
 {

@@ -169,9 +169,11 @@ fn centre_of(ring: &[Pt]) -> Option<Pt>
 fn points_of(alloc: Global, coords: &[Coord]) -> Result<Line, AllocError>
     ensures { IfOk result (λ points. points ≡ map point_of coords.now) }
 {
-    let mut points = Vec::with_capacity(alloc, coords.len())?;
-    points.extend(coords.iter().map(point))?;
-    Ok(Line::from_vec(points))
+    let mut points = Line::new(alloc);
+    for coord in coords {
+        points.push(point(coord))?;
+    }
+    Ok(points)
 }
 
 /// The places of symbols on a shape: all points of a point feature; of a line the middle of its first edge, and of an

@@ -6,7 +6,7 @@
 
 ghost use Rattle.std.specs.Prelude.{◌≡◌, ◌*◌, ◌≤◌, ◌^◌, ◌*ℤ◌, ◌<ℤ◌, pos, unsigned_abs, int_div};
 ghost use Rattle.std.specs.Int.{IsInRange};
-ghost use Rattle.chart_svg.specs.View.{IsView, cosine_of, cosine_between};
+ghost use Rattle.chart_svg.specs.Extent.{IsView, cosine_of, cosine_between};
 
 use plane_geometry::Pt;
 
@@ -87,8 +87,9 @@ fn shortened(width: i64, cosine: u16) -> i64
 }
 
 impl View {
-    ghost use Rattle.std.specs.Prelude.{◌≡◌, ◌↔◌, ◌≤◌, ◌^◌, unsigned_abs, IsSome, IfSome};
-    ghost use Rattle.chart_svg.specs.View.{IsView, across, down, spot_at, spot_of, height_of};
+    ghost use Rattle.std.specs.Prelude.{◌≡◌, ◌↔◌, ◌+◌, ◌≤◌, ◌^◌, unsigned_abs, IsSome, IfSome};
+    ghost use Rattle.chart_svg.specs.Extent.{IsView};
+    ghost use Rattle.chart_svg.specs.View.{across, down, spot_at, spot_of, height_of};
 
     /// A view from one longitude to another and from one latitude to another, and so many units wide; none where it has
     /// no width or no height.
@@ -113,25 +114,37 @@ impl View {
     }
 
     /// How far a longitude is to the east of the west border, in units.
+    #[tactic(auto, unfolding(crate::specs::View::across))]
     fn across(&self, x: i64) -> i64
         requires { unsigned_abs x ≤ 2 ^ 32 + 2 ^ 31 }
         ensures { result ≡ across self.now x }
     {
-        let west = i64::from(self.west);
-        scaled(x - west, u32::from(self.width), i64::from(self.east) - west)
+        let View {
+            west,
+            east,
+            width,
+            ..
+        } = *self;
+        let west = i64::from(west);
+        scaled(x - west, u32::from(width), i64::from(east) - west)
     }
 
     /// How far a latitude is below the north border, in units.
+    #[tactic(auto, unfolding(crate::specs::View::down))]
     fn down(&self, y: i64) -> i64
         requires { unsigned_abs y ≤ 2 ^ 32 + 2 ^ 31 }
         ensures { result ≡ down self.now y }
     {
-        let width = i64::from(self.east) - i64::from(self.west);
-        scaled(
-            i64::from(self.north) - y,
-            u32::from(self.width) * 10_000,
-            shortened(width, self.cosine),
-        )
+        let View {
+            west,
+            east,
+            north,
+            width,
+            cosine,
+            ..
+        } = *self;
+        let breadth = shortened(i64::from(east) - i64::from(west), cosine);
+        scaled(i64::from(north) - y, u32::from(width) * 10_000, breadth)
     }
 
     /// Where a longitude and a latitude stand in the picture.
