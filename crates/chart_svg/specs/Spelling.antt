@@ -1,7 +1,6 @@
 -- How an element is spelled in SVG 1.1.
 use Rattle.std.specs.Prelude.{ℕ, pos, List, [], ◌∷◌, ◌++◌, codes}
 use Rattle.text_scan.specs.Written.{decimal_of}
-use Rattle.route_check.specs.declared.danger.Danger.{Danger}
 use Rattle.chart_svg.specs.declared.element.Element.{Element}
 use Rattle.chart_svg.specs.declared.element.Origin.{Origin}
 use Rattle.chart_svg.specs.declared.element.Origin.TheVariants.{FromItem, FromLeg, FromDanger}
@@ -21,19 +20,19 @@ abbrev pub number : ℕ → List ℕ
 number n = decimal_of (pos n)
 
 -- an attribute: how it begins, its value and a quotation mark
-abbrev pub attribute : List ℕ → List ℕ → List ℕ
+unfoldable pub attribute : List ℕ → List ℕ → List ℕ
 attribute opening value = opening ++ value ++ 34 ∷ []
 
 -- ---- where it comes from
 
-abbrev pub row_text : Danger → List ℕ
-row_text danger =
-    attribute (codes " data-leg=\"") (number danger.leg)
-    ++ attribute (codes " data-cell=\"") (escaped danger.key)
-    ++ attribute (codes " data-feature=\"") (number danger.rcid)
-    ++ attribute (codes " data-place=\"") (number danger.place)
+unfoldable pub row_text : ℕ → List ℕ → ℕ → ℕ → List ℕ
+row_text leg key rcid place =
+    attribute (codes " data-leg=\"") (number leg)
+    ++ attribute (codes " data-cell=\"") (escaped key)
+    ++ attribute (codes " data-feature=\"") (number rcid)
+    ++ attribute (codes " data-place=\"") (number place)
 
-abbrev pub source_text : List ℕ → ℕ → List ℕ → List ℕ
+unfoldable pub source_text : List ℕ → ℕ → List ℕ → List ℕ
 source_text key rcid text =
     attribute (codes " data-cell=\"") (escaped key)
     ++ attribute (codes " data-feature=\"") (number rcid)
@@ -42,11 +41,11 @@ source_text key rcid text =
 abbrev pub origin_text : Origin → List ℕ
 origin_text (FromItem key rcid text) = source_text key rcid text
 origin_text (FromLeg leg) = attribute (codes " data-leg=\"") (number leg)
-origin_text (FromDanger danger) = row_text danger
+origin_text (FromDanger danger) = row_text danger.leg danger.key danger.rcid danger.place
 
 -- ---- what is drawn
 
-abbrev pub colour_text : Colour → List ℕ
+unfoldable pub colour_text : Colour → List ℕ
 colour_text colour =
     codes "rgb(" ++ number colour.red ++ 44 ∷ number colour.green ++ 44 ∷ number colour.blue ++ codes ")"
 
@@ -59,10 +58,10 @@ dash_text Solid = []
 dash_text Dashed = codes " stroke-dasharray=\"6,4\""
 dash_text Dotted = codes " stroke-dasharray=\"1,3\""
 
-abbrev pub stroke_text : Colour → List ℕ
+unfoldable pub stroke_text : Colour → List ℕ
 stroke_text colour = attribute (codes " stroke=\"") (colour_text colour)
 
-abbrev pub pen_text : Pen → List ℕ
+unfoldable pub pen_text : Pen → List ℕ
 pen_text pen =
     stroke_text pen.colour ++ attribute (codes " stroke-width=\"") (number pen.width) ++ dash_text pen.dash
 
@@ -71,7 +70,7 @@ abbrev pub box_path : List ℕ
 box_path = codes "m-3,-3l6,0l0,6l-6,0z"
 
 -- all rings of an area are one path by the even-odd rule
-abbrev pub figure_text : Figure → List ℕ
+unfoldable pub figure_text : Figure → List ℕ
 figure_text (Area rings fill) =
     attribute (codes " d=\"") (outlines_text (codes "Z") rings)
     ++ attribute (codes " fill-rule=\"evenodd\" fill=\"") (fill_text fill)
@@ -82,7 +81,7 @@ figure_text (Boxes spots) = attribute (codes " d=\"") (marks_text (escaped box_p
 
 -- ---- its title
 
-abbrev pub title_text : List ℕ → List ℕ
+unfoldable pub title_text : List ℕ → List ℕ
 title_text text = codes "><title>" ++ escaped text ++ codes "</title></path>"
 
 -- a box has the instruction as its title
@@ -95,7 +94,7 @@ end_text (FromLeg leg) figure = codes "/>"
 end_text (FromDanger danger) figure = codes "/>"
 
 -- an element on a line of its own
-abbrev pub element_text : Element → List ℕ
+unfoldable pub element_text : Element → List ℕ
 element_text element =
     codes "<path" ++ origin_text element.origin ++ figure_text element.figure
     ++ end_text element.origin element.figure ++ 10 ∷ []

@@ -32,6 +32,7 @@ fn push_preface(out: &mut Octets) -> Result<(), AllocError>
 }
 
 /// Adds the head of a document.
+#[tactic(auto, unfolding(crate::specs::Document::head_text))]
 fn push_head(alloc: Global, out: &mut Octets, view: &View) -> Result<(), AllocError>
     ensures { OnOk result (out.new ≡ out.old ++ head_text view.now) }
 {

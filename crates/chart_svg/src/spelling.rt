@@ -16,8 +16,7 @@ use crate::figure::{Dash, Figure, Fill, Pen, SpotList};
 use crate::look::Colour;
 use crate::outline::{push_marks, push_outlines};
 use crate::view::Spot;
-use chart_model::{Key, Octets};
-use route_check::Danger;
+use chart_model::Octets;
 use std::alloc::{AllocError, Global};
 use text_scan::write_number;
 
@@ -25,6 +24,7 @@ use text_scan::write_number;
 const BOX_PATH: &[u8] = b"m-3,-3l6,0l0,6l-6,0z";
 
 /// Adds an attribute with a number.
+#[tactic(auto, unfolding(crate::specs::Spelling::attribute))]
 fn push_number(alloc: Global, out: &mut Octets, opening: &[u8], n: u64) -> Result<(), AllocError>
     ensures { OnOk result (out.new ≡ out.old ++ attribute opening.now (number n)) }
 {
@@ -34,6 +34,7 @@ fn push_number(alloc: Global, out: &mut Octets, opening: &[u8], n: u64) -> Resul
 }
 
 /// Adds an attribute with a text.
+#[tactic(auto, unfolding(crate::specs::Spelling::attribute))]
 fn push_text(alloc: Global, out: &mut Octets, opening: &[u8], text: &[u8]) -> Result<(), AllocError>
     ensures { OnOk result (out.new ≡ out.old ++ attribute opening.now (escaped text.now)) }
 {
@@ -46,25 +47,32 @@ fn push_text(alloc: Global, out: &mut Octets, opening: &[u8], text: &[u8]) -> Re
 fn push_source(
     alloc: Global,
     out: &mut Octets,
-    key: &Key,
-    rcid: u32,
-    text: &Octets,
+    key: &[u8],
+    rcid: u64,
+    text: &[u8],
 ) -> Result<(), AllocError>
     ensures { OnOk result (out.new ≡ out.old ++ source_text key.now rcid text.now) }
 {
-    push_text(alloc, out, b" data-cell=\"", key.as_slice())?;
-    push_number(alloc, out, b" data-feature=\"", u64::from(rcid))?;
-    push_text(alloc, out, b" data-instruction=\"", text.as_slice())
+    push_text(alloc, out, b" data-cell=\"", key)?;
+    push_number(alloc, out, b" data-feature=\"", rcid)?;
+    push_text(alloc, out, b" data-instruction=\"", text)
 }
 
 /// Adds where the element of a danger comes from.
-fn push_row(alloc: Global, out: &mut Octets, danger: &Danger) -> Result<(), AllocError>
-    ensures { OnOk result (out.new ≡ out.old ++ row_text danger.now) }
+fn push_row(
+    alloc: Global,
+    out: &mut Octets,
+    leg: u64,
+    key: &[u8],
+    rcid: u64,
+    place: u64,
+) -> Result<(), AllocError>
+    ensures { OnOk result (out.new ≡ out.old ++ row_text leg key.now rcid place) }
 {
-    push_number(alloc, out, b" data-leg=\"", u64::from(danger.leg))?;
-    push_text(alloc, out, b" data-cell=\"", danger.key.as_slice())?;
-    push_number(alloc, out, b" data-feature=\"", u64::from(danger.rcid))?;
-    push_number(alloc, out, b" data-place=\"", danger.place)
+    push_number(alloc, out, b" data-leg=\"", leg)?;
+    push_text(alloc, out, b" data-cell=\"", key)?;
+    push_number(alloc, out, b" data-feature=\"", rcid)?;
+    push_number(alloc, out, b" data-place=\"", place)
 }
 
 /// Adds where an element comes from.
@@ -72,13 +80,27 @@ fn push_origin(alloc: Global, out: &mut Octets, origin: &Origin) -> Result<(), A
     ensures { OnOk result (out.new ≡ out.old ++ origin_text origin.now) }
 {
     match origin {
-        Origin::FromItem(key, rcid, text) => push_source(alloc, out, key, *rcid, text),
+        Origin::FromItem(key, rcid, text) => push_source(
+            alloc,
+            out,
+            key.as_slice(),
+            u64::from(*rcid),
+            text.as_slice(),
+        ),
         Origin::FromLeg(leg) => push_number(alloc, out, b" data-leg=\"", u64::from(*leg)),
-        Origin::FromDanger(danger) => push_row(alloc, out, danger),
+        Origin::FromDanger(danger) => push_row(
+            alloc,
+            out,
+            u64::from(danger.leg),
+            danger.key.as_slice(),
+            u64::from(danger.rcid),
+            danger.place,
+        ),
     }
 }
 
 /// Adds a colour.
+#[tactic(auto, unfolding(crate::specs::Spelling::colour_text))]
 fn push_colour(alloc: Global, out: &mut Octets, colour: Colour) -> Result<(), AllocError>
     ensures { OnOk result (out.new ≡ out.old ++ colour_text colour) }
 {
@@ -113,6 +135,7 @@ fn dash_text(dash: Dash) -> &'static [u8]
 }
 
 /// Adds the colour that a line is drawn in.
+#[tactic(auto, unfolding(crate::specs::Spelling::stroke_text, crate::specs::Spelling::attribute))]
 fn push_stroke(alloc: Global, out: &mut Octets, colour: Colour) -> Result<(), AllocError>
     ensures { OnOk result (out.new ≡ out.old ++ stroke_text colour) }
 {
@@ -131,6 +154,7 @@ fn push_pen(alloc: Global, out: &mut Octets, pen: Pen) -> Result<(), AllocError>
 }
 
 /// Adds where lines go.
+#[tactic(auto, unfolding(crate::specs::Spelling::attribute))]
 fn push_lines(
     alloc: Global,
     out: &mut Octets,
@@ -146,6 +170,7 @@ fn push_lines(
 }
 
 /// Adds where marks go.
+#[tactic(auto, unfolding(crate::specs::Spelling::attribute))]
 fn push_places(
     alloc: Global,
     out: &mut Octets,
@@ -161,6 +186,7 @@ fn push_places(
 }
 
 /// Adds an area within rings.
+#[tactic(auto, unfolding(crate::specs::Spelling::attribute))]
 fn push_area(
     alloc: Global,
     out: &mut Octets,
@@ -177,6 +203,7 @@ fn push_area(
 }
 
 /// Adds what is drawn.
+#[tactic(auto, unfolding(crate::specs::Spelling::figure_text))]
 fn push_figure(alloc: Global, out: &mut Octets, figure: &Figure) -> Result<(), AllocError>
     ensures { OnOk result (out.new ≡ out.old ++ figure_text figure.now) }
 {
@@ -222,6 +249,7 @@ fn push_end(
 }
 
 /// Adds an element, on a line of its own.
+#[tactic(auto, unfolding(crate::specs::Spelling::element_text))]
 pub(crate) fn push_element(
     alloc: Global,
     out: &mut Octets,
