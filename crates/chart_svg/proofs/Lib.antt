@@ -1,3 +1,5 @@
+pub mod Counting
+pub mod LegLines
 pub mod Arguments
 pub mod Pens
 pub mod Quotients

@@ -9,12 +9,14 @@
 #![tactic(auto)]
 
 mod chart;
+mod dangers;
 mod document;
 mod element;
 mod escape;
 mod figure;
 mod instruction;
 mod laws;
+mod legs;
 mod look;
 mod outline;
 mod places;

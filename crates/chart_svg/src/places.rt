@@ -40,7 +40,7 @@ pub(crate) fn shape_at(alloc: Global, cell: &Cell, rcid: u32) -> Result<Option<S
 }
 
 /// A value as a list of it alone.
-fn alone<T: Drop>(alloc: Global, value: Option<T>) -> Result<Sequence<T>, AllocError>
+pub(crate) fn alone<T: Drop>(alloc: Global, value: Option<T>) -> Result<Sequence<T>, AllocError>
     ensures { IfOk result (λ list. list ≡ alone value) }
 {
     let mut list = Sequence::new(alloc);

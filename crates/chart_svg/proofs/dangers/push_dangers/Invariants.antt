@@ -1,6 +1,6 @@
 use Rattle.std.proofs.Common.{◌≡◌, ◌++◌, take, map}
 use Rattle.chart_svg.specs.Voyage.{danger_element}
-use Rattle.chart_svg.proofs.voyage.push_dangers.Given as goal
+use Rattle.chart_svg.proofs.dangers.push_dangers.Given as goal
 
 abbrev pub invariant-loop-danger : goal.invariant-loop-danger
 invariant-loop-danger l =

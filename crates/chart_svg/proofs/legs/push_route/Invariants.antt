@@ -2,7 +2,7 @@ use Rattle.std.proofs.Common.{◌≡◌, ◌++◌, take, map}
 use Rattle.std.specs.List.{enumerate_from}
 use Rattle.route_check.specs.Route.{legs_of}
 use Rattle.chart_svg.specs.Voyage.{leg_element}
-use Rattle.chart_svg.proofs.voyage.push_route.Given as goal
+use Rattle.chart_svg.proofs.legs.push_route.Given as goal
 
 abbrev pub invariant-loop-before : goal.invariant-loop-before
 invariant-loop-before l =
