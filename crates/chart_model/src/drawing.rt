@@ -30,7 +30,7 @@ pub enum Target {
 }
 
 /// A draw instruction at its target, as `SY(DANGER01)`.
-#[derive(Debug, Drop)]
+#[derive(Debug, PartialEq, Drop)]
 pub struct Item {
     pub target: Target,
     pub text: Octets,
@@ -51,7 +51,7 @@ impl Clone for Item {
 pub type ItemList = Sequence<Item>;
 
 /// What is drawn of one feature: its instructions, and what orders it among others.
-#[derive(Debug, Drop)]
+#[derive(Debug, PartialEq, Drop)]
 pub struct Block {
     /// The display priority: the greater is drawn later.
     pub priority: u8,

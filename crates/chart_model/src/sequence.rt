@@ -4,6 +4,7 @@
 
 ghost use Rattle.std.specs.Prelude.{◌≡◌, ◌++◌, ◌∷◌, [], length, OnOk, OnErr};
 ghost use Rattle.std.specs.List.{AllZip};
+ghost use Rattle.std.specs.Cmp.Lexicographic.{lists_per, pointwise};
 
 use std::alloc::{AllocError, Global};
 use std::marker::Model;
@@ -72,5 +73,15 @@ impl<T: Clone> Clone for Sequence<T> {
         Ok(Sequence {
             items: self.items.clone()?,
         })
+    }
+}
+
+impl<T: PartialEq> PartialEq for Sequence<T> {
+    ghost eq = { pointwise T.eq };
+
+    ghost laws = { lists_per T.laws };
+
+    fn eq(&self, other: &Sequence<T>) -> bool {
+        self.as_slice() == other.as_slice()
     }
 }
