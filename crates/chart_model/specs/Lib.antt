@@ -3,6 +3,7 @@ pub mod Octets
 pub mod Codes
 pub mod Key
 pub mod Keys
+pub mod Memory
 pub mod Names
 pub mod Pages
 pub mod Shared
