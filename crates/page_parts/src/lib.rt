@@ -25,6 +25,6 @@ pub use numbers::{
     read_four_bytes, read_two_bytes,
 };
 pub use order::is_behind;
-pub use pointers::{name_bytes, put_name, read_name};
+pub use pointers::{name_bytes, read_name};
 pub use related::{put_foid, read_foid};
 pub use texts::{put_text, read_span, read_text};

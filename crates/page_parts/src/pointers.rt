@@ -3,7 +3,7 @@
 //! Each part of a pointer may be any number of its width here. Whether it names a record that is there, of a kind that
 //! may stand there, is asked of a whole chart and not of the bytes of one pointer.
 
-ghost use Rattle.std.specs.Prelude.{◌≡◌, ◌++◌, OnOk};
+ghost use Rattle.std.specs.Prelude.{◌≡◌};
 ghost use Rattle.page_parts.specs.Reader.{Finds};
 ghost use Rattle.page_parts.specs.Pointers.{IsNameInRange, IsPointerInRange, name, name_at, pointer, pointer_at};
 
@@ -21,14 +21,6 @@ pub fn name_bytes(value: Name) -> [u8; 5]
 {
     let [a, b, c, d] = value.rcid.to_be_bytes();
     [value.rcnm, a, b, c, d]
-}
-
-/// Adds the name of a record.
-pub fn put_name(out: &mut Octets, value: Name) -> Result<(), AllocError>
-    ensures bytes { OnOk result (out.new ≡ out.old ++ name value) }
-    ensures in_range { OnOk result (IsNameInRange value) }
-{
-    out.extend_from_slice(&name_bytes(value))
 }
 
 /// The nine bytes of a pointer.
