@@ -37,11 +37,11 @@ use Rattle.chart_store.specs.Outcome.{room_after, room_within}
 use Rattle.chart_store.specs.Store.{IsKept, IsSaveOf, StandsForEither, StoreValue, pair_of, save_of, state_of}
 use Rattle.chart_store.specs.Live.{state_or}
 use Rattle.chart_store.specs.Submitted.{told, fault_of_taking, fault_of_appending, GivesAccepted, IsTooLong, RefusedHas}
-use Rattle.chart_store.specs.Fault as taking
 use Rattle.chart_store.specs.Fault.{or_refused}
 use Rattle.chart_store.specs.Refusal.{refusal_of_read}
 use Rattle.update_sequence.specs.Reading.{data_set_in}
 use Rattle.chart_store.proofs.Accepting.{within-long, come_to-long}
+use Rattle.chart_store.proofs.Answering.{Fails, Fails-refused}
 use Rattle.chart_store.proofs.Naming.{left_says, read_says}
 
 -- ---- the room
@@ -141,10 +141,10 @@ module _ (state : StateValue) (command : Command) (pair : PairValue) where
   record-fails DeskFault has = tt
   record-fails NoMemory has = tt
 
-  pub taking-fails : (fault : TakeFault) → FailsBy taking.told fault (outcome state command) →
+  pub taking-fails : (fault : TakeFault) → Fails fault (outcome state command) →
       FailsBy told (fault_of_taking fault) (accepted state (room_by pair) command)
-  taking-fails (takes.Refused refusal) e = refused-as refusal e
-  taking-fails takes.NoMemory e = tt
+  taking-fails (takes.Refused refusal) h = refused-as refusal (Fails-refused (outcome state command) refusal h)
+  taking-fails takes.NoMemory h = tt
 
   pub appending-fails : (done : Outcome) (more : ℕ) (fault : AppendFault) (result : Result (Unit {0}) AppendFault) →
       outcome state command ≡ Ok done → more ≡ record_size command → result ≡ Err fault → TellsLack result pair more →

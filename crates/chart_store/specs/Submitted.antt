@@ -20,8 +20,7 @@ use Rattle.chart_model.specs.Answers as answers
 -- the refusal that a fault tells
 abbrev pub told : SubmitFault → Option Refusal
 told (Refused refusal) = Some refusal
-told DeskFault = None
-told NoMemory = None
+told fault = None
 
 -- a file that has too many bytes to be kept
 abbrev pub IsTooLong : Command → Type 0

@@ -8,7 +8,6 @@ use Rattle.iso8211_records.specs.declared.record.RawField.{RawField}
 use Rattle.s57_subfields.specs.RowValues.{RowValues, fields_in, first_of}
 use Rattle.s57_subfields.specs.Answers.{Fails}
 use Rattle.s57_subfields.specs.declared.fault.FieldFault.{FieldFault}
-use Rattle.s57_subfields.specs.declared.fault.FieldFault.TheVariants.{MissingField, Value as BadValue, NoMemory}
 use Rattle.std.proofs.lemmas.Bool.{true≢false}
 use Rattle.exchange_catalogue.specs.Entries.{CATD, catd_row, entry_in, rows_of, all_of, entries_of}
 use Rattle.iso8211_formats.specs.Layout.{Layout}
@@ -132,9 +131,7 @@ module _ (row : CatdRow) (records : List (List RawField)) (index : ℕ) (fields 
 
     pub so_far-fault : (fault : FieldFault) → is_none (first_of values.fields) ≡ false
         → Fails fault (entry_in row values) → Fails fault whole
-    so_far-fault NoMemory some h = tt
-    so_far-fault (MissingField number tag) some h = fault_of_all (MissingField number tag) some h
-    so_far-fault (BadValue number label) some h = fault_of_all (BadValue number label) some h
+    so_far-fault fault some h = λ differs. fault_of_all fault some (h differs)
 
 -- ---- all records
 

@@ -12,10 +12,10 @@ use Rattle.std.proofs.lemmas.Bool.{true≢false}
 use Rattle.std.proofs.lemmas.Map.Lookups.{exact_bytes}
 use Rattle.std.proofs.Math.ListN.{drop_of_length-le}
 use Rattle.common_lemmas.proofs.Choices.{map_some}
-use Rattle.chart_model.specs.Answers.{first_of, unless, FailsBy}
+use Rattle.chart_model.specs.Answers.{first_of, unless}
+use Rattle.chart_model.specs.Memory.{Fails}
 use Rattle.chart_model.specs.Keys.{key_cmp}
 use Rattle.chart_model.proofs.Maps.{tied}
-use Rattle.exchange_catalogue.specs.Answers.{told_of_order}
 use Rattle.exchange_catalogue.specs.Paths.{cell_path_of}
 use Rattle.exchange_catalogue.specs.Orders.{has_path, path_fault, paths_fault}
 use Rattle.exchange_catalogue.specs.Firsts.{rank_at, file_at, first_rank, paths_check}
@@ -23,7 +23,7 @@ use Rattle.exchange_catalogue.specs.declared.cell_file.CellFile.{CellFile}
 use Rattle.exchange_catalogue.specs.declared.cell_file.Rank.{Rank}
 use Rattle.exchange_catalogue.specs.declared.entry.Entry.{Entry}
 use Rattle.exchange_catalogue.specs.declared.fault.OrderFault.{OrderFault}
-use Rattle.exchange_catalogue.specs.declared.fault.OrderFault.TheVariants.{BadPath, Many, Empty, NoMemory}
+use Rattle.exchange_catalogue.specs.declared.fault.OrderFault.TheVariants.{NoMemory}
 
 -- ---- paths
 
@@ -187,11 +187,7 @@ first_fault entries place entry fault here at e so_far =
 
 pub fault-here : (entries : List Entry) (place : ℕ) (entry : Entry) (fault : OrderFault) → place < length entries
     → entry ≡ get_or entries place entry
-    → AreFaultless place entries → FailsBy told_of_order fault (paths_check (entry ∷ []))
-    → FailsBy told_of_order fault (paths_check entries)
-fault-here entries place entry (BadPath number) here at so_far h =
-    first_fault entries place entry (BadPath number) here at h so_far
-fault-here entries place entry (Many count) here at so_far h =
-    first_fault entries place entry (Many count) here at h so_far
-fault-here entries place entry Empty here at so_far h = first_fault entries place entry Empty here at h so_far
-fault-here entries place entry NoMemory here at so_far h = tt
+    → AreFaultless place entries → Fails NoMemory fault (paths_check (entry ∷ []))
+    → Fails NoMemory fault (paths_check entries)
+fault-here entries place entry fault here at so_far h =
+    λ differs. first_fault entries place entry fault here at (h differs) so_far

@@ -1,6 +1,6 @@
 -- What calls answer, beside what they were to answer: want of memory is free.
-use Rattle.std.specs.Prelude.{Option, Some, None, Result}
-use Rattle.chart_model.specs.Answers as answers
+use Rattle.std.specs.Prelude.{Result}
+use Rattle.chart_model.specs.Memory as memory
 use Rattle.iso8211_records.specs.declared.fault.FileFault.{FileFault}
 use Rattle.iso8211_records.specs.declared.fault.FileFault.TheVariants as of_file
 use Rattle.s57_subfields.specs.declared.fault.FieldFault.{FieldFault}
@@ -21,23 +21,14 @@ fault_of_field (of_field.MissingField number tag) = of_catalogue.MissingField nu
 fault_of_field (of_field.Value number label) = of_catalogue.Value number label
 fault_of_field of_field.NoMemory = of_catalogue.NoMemory
 
--- the fault that an answer tells: want of memory is none of the catalogue
-abbrev pub told_of_catalogue : CatalogueFault → Option CatalogueFault
-told_of_catalogue of_catalogue.NoMemory = None
-told_of_catalogue fault = Some fault
-
 -- the answer is what was to be answered, unless memory ran out
 abbrev pub GivesCatalogue : {X : Type 0} → Result X CatalogueFault → Result X CatalogueFault → Type 0
-GivesCatalogue answer wanted = answers.Gives told_of_catalogue answer wanted
+GivesCatalogue answer wanted = memory.Gives of_catalogue.NoMemory answer wanted
 
 -- the same of a load order
-abbrev pub told_of_order : OrderFault → Option OrderFault
-told_of_order of_order.NoMemory = None
-told_of_order fault = Some fault
-
 abbrev pub GivesOrder : {X : Type 0} → Result X OrderFault → Result X OrderFault → Type 0
-GivesOrder answer wanted = answers.Gives told_of_order answer wanted
+GivesOrder answer wanted = memory.Gives of_order.NoMemory answer wanted
 
 -- the same, of an answer that is seen by view
 abbrev pub GivesOrderBy : {X Y : Type 0} → (X → Y) → Result X OrderFault → Result Y OrderFault → Type 0
-GivesOrderBy view answer wanted = answers.GivesBy told_of_order view answer wanted
+GivesOrderBy view answer wanted = memory.GivesBy of_order.NoMemory view answer wanted

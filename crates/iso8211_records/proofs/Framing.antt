@@ -6,12 +6,11 @@ use Rattle.iso8211_leader.specs.Entry.{entry_size}
 use Rattle.iso8211_leader.specs.declared.entry.Entry.{Entry}
 use Rattle.iso8211_records.specs.declared.fault.FileFault.{FileFault}
 use Rattle.iso8211_records.specs.declared.fault.FileFault.TheVariants.{Leader, Span}
-use Rattle.iso8211_records.specs.Answers.{Fails}
 use Rattle.iso8211_records.specs.Frames.{is_leader}
 use Rattle.iso8211_records.specs.Record.{IsInside}
 use Rattle.iso8211_records.specs.Reading.{unless_at, place_without, is_inside, leader_at, directory_at, spans_at, ends_at, record_at}
 use Rattle.iso8211_records.proofs.FrameTests.{is_leader-is, is_leader-from}
-use Rattle.iso8211_records.proofs.Results.{Fails-bind, cond_ok}
+use Rattle.iso8211_records.proofs.Results.{cond_ok}
 use Rattle.iso8211_records.proofs.PassedTests.{le-is}
 
 -- ---- leaders
@@ -35,19 +34,19 @@ unfolding record_at
 record_at-leader fault tags first at bytes h = rw h refl
 
 pub record_at-directory : (fault : FileFault) (tags : List (List ℕ)) (first : Bool) (at : ℕ) (bytes : List ℕ) (frame : Frame) → leader_at first at bytes ≡ Ok frame
-    → Fails fault (directory_at at frame bytes) → Fails fault (record_at tags first at bytes)
+    → directory_at at frame bytes ≡ Err fault → record_at tags first at bytes ≡ Err fault
 unfolding record_at
-record_at-directory fault tags first at bytes frame leader h = rw leader (Fails-bind fault (directory_at at frame bytes) _ h)
+record_at-directory fault tags first at bytes frame leader h = rw (leader, h) refl
 
 pub record_at-spans : (fault : FileFault) (tags : List (List ℕ)) (first : Bool) (at : ℕ) (bytes : List ℕ) (frame : Frame) (entries : List Entry) → leader_at first at bytes ≡ Ok frame → directory_at at frame bytes ≡ Ok entries
-    → Fails fault (spans_at at frame bytes entries) → Fails fault (record_at tags first at bytes)
+    → spans_at at frame bytes entries ≡ Err fault → record_at tags first at bytes ≡ Err fault
 unfolding record_at
-record_at-spans fault tags first at bytes frame entries leader directory h = rw (leader, directory) (Fails-bind fault (spans_at at frame bytes entries) _ h)
+record_at-spans fault tags first at bytes frame entries leader directory h = rw (leader, directory, h) refl
 
 pub record_at-ends : (fault : FileFault) (tags : List (List ℕ)) (first : Bool) (at : ℕ) (bytes : List ℕ) (frame : Frame) (entries : List Entry) → leader_at first at bytes ≡ Ok frame → directory_at at frame bytes ≡ Ok entries
-    → spans_at at frame bytes entries ≡ Ok tt → Fails fault (ends_at tags at frame bytes entries) → Fails fault (record_at tags first at bytes)
+    → spans_at at frame bytes entries ≡ Ok tt → ends_at tags at frame bytes entries ≡ Err fault → record_at tags first at bytes ≡ Err fault
 unfolding record_at
-record_at-ends fault tags first at bytes frame entries leader directory spans h = rw (leader, directory, spans) (Fails-bind fault (ends_at tags at frame bytes entries) _ h)
+record_at-ends fault tags first at bytes frame entries leader directory spans h = rw (leader, directory, spans, h) refl
 
 pub record_at-all : (tags : List (List ℕ)) (first : Bool) (at : ℕ) (bytes : List ℕ) (frame : Frame) (entries : List Entry) → leader_at first at bytes ≡ Ok frame → directory_at at frame bytes ≡ Ok entries
     → spans_at at frame bytes entries ≡ Ok tt → ends_at tags at frame bytes entries ≡ Ok tt → record_at tags first at bytes ≡ Ok (record { frame = frame; entries = entries })

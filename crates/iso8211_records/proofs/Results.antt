@@ -1,19 +1,13 @@
 -- Steps that may have a fault.
 use Rattle.std.proofs.Common.{◌≡◌, Bool, true, false, cond, Result, Ok, Err, refl}
 use Rattle.iso8211_records.specs.declared.fault.FileFault.{FileFault}
-use Rattle.iso8211_records.specs.declared.fault.FileFault.TheVariants.{Leader, Directory, Span, Terminator, Descriptor, Subfield, NoMemory}
+use Rattle.iso8211_records.specs.declared.fault.FileFault.TheVariants.{NoMemory}
 use Rattle.iso8211_records.specs.Answers.{Fails}
 use Rattle.chart_model.specs.Answers.{◌>>=◌}
 
 -- the fault of a step is that of the steps
 pub Fails-bind : {A B : Type 0} (fault : FileFault) (r : Result A FileFault) (f : A → Result B FileFault) → Fails fault r → Fails fault (r >>= f)
-Fails-bind (Leader at) r f h = rw h refl
-Fails-bind (Directory at) r f h = rw h refl
-Fails-bind (Span at) r f h = rw h refl
-Fails-bind (Terminator at) r f h = rw h refl
-Fails-bind (Descriptor tag) r f h = rw h refl
-Fails-bind (Subfield number tag) r f h = rw h refl
-Fails-bind NoMemory r f h = tt
+Fails-bind fault r f h = λ differs. rw (h differs) refl
 
 -- and of what is the same
 pub Fails-same : {A : Type 0} (fault : FileFault) (r s : Result A FileFault) → r ≡ s → Fails fault r → Fails fault s
@@ -21,23 +15,11 @@ Fails-same fault r s e h = rw e at h
 
 -- what fails so is that fault
 pub Fails-err : {A : Type 0} (fault : FileFault) (r : Result A FileFault) → Fails fault r → (fault ≡ NoMemory → ⊥) → r ≡ Err fault
-Fails-err (Leader at) r h other = h
-Fails-err (Directory at) r h other = h
-Fails-err (Span at) r h other = h
-Fails-err (Terminator at) r h other = h
-Fails-err (Descriptor tag) r h other = h
-Fails-err (Subfield number tag) r h other = h
-Fails-err NoMemory r h other = absurd (other refl)
+Fails-err fault r h other = h other
 
 -- and that fault is what fails so
 pub Fails-from : {A : Type 0} (fault : FileFault) (r : Result A FileFault) → r ≡ Err fault → Fails fault r
-Fails-from (Leader at) r h = h
-Fails-from (Directory at) r h = h
-Fails-from (Span at) r h = h
-Fails-from (Terminator at) r h = h
-Fails-from (Descriptor tag) r h = h
-Fails-from (Subfield number tag) r h = h
-Fails-from NoMemory r h = tt
+Fails-from fault r h = λ _. h
 
 -- the value of a step without a fault
 pub bind_ok : {A B : Type 0} (r : Result A FileFault) (f : A → Result B FileFault) (y : B) → (r >>= f) ≡ Ok y → (x : A) × (r ≡ Ok x) × (f x ≡ Ok y)

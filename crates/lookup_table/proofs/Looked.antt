@@ -4,10 +4,10 @@ use Rattle.std.specs.Prelude.{is_none, not, Result, Ok, Err}
 use Rattle.std.specs.Option.{option_to_list}
 use Rattle.std.specs.List.{flat_map, list_any}
 use Rattle.std.proofs.lemmas.Bool.Decides.{nat_tests}
-use Rattle.chart_model.specs.Answers.{when, first_of, unless, FailsBy}
+use Rattle.chart_model.specs.Answers.{when, first_of, unless}
+use Rattle.chart_model.specs.Memory.{Fails}
 use Rattle.text_lines.specs.Lines.{is_silent}
 use Rattle.object_catalogue.specs.Codes.{CatalogueValue, code_in}
-use Rattle.lookup_table.specs.Answers.{told}
 use Rattle.lookup_table.specs.declared.condition.Condition.{Condition}
 use Rattle.lookup_table.specs.declared.fault.TableFault.{TableFault}
 use Rattle.lookup_table.specs.declared.fault.TableFault.TheVariants.{BadLine, UnknownName, UnknownProcedure, NoMemory}
@@ -89,8 +89,6 @@ refused : (catalogue : CatalogueValue) (number : ℕ) (line : List ℕ) (written
 refused catalogue number line written f few speaks is e = named_line catalogue number line written few speaks is ∙ ap listed e
 
 pub named_refused : (catalogue : CatalogueValue) (number : ℕ) (line : List ℕ) (written : WrittenLine) (f : TableFault) → number ≤ 10000 → is_silent line ≡ false → written_of line ≡ Some written
-    → FailsBy told f (coded_line_or_fault catalogue number written) → FailsBy told f (line_in catalogue number line)
-named_refused catalogue number line written (BadLine n) few speaks is h = refused catalogue number line written (BadLine n) few speaks is h
-named_refused catalogue number line written (UnknownName n) few speaks is h = refused catalogue number line written (UnknownName n) few speaks is h
-named_refused catalogue number line written (UnknownProcedure n) few speaks is h = refused catalogue number line written (UnknownProcedure n) few speaks is h
-named_refused catalogue number line written NoMemory few speaks is h = h
+    → Fails NoMemory f (coded_line_or_fault catalogue number written) → Fails NoMemory f (line_in catalogue number line)
+named_refused catalogue number line written f few speaks is h =
+    λ differs. refused catalogue number line written f few speaks is (h differs)

@@ -5,14 +5,15 @@ use Rattle.std.specs.Option.{option_to_list}
 use Rattle.std.specs.List.{flat_map}
 use Rattle.std.specs.Str.Lines.{lines}
 use Rattle.std.proofs.lemmas.List.Concat.{flat_map-append}
-use Rattle.chart_model.specs.Answers.{unless, FailsBy}
+use Rattle.chart_model.specs.Answers.{unless}
+use Rattle.chart_model.specs.Memory.{Fails}
 use Rattle.text_lines.specs.Lines.{numbered_lines}
 use Rattle.text_lines.proofs.LinesSoFar.{ArePassed, none_passed, next_number, one_passed, fault_found, all_passed}
 use Rattle.object_catalogue.specs.Codes.{CatalogueValue}
-use Rattle.lookup_table.specs.Answers.{told, Answers, AnswersLine}
+use Rattle.lookup_table.specs.Answers.{Answers, AnswersLine}
 use Rattle.lookup_table.specs.Lines.{lines_on, table_in, fault_at, line_fault, line_in}
 use Rattle.lookup_table.specs.declared.fault.TableFault.{TableFault}
-use Rattle.lookup_table.specs.declared.fault.TableFault.TheVariants.{BadLine, UnknownName, UnknownProcedure, NoMemory}
+use Rattle.lookup_table.specs.declared.fault.TableFault.TheVariants.{NoMemory}
 use Rattle.lookup_table.specs.declared.line.TableLine.{TableLine}
 
 -- the lines before those that are left have no fault, and say what the table has
@@ -85,19 +86,16 @@ module _ (catalogue : CatalogueValue) (bytes : List ℕ) (left others : List (�
       (fault_found (fault_at catalogue) bytes left others number line so_far.before so_far.passed next f refused)
 
   -- a line's fault is that of the file
-  pub read_fault : (f : TableFault) → FailsBy told f (line_in catalogue number line) → FailsBy told f (table_in catalogue bytes)
-  read_fault (BadLine n) h = fails (BadLine n) h
-  read_fault (UnknownName n) h = fails (UnknownName n) h
-  read_fault (UnknownProcedure n) h = fails (UnknownProcedure n) h
-  read_fault NoMemory h = h
+  pub read_fault : (f : TableFault) → Fails NoMemory f (line_in catalogue number line) → Fails NoMemory f (table_in catalogue bytes)
+  read_fault f h = λ differs. fails f (h differs)
 
 -- a fault that is passed on
 pub failed : (answer : Result (List TableLine) TableFault) (f g : TableFault) (wanted : Result (List TableLine) TableFault)
-    → answer ≡ Err g → g ≡ f → FailsBy told f wanted → Answers answer wanted
+    → answer ≡ Err g → g ≡ f → Fails NoMemory f wanted → Answers answer wanted
 failed answer f g wanted e same h =
-    subst (λ (r : Result (List TableLine) TableFault). Answers r wanted) (sym e) (subst (λ (x : TableFault). FailsBy told x wanted) (sym same) h)
+    subst (λ (r : Result (List TableLine) TableFault). Answers r wanted) (sym e) (subst (λ (x : TableFault). Fails NoMemory x wanted) (sym same) h)
 
 pub line_failed : (answer : Result (Option TableLine) TableFault) (f g : TableFault) (wanted : Result (List TableLine) TableFault)
-    → answer ≡ Err g → g ≡ f → FailsBy told f wanted → AnswersLine answer wanted
+    → answer ≡ Err g → g ≡ f → Fails NoMemory f wanted → AnswersLine answer wanted
 line_failed answer f g wanted e same h =
-    subst (λ (r : Result (Option TableLine) TableFault). AnswersLine r wanted) (sym e) (subst (λ (x : TableFault). FailsBy told x wanted) (sym same) h)
+    subst (λ (r : Result (Option TableLine) TableFault). AnswersLine r wanted) (sym e) (subst (λ (x : TableFault). Fails NoMemory x wanted) (sym same) h)

@@ -2,14 +2,15 @@
 use Rattle.std.proofs.Common.{◌≡◌, ℕ, ◌+◌, List, [], ◌∷◌, ◌++◌, length, Option, sym, ap, ◌∙◌, subst}
 use Rattle.std.specs.Prelude.{Result, Ok, Err}
 use Rattle.std.specs.Str.Lines.{lines}
-use Rattle.chart_model.specs.Answers.{unless, FailsBy}
+use Rattle.chart_model.specs.Answers.{unless}
+use Rattle.chart_model.specs.Memory.{Fails}
 use Rattle.text_lines.specs.Lines.{numbered_lines}
 use Rattle.text_lines.proofs.LinesSoFar.{ArePassed, none_passed, next_number, one_passed, fault_found, all_passed}
-use Rattle.object_catalogue.specs.Answers.{told, Answers}
+use Rattle.object_catalogue.specs.Answers.{Answers}
 use Rattle.object_catalogue.specs.Codes.{CatalogueValue, empty_catalogue}
 use Rattle.object_catalogue.specs.Reading.{catalogue_on, catalogue_in, fault_at, line_in}
 use Rattle.object_catalogue.specs.declared.fault.CatalogueFault.{CatalogueFault}
-use Rattle.object_catalogue.specs.declared.fault.CatalogueFault.TheVariants.{BadLine, Twice, NoMemory}
+use Rattle.object_catalogue.specs.declared.fault.CatalogueFault.TheVariants.{NoMemory}
 use Rattle.object_catalogue.proofs.Lines.{line_taken, line_refused, no_lines as nothing_said}
 
 -- the lines before those that are left have no fault, and say what the catalogue has
@@ -51,10 +52,8 @@ module _ (bytes : List ℕ) (left others : List (ℕ × List ℕ)) (number : ℕ
       (fault_found fault_at bytes left others number line so_far.before so_far.passed next f refused)
 
   -- a line's fault is that of the file
-  pub read_fault : (f : CatalogueFault) → FailsBy told f (line_in catalogue number line) → FailsBy told f (catalogue_in bytes)
-  read_fault (BadLine n) h = fails (BadLine n) h
-  read_fault (Twice n) h = fails (Twice n) h
-  read_fault NoMemory h = h
+  pub read_fault : (f : CatalogueFault) → Fails NoMemory f (line_in catalogue number line) → Fails NoMemory f (catalogue_in bytes)
+  read_fault f h = λ differs. fails f (h differs)
 
 abbrev ok : CatalogueValue → Result CatalogueValue CatalogueFault
 ok c = Ok c
@@ -67,6 +66,6 @@ read_all bytes left catalogue so_far end =
 
 -- a fault that is passed on
 pub failed : (answer : Result CatalogueValue CatalogueFault) (f g : CatalogueFault) (wanted : Result CatalogueValue CatalogueFault)
-    → answer ≡ Err g → g ≡ f → FailsBy told f wanted → Answers answer wanted
+    → answer ≡ Err g → g ≡ f → Fails NoMemory f wanted → Answers answer wanted
 failed answer f g wanted e same h =
-    subst (λ (r : Result CatalogueValue CatalogueFault). Answers r wanted) (sym e) (subst (λ (x : CatalogueFault). FailsBy told x wanted) (sym same) h)
+    subst (λ (r : Result CatalogueValue CatalogueFault). Answers r wanted) (sym e) (subst (λ (x : CatalogueFault). Fails NoMemory x wanted) (sym same) h)

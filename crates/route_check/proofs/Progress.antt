@@ -3,17 +3,18 @@ use Rattle.std.proofs.Common.{◌≡◌, ℕ, ◌+◌, ◌<◌, ◌≤◌, Bool,
 use Rattle.std.specs.Prelude.{Result, Ok, Err, filter}
 use Rattle.std.specs.List.{filter_map, cons_option}
 use Rattle.std.specs.Str.Lines.{lines}
-use Rattle.chart_model.specs.Answers.{◌>>=◌, unless, FailsBy}
+use Rattle.chart_model.specs.Answers.{◌>>=◌, unless}
+use Rattle.chart_model.specs.Memory.{Fails}
 use Rattle.text_lines.specs.Reading.{first_fault}
 use Rattle.text_lines.proofs.RestSoFar.{ArePassed, none_passed, one_passed, fault_found, all_passed}
 use Rattle.route_check.specs.declared.route.Route.{Route}
 use Rattle.route_check.specs.declared.draft.Draft.{Draft}
 use Rattle.route_check.specs.declared.fault.RouteFault.{RouteFault}
-use Rattle.route_check.specs.declared.fault.RouteFault.TheVariants.{BadLine, Few, Many, NoMemory}
+use Rattle.route_check.specs.declared.fault.RouteFault.TheVariants.{NoMemory}
 use Rattle.route_check.specs.RouteLine.{point_of}
 use Rattle.route_check.specs.Reading.{saying, fault_at, points_on, route_on, route_in}
 use Rattle.route_check.specs.Draft.{draft_of, KeepsFirstPoints, line_in, finished_route}
-use Rattle.route_check.specs.Answers.{told, Answers}
+use Rattle.route_check.specs.Answers.{Answers}
 use Rattle.route_check.proofs.Drafts.{HasBox, kept, line_taken, line_refused, finished-draft_of}
 
 -- the lines before the rest have no fault, and say what the draft has
@@ -98,11 +99,9 @@ fails bytes rest others line draft number f so_far cut e =
 
 -- a line's fault is that of the file
 pub read_fault : (bytes rest others line : List ℕ) (draft : Draft) (number : ℕ) (f : RouteFault) → IsReadSoFar bytes draft number rest
-    → lines rest ≡ line ∷ lines others → FailsBy told f (line_in draft (number + 1) line) → FailsBy told f (route_in bytes)
-read_fault bytes rest others line draft number (BadLine n) so_far cut h = fails bytes rest others line draft number (BadLine n) so_far cut h
-read_fault bytes rest others line draft number (Few n) so_far cut h = fails bytes rest others line draft number (Few n) so_far cut h
-read_fault bytes rest others line draft number (Many n) so_far cut h = fails bytes rest others line draft number (Many n) so_far cut h
-read_fault bytes rest others line draft number NoMemory so_far cut h = h
+    → lines rest ≡ line ∷ lines others → Fails NoMemory f (line_in draft (number + 1) line) → Fails NoMemory f (route_in bytes)
+read_fault bytes rest others line draft number f so_far cut h =
+    λ differs. fails bytes rest others line draft number f so_far cut (h differs)
 
 read_all : (bytes rest : List ℕ) (draft : Draft) (number : ℕ) → IsReadSoFar bytes draft number rest → lines rest ≡ [] → finished_route draft ≡ route_in bytes
 read_all bytes rest draft number so_far end =
@@ -113,10 +112,7 @@ read_all bytes rest draft number so_far end =
 -- an answer without want of memory
 answers : (answer : Result Route RouteFault) → Answers answer answer
 answers (Ok route) = refl
-answers (Err (BadLine n)) = refl
-answers (Err (Few n)) = refl
-answers (Err (Many n)) = refl
-answers (Err NoMemory) = tt
+answers (Err fault) = λ differs. refl
 
 pub read_whole : (bytes rest : List ℕ) (draft : Draft) (number : ℕ) (answer : Result Route RouteFault) → IsReadSoFar bytes draft number rest → lines rest ≡ []
     → answer ≡ finished_route draft → Answers answer (route_in bytes)
@@ -125,6 +121,6 @@ read_whole bytes rest draft number answer so_far end is =
 
 -- a fault that is passed on
 pub failed : (answer : Result Route RouteFault) (f g : RouteFault) (wanted : Result Route RouteFault)
-    → answer ≡ Err g → g ≡ f → FailsBy told f wanted → Answers answer wanted
+    → answer ≡ Err g → g ≡ f → Fails NoMemory f wanted → Answers answer wanted
 failed answer f g wanted e same h =
-    subst (λ (r : Result Route RouteFault). Answers r wanted) (sym e) (subst (λ (x : RouteFault). FailsBy told x wanted) (sym same) h)
+    subst (λ (r : Result Route RouteFault). Answers r wanted) (sym e) (subst (λ (x : RouteFault). Fails NoMemory x wanted) (sym same) h)

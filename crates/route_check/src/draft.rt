@@ -4,8 +4,8 @@
 //! the first 1,000 aren't kept, so that memory doesn't grow with the file.
 
 ghost use Rattle.std.specs.Prelude.{◌≡◌, ◌+◌, ◌<◌, ◌≤◌, ◌^◌, [], OnOk, MatchResult, Ok};
-ghost use Rattle.chart_model.specs.Answers.{FailsBy};
-ghost use Rattle.route_check.specs.Answers.{told};
+ghost use Rattle.chart_model.specs.Memory.{Fails};
+ghost use Rattle.route_check.specs.declared.fault.RouteFault.TheVariants.{NoMemory};
 ghost use Rattle.route_check.specs.Draft.{draft_of, KeepsFirstPoints, with_point, line_in, finished_route};
 
 use crate::fault::RouteFault;
@@ -60,7 +60,7 @@ impl Draft {
         requires counted { self.old.count < number }
         ensures { MatchResult result
             (λ _. line_in self.old number line.now ≡ Ok self.new)
-            (λ fault. FailsBy told fault (line_in self.old number line.now)) }
+            (λ fault. Fails NoMemory fault (line_in self.old number line.now)) }
     {
         if is_silent(line) {
             return Ok(());

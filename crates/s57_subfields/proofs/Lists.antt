@@ -6,7 +6,6 @@ use Rattle.std.proofs.lemmas.Bool.{eqb-true, or_parts, true≢false}
 use Rattle.iso8211_records.specs.declared.value.Value.{Value}
 use Rattle.chart_model.specs.Answers.{when, first_of, unless}
 use Rattle.s57_subfields.specs.declared.fault.FieldFault.{FieldFault}
-use Rattle.s57_subfields.specs.declared.fault.FieldFault.TheVariants.{MissingField, Value as BadValue, NoMemory}
 use Rattle.s57_subfields.specs.declared.group.Groups.{Groups}
 use Rattle.s57_subfields.specs.Answers.{Fails, missing_field, bad_value}
 use Rattle.s57_subfields.specs.Lists.{Column, column_fault, distance, groups_in_fields, list_fault, list_if_there, list_in}
@@ -15,9 +14,7 @@ use Rattle.s57_subfields.specs.Tails.{HasNone}
 
 -- a fault that is told is the answer
 pub fails-with : {A : Type 0} (fault : FieldFault) (wanted : Result A FieldFault) → wanted ≡ Err fault → Fails fault wanted
-fails-with NoMemory wanted e = tt
-fails-with (MissingField number tag) wanted e = e
-fails-with (BadValue number label) wanted e = e
+fails-with fault wanted e = λ _. e
 
 -- ---- steps that are taken one after the other
 

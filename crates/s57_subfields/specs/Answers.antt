@@ -1,6 +1,6 @@
 -- What a reader answers, beside what it was to answer.
-use Rattle.std.specs.Prelude.{ℕ, List, Option, Some, None, Result}
-use Rattle.chart_model.specs.Answers as answers
+use Rattle.std.specs.Prelude.{ℕ, List, Result}
+use Rattle.chart_model.specs.Memory as memory
 use Rattle.s57_subfields.specs.declared.fault.FieldFault.{FieldFault}
 use Rattle.s57_subfields.specs.declared.fault.FieldFault.TheVariants.{MissingField, Value as BadValue, NoMemory}
 use Rattle.s57_subfields.specs.RowValues.{RowValues}
@@ -13,16 +13,12 @@ missing_field row = MissingField row.number row.tag
 abbrev pub bad_value : RowValues → List ℕ → FieldFault
 bad_value row label = BadValue row.number label
 
--- want of memory tells nothing
-abbrev pub told : FieldFault → Option FieldFault
-told NoMemory = None
-told fault = Some fault
-
+-- want of memory is free
 abbrev pub Fails : {X : Type 0} → FieldFault → Result X FieldFault → Type 0
-Fails fault wanted = answers.FailsBy told fault wanted
+Fails fault wanted = memory.Fails NoMemory fault wanted
 
 abbrev pub GivesBy : {X Y : Type 0} → (X → Y) → Result X FieldFault → Result Y FieldFault → Type 0
-GivesBy view answer wanted = answers.GivesBy told view answer wanted
+GivesBy view answer wanted = memory.GivesBy NoMemory view answer wanted
 
 abbrev pub Gives : {X : Type 0} → Result X FieldFault → Result X FieldFault → Type 0
-Gives answer wanted = answers.Gives told answer wanted
+Gives answer wanted = memory.Gives NoMemory answer wanted

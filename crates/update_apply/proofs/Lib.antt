@@ -1,4 +1,4 @@
-pub mod Told
+pub mod Judged
 pub mod Headers
 pub mod Texts
 pub mod Alike

@@ -1,5 +1,5 @@
 -- The first fault of a change of a record, judged by what the cell has under its name.
-use Rattle.std.specs.Prelude.{ℕ, ◌+◌, ◌==◌, nat_lt, Bool, false, not, ◌&&◌, ◌||◌, if◌then◌else◌, List, [], ◌∷◌}
+use Rattle.std.specs.Prelude.{◌≡◌, ℕ, ◌+◌, ◌==◌, nat_lt, Bool, false, not, ◌&&◌, ◌||◌, if◌then◌else◌, List, [], ◌∷◌}
 use Rattle.std.specs.Prelude.{length, Option, Some, None, Result, Ok, Err}
 use Rattle.std.specs.Option.{option_map, is_some}
 use Rattle.std.specs.Bool.{beq}
@@ -13,6 +13,7 @@ use Rattle.chart_model.specs.declared.update_record.Control.{Control}
 use Rattle.chart_model.specs.Cell.{CellValue}
 use Rattle.chart_model.specs.Change.{Change}
 use Rattle.chart_model.specs.Answers.{first_of, when}
+use Rattle.chart_model.specs.Memory.{Gives}
 use Rattle.chart_model.specs.Codes.{FEATURE, INSERT, DELETE, MODIFY}
 use Rattle.update_apply.specs.declared.judge.HeldRecord.{HeldRecord}
 use Rattle.update_apply.specs.declared.fault.ChangeFault.{ChangeFault}
@@ -150,8 +151,7 @@ fault_by (Some held) change = first_of (held_faults change held)
 abbrev pub fault_of : CellValue → Change → Option ChangeFault
 fault_of cell change = fault_by (held_under cell change.target) change
 
--- the fault that an answer tells: want of memory is none of the change
-abbrev pub told : Result (Unit {0}) ChangeFault → Option ChangeFault
-told (Ok done) = None
-told (Err fault.NoMemory) = None
-told (Err what) = Some what
+-- the answer to a change, by its fault: want of memory comes only where it has none
+abbrev pub Judges : Result (Unit {0}) ChangeFault → Option ChangeFault → Type 0
+Judges answer None = Gives fault.NoMemory answer (Ok tt)
+Judges answer (Some what) = answer ≡ Err what

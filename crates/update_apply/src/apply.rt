@@ -101,7 +101,7 @@ fn change_features_owned(
 ///
 /// The first fault of the change; `NoMemory` where there is none and the budget is spent.
 fn judge(cell: &Cell, change: &UpdateRecord, moves: &mut Moves) -> Result<(), ChangeFault>
-    ensures fault { spec.told result ≡ spec.fault_of cell.now change.now }
+    ensures fault { spec.Judges result (spec.fault_of cell.now change.now) }
     ensures spent { OnOk result (moves.old
         ≡ moves.new + cost_of (spec.held_under cell.now change.now.target) change.now) }
     ensures unspent { OnErr result (moves.new ≡ moves.old) }
@@ -125,7 +125,7 @@ pub fn apply_within(
 ) -> Result<(), ChangeFault>
     ensures ok { OnOk result (cell.new ≡ cell_after cell.old change.now) }
     ensures err { OnErr result (cell.new ≡ cell.old) }
-    ensures fault { spec.told result ≡ spec.fault_of cell.old change.now }
+    ensures fault { spec.Judges result (spec.fault_of cell.old change.now) }
 
     // A change that is made spends what it may move, and is within what was left; no other spends more.
     ensures spent { OnOk result (moves.old
@@ -151,7 +151,7 @@ pub fn apply_owned(
 ) -> Result<(), ChangeFault>
     ensures ok { OnOk result (cell.new ≡ cell_after cell.old change) }
     ensures err { OnErr result (cell.new ≡ cell.old) }
-    ensures fault { spec.told result ≡ spec.fault_of cell.old change }
+    ensures fault { spec.Judges result (spec.fault_of cell.old change) }
 
     // A change that is made spends what it may move, and is within what was left; no other spends more.
     ensures spent { OnOk result (moves.old ≡ moves.new + cost_of (spec.held_under cell.old change.target) change) }
@@ -176,7 +176,7 @@ pub fn apply_record(
 ) -> Result<(), ChangeFault>
     ensures ok { OnOk result (cell.new ≡ cell_after cell.old change.now) }
     ensures err { OnErr result (cell.new ≡ cell.old) }
-    ensures fault { spec.told result ≡ spec.fault_of cell.old change.now }
+    ensures fault { spec.Judges result (spec.fault_of cell.old change.now) }
 
     // A change that may move more items than the budget of a whole file isn't made.
     ensures within { OnOk result (cost_of (spec.held_under cell.old change.now.target) change.now ≤ 268435456) }

@@ -1,9 +1,9 @@
 -- Changes, one after the other.
-use Rattle.std.proofs.Common.{arith, ◌≡◌, ℕ, ◌+◌, ◌<◌, List, [], ◌∷◌, ◌++◌, length, get_or, drop, Option, None, Result, Ok, Err, refl, sym, ◌∙◌, ap}
+use Rattle.std.proofs.Common.{arith, ◌≡◌, ◌≢◌, ℕ, ◌+◌, ◌<◌, List, [], ◌∷◌, ◌++◌, length, get_or, drop, Option, Some, None, Result, Ok, Err, refl, sym, ◌∙◌, ap}
 use Rattle.std.specs.Option.{option_map}
 use Rattle.chart_model.specs.Cell.{CellValue}
 use Rattle.chart_model.specs.Change.{Change}
-use Rattle.update_apply.specs.Fault.{fault_of, held_under, told}
+use Rattle.update_apply.specs.Fault.{Judges, fault_of, held_under}
 use Rattle.update_apply.specs.Moves.{cost_of}
 use Rattle.update_apply.specs.Changed.{cell_after}
 use Rattle.update_apply.specs.declared.fault.ChangeFault.{ChangeFault}
@@ -59,22 +59,27 @@ folded-made cell after changes i change h e none made =
     ∙ sym (folded-cons cell change (drop (i + 1) changes))
     ∙ ap (folded cell) (sym (from_place changes i change h e))
 
-refused_first : (fault : ChangeFault) (found : Option ChangeFault) (cell : CellValue) (change : Change) (rest : List Change) → told (Err fault) ≡ found →
-    GivesBuilt {X = CellValue} (Err (fault_of_change fault)) (after_change cell change rest found)
-refused_first of_change.NoMemory found cell change rest e = tt
-refused_first (of_change.Present name) found cell change rest e = rw (sym e) refl
-refused_first (of_change.Absent name) found cell change rest e = rw (sym e) refl
-refused_first (of_change.Version name kept given) found cell change rest e = rw (sym e) refl
-refused_first (of_change.Foid name kept given) found cell change rest e = rw (sym e) refl
-refused_first (of_change.NoControl name) found cell change rest e = rw (sym e) refl
-refused_first (of_change.Count name stated given) found cell change rest e = rw (sym e) refl
-refused_first (of_change.Index name size index) found cell change rest e = rw (sym e) refl
-refused_first (of_change.Mixed name) found cell change rest e = rw (sym e) refl
+-- a fault of a change that is told is one of the chart
+as-change : (fault : ChangeFault) → fault_of_change fault ≢ of_build.NoMemory → of_build.Change fault ≡ fault_of_change fault
+as-change of_change.NoMemory differs = absurd (differs refl)
+as-change fault differs = refl
 
-pub folded-refused : (cell : CellValue) (changes : List Change) (i : ℕ) (change : Change) (fault : ChangeFault) → i < length changes → change ≡ get_or changes i change →
-    told (Err fault) ≡ fault_of cell change → GivesBuilt {X = CellValue} (Err (fault_of_change fault)) (folded cell (drop i changes))
-folded-refused cell changes i change fault h e found =
-    rw (from_place changes i change h e) (rw (folded-cons cell change (drop (i + 1) changes)) (refused_first fault (fault_of cell change) cell change (drop (i + 1) changes) found))
+refused_first : (fault : ChangeFault) (found : Option ChangeFault) (cell : CellValue) (change : Change) (rest : List Change) → Judges (Err fault) found →
+    GivesBuilt {X = CellValue} (Err (fault_of_change fault)) (after_change cell change rest found)
+refused_first fault None cell change rest h = λ differs.
+    absurd (let e : ◌≡◌ {A = Result (Unit {0}) ChangeFault} (Ok tt) (Err fault) = h (λ e. differs (ap fault_of_change e)) in cc)
+refused_first fault (Some what) cell change rest h = λ differs.
+    let same : what ≡ fault = cc in ap (λ (f : ChangeFault). Err (of_build.Change f)) same ∙ ap Err (as-change fault differs)
+
+pub folded-refused : (cell : CellValue) (change : Change) (rest : List Change) (fault : ChangeFault) → Judges (Err fault) (fault_of cell change)
+    → GivesBuilt {X = CellValue} (Err (fault_of_change fault)) (folded cell (change ∷ rest))
+folded-refused cell change rest fault found =
+    rw (folded-cons cell change rest) (refused_first fault (fault_of cell change) cell change rest found)
+
+pub folded-refused_at : (cell : CellValue) (changes : List Change) (i : ℕ) (change : Change) (fault : ChangeFault) → i < length changes → change ≡ get_or changes i change →
+    Judges (Err fault) (fault_of cell change) → GivesBuilt {X = CellValue} (Err (fault_of_change fault)) (folded cell (drop i changes))
+folded-refused_at cell changes i change fault h e found =
+    rw (from_place changes i change h e) (folded-refused cell change (drop (i + 1) changes) fault found)
 
 -- ---- moves
 

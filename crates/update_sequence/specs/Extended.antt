@@ -4,18 +4,19 @@ use Rattle.std.specs.Prelude.{Result}
 use Rattle.std.specs.List.{filter_map, list_all}
 use Rattle.chart_model.specs.declared.name.Name.{Name}
 use Rattle.chart_model.specs.declared.update_record.Control.{Control}
-use Rattle.chart_model.specs.Answers.{GivesBy, when}
+use Rattle.chart_model.specs.Answers.{when}
+use Rattle.chart_model.specs.Memory as memory
 use Rattle.chart_model.specs.Codes.{DELETE}
 use Rattle.chart_model.specs.Cell.{CellValue}
 use Rattle.chart_model.specs.Change.{Change}
 use Rattle.chart_closure.specs.Closed.{fault_at}
 use Rattle.update_apply.specs.Fault.{inserts, modifies, is_feature}
 use Rattle.update_sequence.specs.declared.fault.BuildFault.{BuildFault}
-use Rattle.update_sequence.specs.Answers.{told_of_chart}
+use Rattle.update_sequence.specs.declared.fault.BuildFault.TheVariants.{NoMemory}
 
 -- the chart is now what was to be built, or the fault is told, unless memory ran out
 abbrev pub GivesExtended : Result (Unit {0}) BuildFault → CellValue → Result CellValue BuildFault → Type 0
-GivesExtended answer now wanted = GivesBy told_of_chart (λ done. now) answer wanted
+GivesExtended answer now wanted = memory.GivesBy NoMemory (λ done. now) answer wanted
 
 -- an edit of coordinates that takes none away
 abbrev pub keeps_coords : Option Control → Bool

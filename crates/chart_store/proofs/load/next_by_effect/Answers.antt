@@ -5,6 +5,7 @@ use Rattle.chart_difference.specs.Difference.{AreChanged}
 use Rattle.chart_model.specs.Cell.{CellValue}
 use Rattle.chart_store.specs.Loaded.{chart_after}
 use Rattle.chart_store.specs.Taken.{MayBuild}
+use Rattle.chart_store.proofs.Answering.{given-ok}
 use Rattle.chart_store.proofs.CanBeHeld.{Builds}
 use Rattle.chart_store.proofs.Placing.{may-build, chart-found, held-by, state_by_effect-in, changed-in}
 use Rattle.chart_store.proofs.load.next_by_effect.Goals as goal
@@ -23,7 +24,7 @@ with_file-requires-clause-holds c =
     let keyed = c.key_of-key.ensures in
     let found = chart-found c.args.live.now.cells _ _ _ _ _ c.chart_of-before.ensures c.get.ensures c.cells.ensures.cells keyed in
     let builds = ap (λ (chart : Option CellValue). chart_after chart c.args.effect c.args.dataset) (sym found)
-    ∙ c.in_ok-made.ensures.chart in
+    ∙ given-ok _ _ c.in_ok-made.ensures.chart in
     let laws : Builds = record {
       data_sets = c.files_are_data_sets.ensures.kept;
       changes = c.files_are_data_sets.ensures.changes;
@@ -42,7 +43,7 @@ with_file-requires-clause-closed c =
     let keyed = c.key_of-key.ensures in
     let found = chart-found c.args.live.now.cells _ _ _ _ _ c.chart_of-before.ensures c.get.ensures c.cells.ensures.cells keyed in
     let builds = ap (λ (chart : Option CellValue). chart_after chart c.args.effect c.args.dataset) (sym found)
-    ∙ c.in_ok-made.ensures.chart in
+    ∙ given-ok _ _ c.in_ok-made.ensures.chart in
     let laws : Builds = record {
       data_sets = c.files_are_data_sets.ensures.kept;
       changes = c.files_are_data_sets.ensures.changes;
@@ -61,7 +62,7 @@ returns-clause-after c =
     let keyed = c.key_of-key.ensures in
     let found = chart-found c.args.live.now.cells _ _ _ _ _ c.chart_of-before.ensures c.get.ensures c.cells.ensures.cells keyed in
     let builds = ap (λ (chart : Option CellValue). chart_after chart c.args.effect c.args.dataset) (sym found)
-    ∙ c.in_ok-made.ensures.chart in
+    ∙ given-ok _ _ c.in_ok-made.ensures.chart in
     state_by_effect-in c.args.live.now c.args.dataset c.args.file c.args.effect c.in_ok-made.made.held
     c.in_ok-made.made.chart
     c.key_of-key.result keyed (c.in_ok-made.ensures.held ∙ c.requires.held) builds c.with_file.result c.with_file.ensures.after

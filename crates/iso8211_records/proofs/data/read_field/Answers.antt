@@ -15,4 +15,4 @@ pub returns-in-Ok-clause-taken : goal.returns-in-Ok-clause-taken
 returns-in-Ok-clause-taken c = rw (listed-by _ _ (Some _) c.in-Some.ensures) c.in-Ok.ensures.taken
 
 pub returns-in-Err-Unspelled-clause-read : goal.returns-in-Err-Unspelled-clause-read
-returns-in-Err-Unspelled-clause-read c = field_by-some _ _ _ _ _ c.in-Some.ensures ∙ rw (rw c.in-Err-Unspelled.field-0-is at c.in-Err-Unspelled.ensures.read) refl
+returns-in-Err-Unspelled-clause-read c = λ _. field_by-some _ _ _ _ _ c.in-Some.ensures ∙ rw (rw c.in-Err-Unspelled.field-0-is at c.in-Err-Unspelled.ensures.read) refl

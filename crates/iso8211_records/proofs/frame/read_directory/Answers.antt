@@ -24,10 +24,10 @@ loop-place-preserved c = record {
 }
 
 pub returns-in-Err-clause-read : goal.returns-in-Err-clause-read
-returns-in-Err-clause-read c = directory-none _ _ _ _ _ _ c.loop-place-test.true c.in-Err.ensures.refused c.loop-place.invariant.read
+returns-in-Err-clause-read c = λ _. directory-none _ _ _ _ _ _ c.loop-place-test.true c.in-Err.ensures.refused c.loop-place.invariant.read
 
 pub returns-then-is_closed-clause-read : goal.returns-then-is_closed-clause-read
 returns-then-is_closed-clause-read c = let low = c.args.leader.now.after_directory in directory-closed _ _ _ _ _ _ c.loop-place-test.false (omega arith) (sym c.if-is_closed.ensures) c.loop-place.invariant.read
 
 pub returns-else-is_closed-clause-read : goal.returns-else-is_closed-clause-read
-returns-else-is_closed-clause-read c = directory-open _ _ _ _ _ _ c.loop-place-test.false (sym c.if-is_closed.ensures) c.loop-place.invariant.read
+returns-else-is_closed-clause-read c = λ _. directory-open _ _ _ _ _ _ c.loop-place-test.false (sym c.if-is_closed.ensures) c.loop-place.invariant.read

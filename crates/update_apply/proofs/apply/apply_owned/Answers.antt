@@ -1,7 +1,8 @@
-use Rattle.std.proofs.Common.{◌≡◌, ◌≢◌, ap, subst, sym, ◌∙◌}
+use Rattle.std.proofs.Common.{◌≡◌, ◌≢◌, ap, subst, sym, ◌∙◌, rules}
 use Rattle.chart_model.specs.Cell.{CellValue}
 use Rattle.chart_model.specs.Change.{IsChange}
-use Rattle.update_apply.specs.Fault.{fault_of}
+use Rattle.update_apply.specs.Fault.{Judges, fault_of}
+use Rattle.update_apply.proofs.Judged.{no-fault}
 use Rattle.update_apply.proofs.CellsKept.{features-after, vectors-after}
 use Rattle.update_apply.proofs.apply.apply_owned.Goals as goal
 
@@ -13,7 +14,7 @@ invariant_of-cell c =
     (subst (λ change. change.target.rcnm ≡ 100) c.change.view_is c.if-change-eq-FEATURE.true)
     c.cell.invariant
     (subst IsChange c.change.view_is c.change.invariant)
-    (ap (λ cell. fault_of cell c.args.change) c.cell.view_is ∙ sym c.in_ok-judge.ensures.fault)
+    (ap (λ cell. fault_of cell c.args.change) c.cell.view_is ∙ sym (no-fault _ _ c.in_ok-judge.ensures.fault))
     c.change_features_owned-done.ensures.ok
     c.change_features_owned-done.ensures.err
 
@@ -25,6 +26,9 @@ invariant_of-cell-else-change-eq-FEATURE c =
     (subst (λ change. change.target.rcnm ≢ 100) c.change.view_is c.if-change-eq-FEATURE.false)
     c.cell.invariant
     (subst IsChange c.change.view_is c.change.invariant)
-    (ap (λ cell. fault_of cell c.args.change) c.cell.view_is ∙ sym c.in_ok-judge.ensures.fault)
+    (ap (λ cell. fault_of cell c.args.change) c.cell.view_is ∙ sym (no-fault _ _ c.in_ok-judge.ensures.fault))
     c.change_vectors_owned-done.ensures.ok
     c.change_vectors_owned-done.ensures.err
+
+pub returns-clause-fault : goal.returns-clause-fault
+returns-clause-fault c = subst (Judges c.map_err.result) (no-fault _ _ c.in_ok-judge.ensures.fault) (search rules)

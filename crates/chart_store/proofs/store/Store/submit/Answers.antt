@@ -3,7 +3,6 @@ use Rattle.std.proofs.lemmas.Grind.{common_steps}
 use Rattle.std.proofs.lemmas.Result.{err_from_is_err_and}
 use Rattle.std.specs.FinMap as map
 use Rattle.chart_difference.specs.Difference.{AreChanged}
-use Rattle.chart_model.specs.Answers.{FailsBy}
 use Rattle.chart_model.specs.State.{StateValue}
 use Rattle.chart_model.specs.declared.state.Holding.{Holding}
 use Rattle.chart_ports.specs.Disk.{LeavesNoMoreOfOthers, SameOthers}
@@ -17,7 +16,9 @@ use Rattle.chart_store.specs.Next.{outcome_by}
 use Rattle.chart_store.specs.Outcome.{accepted}
 use Rattle.chart_store.specs.Store.{count_of, is_sound, pair_of, room_of, save_of, state_of}
 use Rattle.chart_store.specs.Submitted.{fault_of_taking, told}
+use Rattle.chart_model.specs.Answers.{FailsBy}
 use Rattle.chart_store.specs.Loaded.{chart_of}
+use Rattle.chart_store.proofs.Answering.{given-ok}
 use Rattle.chart_store.proofs.Holdings.{get-with}
 use Rattle.chart_store.proofs.Submitting.{no-call, append-call, append-moments, kept-stands, kept-after, not-desk, record-fails}
 use Rattle.chart_store.proofs.Submitting.{record-unread, taking-fails, appending-fails, accepted-as, passed-up, passed-is}
@@ -142,7 +143,7 @@ returns-in-Err-clause-outcome g c =
     subst (λ (fault : SubmitFault). FailsBy told fault (accepted live (room_of c.args.self.now) c.args.command))
     (sym c.from.ensures)
     (appending-fails live c.args.command (pair_of c.args.self.now) done _ c.in-Err.fault c.append.result
-    c.in_ok-key.ensures.after c.in_ok-framed.ensures.need c.in-Err.is
+    (given-ok _ _ c.in_ok-key.ensures.after) c.in_ok-framed.ensures.need c.in-Err.is
     (same-tells c.append.result (pair_of c.args.self.now) (value_of c.reserve.new.self) _ c.reserve.ensures.value
     c.append.ensures.full))
 
@@ -199,7 +200,7 @@ returns-in-Err-clause-moments g c = λ tells stood.
     let kept = c.requires.kept tells in
     append-moments g.D.Desk.clock g.D.Desk.might c.args.desk.now _ _ _ c.args.self.now kept stood c.args.command
     (outcome_by (state_of c.args.self.now) c.in_ok-key.field-0) _ c.in-Err.fault c.append.result
-    c.append.new.desk c.in_ok-key.ensures.after c.in_ok-framed.ensures.spelled c.in_ok-framed.ensures.need c.in-Err.is
+    c.append.new.desk (given-ok _ _ c.in_ok-key.ensures.after) c.in_ok-framed.ensures.spelled c.in_ok-framed.ensures.need c.in-Err.is
     (same-tells c.append.result (pair_of c.args.self.now) (value_of c.reserve.new.self) _ c.reserve.ensures.value
     c.append.ensures.full)
     (λ over. (c.append.ensures.unchanged (same-lacks (pair_of c.args.self.now) (value_of c.reserve.new.self) _
@@ -242,7 +243,7 @@ returns-clause-outcome g c =
     let next = c.in_ok-key.field-0 in
     let leaves : c.finish-old.new.self ≡ (outcome_by live next).state = c.finish-old.ensures.state
     ∙ c.in_ok-prepared.ensures.finished in
-    accepted-as live c.args.command (pair_of c.args.self.now) (outcome_by live next) c.in_ok-key.ensures.after
+    accepted-as live c.args.command (pair_of c.args.self.now) (outcome_by live next) (given-ok _ _ c.in_ok-key.ensures.after)
     (appended-within live c.args.command (pair_of c.args.self.now) _ c.append.result c.in_ok-framed.ensures.need
     (not_full_done c.append.result c.in_default.is) (same-tells c.append.result (pair_of c.args.self.now) (value_of c.reserve.new.self) _ c.reserve.ensures.value
     c.append.ensures.full))
@@ -278,7 +279,7 @@ pub returns-clause-kept : goal.returns-clause-kept
 returns-clause-kept g c = λ tells _.
     let kept = c.requires.kept tells in
     let done = outcome_by (state_of c.args.self.now) c.in_ok-key.field-0 in
-    kept-after _ _ c.args.self.now kept c.args.command done c.in_ok-key.ensures.after c.in_ok-framed.ensures.spelled
+    kept-after _ _ c.args.self.now kept c.args.command done (given-ok _ _ c.in_ok-key.ensures.after) c.in_ok-framed.ensures.spelled
     _ _ _ _ c.in_ok-framed.ensures.framed c.in_ok-framed.ensures.length
     (c.finish-old.ensures.state ∙ c.in_ok-prepared.ensures.finished)
     (appended-save (pair_of c.args.self.now) (value_of c.reserve.new.self) (value_of c.append.new.self) _
@@ -293,7 +294,7 @@ returns-clause-stands g c = λ tells stood no_desk images left.
     let kept = c.requires.kept tells in
     let done = outcome_by (state_of c.args.self.now) c.in_ok-key.field-0 in
     subst (StandFor images) (sym (c.finish-old.ensures.state ∙ c.in_ok-prepared.ensures.finished))
-    (stands-after _ _ c.args.self.now kept c.args.command done c.in_ok-key.ensures.after c.in_ok-framed.ensures.spelled
+    (stands-after _ _ c.args.self.now kept c.args.command done (given-ok _ _ c.in_ok-key.ensures.after) c.in_ok-framed.ensures.spelled
     stood _ _ (value_of c.append.new.self)
     (c.in_default.ensures.appended tells kept.content (spelling c.args.command)
     (subst (λ (p : PairValue). IsPairInStep (g.D.Desk.contents c.args.desk.now) (g.D.Desk.may_leave c.args.desk.now) p
@@ -306,7 +307,7 @@ returns-clause-stood g c = λ tells stood no_desk.
     let done = outcome_by (state_of c.args.self.now) c.in_ok-key.field-0 in
     subst (StandFor (images_of (g.D.Desk.contents c.append.new.desk)))
     (sym (c.finish-old.ensures.state ∙ c.in_ok-prepared.ensures.finished))
-    (read-after _ _ c.args.self.now kept c.args.command done c.in_ok-key.ensures.after c.in_ok-framed.ensures.spelled
+    (read-after _ _ c.args.self.now kept c.args.command done (given-ok _ _ c.in_ok-key.ensures.after) c.in_ok-framed.ensures.spelled
     stood _ _ (value_of c.append.new.self)
     (c.in_default.ensures.appended tells kept.content (spelling c.args.command)
     (subst (λ (p : PairValue). IsPairInStep (g.D.Desk.contents c.args.desk.now) (g.D.Desk.may_leave c.args.desk.now) p
@@ -319,8 +320,8 @@ returns-clause-moments g c = λ tells stood.
     let live = state_of c.args.self.now in
     let done = outcome_by live c.in_ok-key.field-0 in
     append-call g.D.Desk.clock g.D.Desk.might c.args.desk.now _ _ _ c.args.self.now kept stood c.args.command done
-    c.in_ok-key.ensures.after c.in_ok-framed.ensures.spelled _
-    (after-of live done _ (accepted-as live c.args.command (pair_of c.args.self.now) done c.in_ok-key.ensures.after
+    (given-ok _ _ c.in_ok-key.ensures.after) c.in_ok-framed.ensures.spelled _
+    (after-of live done _ (accepted-as live c.args.command (pair_of c.args.self.now) done (given-ok _ _ c.in_ok-key.ensures.after)
     (appended-within live c.args.command (pair_of c.args.self.now) _ c.append.result c.in_ok-framed.ensures.need
     (not_full_done c.append.result c.in_default.is) (same-tells c.append.result (pair_of c.args.self.now) (value_of c.reserve.new.self) _ c.reserve.ensures.value
     c.append.ensures.full))))
