@@ -5,7 +5,7 @@ use Rattle.std.specs.List.{join_with_byte}
 use Rattle.std.proofs.lemmas.Bool.{false_from_ne_true, true≢false, eqb-true, eq-eqb}
 use Rattle.common_lemmas.proofs.Choices.{chosen, some_is}
 use Rattle.script_reader.specs.declared.event.Event.{Event}
-use Rattle.script_reader.specs.declared.event.Event.TheVariants.{Info, Load, Rollback, Drop, Cells, Draw, Route, Save, SaveStep, Make, Reissue}
+use Rattle.script_reader.specs.declared.event.Event.TheVariants.{Info, Load, Rollback, Drop, Cells, Draw, Route, Save, SaveStep, Refresh, Paint, Panel, ClosePanel, Make, Reissue}
 use Rattle.script_reader.specs.declared.fault.LineFault.{LineFault}
 use Rattle.script_reader.specs.declared.fault.LineFault.TheVariants.{BadLine, NoMemory}
 use Rattle.script_reader.specs.Line.{AskFor, NamesFile, Spells, IsBad}
@@ -38,6 +38,10 @@ asked_speaks (Draw cell) words a = ap (λ (w : List (List ℕ)). is_silent (join
 asked_speaks (Route name) words a = ap (λ (w : List (List ℕ)). is_silent (join_with_byte 32 w)) a.0
 asked_speaks Save words a = ap (λ (w : List (List ℕ)). is_silent (join_with_byte 32 w)) a
 asked_speaks (SaveStep slices) words a = ap (λ (w : List (List ℕ)). is_silent (join_with_byte 32 w)) a.spoken
+asked_speaks (Refresh panel) words a = ap (λ (w : List (List ℕ)). is_silent (join_with_byte 32 w)) a.spoken
+asked_speaks (Paint panel calls) words a = ap (λ (w : List (List ℕ)). is_silent (join_with_byte 32 w)) a.spoken
+asked_speaks (Panel panel) words a = ap (λ (w : List (List ℕ)). is_silent (join_with_byte 32 w)) a.spoken
+asked_speaks (ClosePanel panel) words a = ap (λ (w : List (List ℕ)). is_silent (join_with_byte 32 w)) a.spoken
 asked_speaks (Make areas update) words a = ap (λ (w : List (List ℕ)). is_silent (join_with_byte 32 w)) a.spoken
 asked_speaks (Reissue cell) words a = ap (λ (w : List (List ℕ)). is_silent (join_with_byte 32 w)) a.0
 

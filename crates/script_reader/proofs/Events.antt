@@ -1,23 +1,21 @@
 -- A line is read as it is spelled.
-use Rattle.std.proofs.Common.{◌≡◌, ℕ, ◌≤◌, nat_le, Bool, true, false, cond, ◌&&◌, List, [], ◌∷◌, ◌++◌, length, Option, Some, None, refl, sym, ap, ◌∙◌, subst, inl, inr, arith, length-append}
-use Rattle.std.specs.Prelude.{codes, Result, Ok, Err, OnErr}
-use Rattle.std.specs.Option.{SomeIff}
-use Rattle.std.specs.List.{join_with_byte}
+use Rattle.std.proofs.Common.{◌≡◌, ℕ, ◌≤◌, nat_le, Bool, true, false, cond, not, eqb, ◌&&◌, List, [], ◌∷◌, ◌++◌, length, Some, None, refl, sym, ap, ◌∙◌, subst, inl, inr, arith, length-append}
+use Rattle.std.specs.Prelude.{codes}
+use Rattle.std.specs.List.{join_with_byte, list_all}
 use Rattle.std.specs.Str.{bytes_eq}
 use Rattle.std.proofs.lemmas.Bool.{and_parts}
 use Rattle.std.proofs.lemmas.List.Splits.{join_with_byte-slice_split}
-use Rattle.std.proofs.lemmas.Result.{on_err_weaker}
 use Rattle.std.proofs.lemmas.Slice.Eq.{bytes_eq-Decides}
 use Rattle.common_lemmas.proofs.Choices.{chosen, some_is}
-use Rattle.chart_model.specs.Key.{IsKey, is_key}
+use Rattle.chart_model.specs.Key.{is_key}
 use Rattle.text_scan.specs.Number.{value_of}
-use Rattle.script_reader.specs.Word.{IsWord, is_word}
+use Rattle.script_reader.specs.Word.{is_word}
 use Rattle.script_reader.specs.Number.{IsShortNumber, is_short_number}
 use Rattle.script_reader.specs.declared.event.Event.{Event}
-use Rattle.script_reader.specs.declared.event.Event.TheVariants.{Info, Load, Rollback, Drop, Cells, Draw, Route, Save, SaveStep, Make, Reissue}
-use Rattle.script_reader.specs.Line.{AreInRange, AskFor, CanBeMade, NamesFile, Spells}
-use Rattle.script_reader.specs.Reading.{info_in, load_in, rollback_in, drop_in, draw_in, route_in, save_step_with, save_step_in, can_be_made, make_with, make_in, reissue_in, event_alone, event_with_one, event_with_two, event_of}
-use Rattle.script_reader.proofs.WordTests.{KeysAreTested, Decides-word, Decides-short, Decides-some, Decides-made, no_short}
+use Rattle.script_reader.specs.declared.event.Event.TheVariants.{Info, Load, Rollback, Drop, Cells, Draw, Route, Save, SaveStep, Refresh, Paint, Panel, ClosePanel, Make, Reissue}
+use Rattle.script_reader.specs.Line.{AreInRange, AskFor, AskForPanel, CanBeMade, Spells}
+use Rattle.script_reader.specs.Reading.{info_in, load_in, rollback_in, drop_in, draw_in, route_in, save_step_with, save_step_in, refresh_in, paint_with, paint_in, panel_in, close_panel_in, can_be_made, make_with, make_in, reissue_in, event_alone, event_with_number, event_with_one, event_with_two, event_of}
+use Rattle.script_reader.proofs.WordTests.{KeysAreTested, Decides-word, Decides-short, Decides-some, Decides-made}
 use Rattle.text_lines.specs.Lines.{words_of}
 use Rattle.text_lines.proofs.Parting.{digits_lack, one_part}
 use Rattle.script_reader.proofs.Parting.{visible_lack, tested_lack, split_two, split_three}
@@ -78,6 +76,50 @@ found_save_step verb word event v e =
       | inr h ↦ absurd (let none = h.1 in cc)
     ]
 
+-- a verb and the number of a panel
+asked_panel : (verb word text : List ℕ) → verb ≡ text → is_short_number word ≡ true → AskForPanel text (value_of word) (verb ∷ word ∷ [])
+asked_panel verb word text v h = record {
+  digits = word;
+  spoken = ap (λ (l : List ℕ). l ∷ word ∷ []) v;
+  short = (Decides-short word).0 h;
+  value = refl;
+}
+
+found_refresh : (verb word : List ℕ) (event : Event) → verb ≡ codes "refresh" → refresh_in word ≡ Some event → AskFor event (verb ∷ word ∷ [])
+found_refresh verb word event v e =
+    let t = taken (is_short_number word) (Refresh (value_of word)) event e in
+    subst (λ (x : Event). AskFor x (verb ∷ word ∷ [])) t.1 (asked_panel verb word (codes "refresh") v t.0)
+
+found_panel : (verb word : List ℕ) (event : Event) → verb ≡ codes "panel" → panel_in word ≡ Some event → AskFor event (verb ∷ word ∷ [])
+found_panel verb word event v e =
+    let t = taken (is_short_number word) (Panel (value_of word)) event e in
+    subst (λ (x : Event). AskFor x (verb ∷ word ∷ [])) t.1 (asked_panel verb word (codes "panel") v t.0)
+
+found_close_panel : (verb word : List ℕ) (event : Event) → verb ≡ codes "close-panel" → close_panel_in word ≡ Some event → AskFor event (verb ∷ word ∷ [])
+found_close_panel verb word event v e =
+    let t = taken (is_short_number word) (ClosePanel (value_of word)) event e in
+    subst (λ (x : Event). AskFor x (verb ∷ word ∷ [])) t.1 (asked_panel verb word (codes "close-panel") v t.0)
+
+found_paint : (verb panel calls : List ℕ) (event : Event) → verb ≡ codes "paint" → paint_in panel calls ≡ Some event → AskFor event (verb ∷ panel ∷ calls ∷ [])
+found_paint verb panel calls event v e =
+    elim (chosen (is_short_number panel && is_short_number calls) (paint_with (value_of panel) (value_of calls)) None (Some event) e) [
+      | inl h ↦
+          let t = taken (nat_le 1 (value_of calls)) (Paint (value_of panel) (value_of calls)) event h.1 in
+          let p = and_parts (is_short_number panel) (is_short_number calls) h.0 in
+          subst (λ (x : Event). AskFor x (verb ∷ panel ∷ calls ∷ [])) t.1
+          (record {
+            panel_digits = panel;
+            call_digits = calls;
+            spoken = ap (λ (l : List ℕ). l ∷ panel ∷ calls ∷ []) v;
+            panel_short = (Decides-short panel).0 p.0;
+            calls_short = (Decides-short calls).0 p.1;
+            panel_value = refl;
+            calls_value = refl;
+            some = (Decides-some (value_of calls)).0 t.0;
+          })
+      | inr h ↦ absurd (let none = h.1 in cc)
+    ]
+
 found_make : (verb areas update : List ℕ) (event : Event) → verb ≡ codes "make" → make_in areas update ≡ Some event → AskFor event (verb ∷ areas ∷ update ∷ [])
 found_make verb areas update event v e =
     elim (chosen (is_short_number areas && is_short_number update) (make_with (value_of areas) (value_of update)) None (Some event) e) [
@@ -122,6 +164,22 @@ found_alone verb event e =
           subst (λ (x : Event). AskFor x (verb ∷ [])) t.1 (ap (λ (l : List ℕ). l ∷ []) (is_verb verb (codes "save") t.0))
     ]
 
+found_with_number : (verb word : List ℕ) (event : Event) → event_with_number verb word ≡ Some event → AskFor event (verb ∷ word ∷ [])
+found_with_number verb word event e =
+    elim (chosen (bytes_eq verb (codes "save-step")) (save_step_in word) _ (Some event) e) [
+      | inl h ↦ found_save_step verb word event (is_verb verb (codes "save-step") h.0) h.1
+      | inr h ↦ elim (chosen (bytes_eq verb (codes "refresh")) (refresh_in word) _ (Some event) h.1) [
+        | inl i ↦ found_refresh verb word event (is_verb verb (codes "refresh") i.0) i.1
+        | inr i ↦ elim (chosen (bytes_eq verb (codes "panel")) (panel_in word) _ (Some event) i.1) [
+          | inl j ↦ found_panel verb word event (is_verb verb (codes "panel") j.0) j.1
+          | inr j ↦ elim (chosen (bytes_eq verb (codes "close-panel")) (close_panel_in word) None (Some event) j.1) [
+            | inl k ↦ found_close_panel verb word event (is_verb verb (codes "close-panel") k.0) k.1
+            | inr k ↦ absurd (let none = k.1 in cc)
+          ]
+        ]
+      ]
+    ]
+
 found_with_one : KeysAreTested → (verb word : List ℕ) (event : Event) → event_with_one verb word ≡ Some event → AskFor event (verb ∷ word ∷ [])
 found_with_one tested verb word event e =
     elim (chosen (bytes_eq verb (codes "info")) (info_in word) _ (Some event) e) [
@@ -136,10 +194,7 @@ found_with_one tested verb word event e =
               | inl l ↦ found_route verb word event (is_verb verb (codes "route") l.0) l.1
               | inr l ↦ elim (chosen (bytes_eq verb (codes "reissue")) (reissue_in word) _ (Some event) l.1) [
                 | inl m ↦ found_reissue tested verb word event (is_verb verb (codes "reissue") m.0) m.1
-                | inr m ↦ elim (chosen (bytes_eq verb (codes "save-step")) (save_step_in word) None (Some event) m.1) [
-                  | inl n ↦ found_save_step verb word event (is_verb verb (codes "save-step") n.0) n.1
-                  | inr n ↦ absurd (let none = n.1 in cc)
-                ]
+                | inr m ↦ found_with_number verb word event m.1
               ]
             ]
           ]
@@ -152,9 +207,12 @@ found_with_two : KeysAreTested → (verb cell digits : List ℕ) (event : Event)
 found_with_two tested verb cell digits event e =
     elim (chosen (bytes_eq verb (codes "rollback")) (rollback_in cell digits) _ (Some event) e) [
       | inl h ↦ found_rollback tested verb cell digits event (is_verb verb (codes "rollback") h.0) h.1
-      | inr h ↦ elim (chosen (bytes_eq verb (codes "make")) (make_in cell digits) None (Some event) h.1) [
-        | inl i ↦ found_make verb cell digits event (is_verb verb (codes "make") i.0) i.1
-        | inr i ↦ absurd (let none = i.1 in cc)
+      | inr h ↦ elim (chosen (bytes_eq verb (codes "paint")) (paint_in cell digits) _ (Some event) h.1) [
+        | inl i ↦ found_paint verb cell digits event (is_verb verb (codes "paint") i.0) i.1
+        | inr i ↦ elim (chosen (bytes_eq verb (codes "make")) (make_in cell digits) None (Some event) i.1) [
+          | inl j ↦ found_make verb cell digits event (is_verb verb (codes "make") j.0) j.1
+          | inr j ↦ absurd (let none = j.1 in cc)
+        ]
       ]
     ]
 
@@ -178,6 +236,20 @@ found tested line event e = record {
 save_step_again : (slices : ℕ) (digits : List ℕ) → IsShortNumber digits → slices ≡ value_of digits → 1 ≤ slices → save_step_in digits ≡ Some (SaveStep slices)
 save_step_again slices digits short is some = rw ((Decides-short digits).1 short, sym is, (Decides-some slices).1 some) refl
 
+pub refresh_again : (panel : ℕ) (digits : List ℕ) → IsShortNumber digits → panel ≡ value_of digits → refresh_in digits ≡ Some (Refresh panel)
+refresh_again panel digits short is = rw ((Decides-short digits).1 short, sym is) refl
+
+pub panel_again : (panel : ℕ) (digits : List ℕ) → IsShortNumber digits → panel ≡ value_of digits → panel_in digits ≡ Some (Panel panel)
+panel_again panel digits short is = rw ((Decides-short digits).1 short, sym is) refl
+
+pub close_panel_again : (panel : ℕ) (digits : List ℕ) → IsShortNumber digits → panel ≡ value_of digits → close_panel_in digits ≡ Some (ClosePanel panel)
+close_panel_again panel digits short is = rw ((Decides-short digits).1 short, sym is) refl
+
+paint_again : (panel calls : ℕ) (panel_digits call_digits : List ℕ) → IsShortNumber panel_digits → IsShortNumber call_digits
+    → panel ≡ value_of panel_digits → calls ≡ value_of call_digits → 1 ≤ calls → paint_in panel_digits call_digits ≡ Some (Paint panel calls)
+paint_again panel calls panel_digits call_digits p k is of some =
+    rw ((Decides-short panel_digits).1 p, (Decides-short call_digits).1 k, sym is, sym of, (Decides-some calls).1 some) refl
+
 make_again : (areas update : ℕ) (area_digits update_digits : List ℕ) → IsShortNumber area_digits → IsShortNumber update_digits
     → areas ≡ value_of area_digits → update ≡ value_of update_digits → CanBeMade areas update → make_in area_digits update_digits ≡ Some (Make areas update)
 make_again areas update area_digits update_digits a u is of m =
@@ -194,10 +266,21 @@ asked_again tested (Draw cell) words a = ap event_of a.0 ∙ rw ((tested cell).1
 asked_again tested (Route name) words a = ap event_of a.0 ∙ rw ((Decides-word name).1 a.1) refl
 asked_again tested Save words a = ap event_of a
 asked_again tested (SaveStep slices) words a = ap event_of a.spoken ∙ save_step_again slices a.digits a.short a.value a.some
+asked_again tested (Refresh panel) words a = ap event_of a.spoken ∙ refresh_again panel a.digits a.short a.value
+asked_again tested (Paint panel calls) words a =
+    ap event_of a.spoken ∙ paint_again panel calls a.panel_digits a.call_digits a.panel_short a.calls_short a.panel_value a.calls_value a.some
+asked_again tested (Panel panel) words a = ap event_of a.spoken ∙ panel_again panel a.digits a.short a.value
+asked_again tested (ClosePanel panel) words a = ap event_of a.spoken ∙ close_panel_again panel a.digits a.short a.value
 asked_again tested (Make areas update) words a =
     ap event_of a.spoken ∙ make_again areas update a.area_digits a.update_digits a.areas_short a.update_short a.areas_value a.update_value a.ranges
 asked_again tested (Reissue cell) words a = ap event_of a.0 ∙ rw ((tested cell).1 a.1) refl
 asked_again tested Cells words a = ap event_of a
+
+split_panel : (verb : List ℕ) (panel : ℕ) (words : List (List ℕ)) → list_all (λ b. not (eqb b 32)) verb ≡ true → AskForPanel verb panel words
+    → words_of (join_with_byte 32 words) ≡ words
+split_panel verb panel words h a =
+    ap (λ (w : List (List ℕ)). words_of (join_with_byte 32 w)) a.spoken
+    ∙ split_two verb a.digits (tested_lack verb h) (digits_lack a.digits a.short.0.1) ∙ sym a.spoken
 
 pub split_again : (event : Event) (words : List (List ℕ)) → AskFor event words → words_of (join_with_byte 32 words) ≡ words
 split_again (Info name) words a =
@@ -224,6 +307,13 @@ split_again Save words a =
 split_again (SaveStep slices) words a =
     ap (λ (w : List (List ℕ)). words_of (join_with_byte 32 w)) a.spoken
     ∙ split_two (codes "save-step") a.digits (tested_lack (codes "save-step") refl) (digits_lack a.digits a.short.0.1) ∙ sym a.spoken
+split_again (Refresh panel) words a = split_panel (codes "refresh") panel words refl a
+split_again (Paint panel calls) words a =
+    ap (λ (w : List (List ℕ)). words_of (join_with_byte 32 w)) a.spoken
+    ∙ split_three (codes "paint") a.panel_digits a.call_digits (tested_lack (codes "paint") refl) (digits_lack a.panel_digits a.panel_short.0.1) (digits_lack a.call_digits a.calls_short.0.1)
+    ∙ sym a.spoken
+split_again (Panel panel) words a = split_panel (codes "panel") panel words refl a
+split_again (ClosePanel panel) words a = split_panel (codes "close-panel") panel words refl a
 split_again (Make areas update) words a =
     ap (λ (w : List (List ℕ)). words_of (join_with_byte 32 w)) a.spoken
     ∙ split_three (codes "make") a.area_digits a.update_digits (tested_lack (codes "make") refl) (digits_lack a.area_digits a.areas_short.0.1) (digits_lack a.update_digits a.update_short.0.1)
@@ -239,79 +329,6 @@ given tested line event s =
     ap (λ (l : List ℕ). event_of (words_of l)) s.parted
     ∙ ap event_of (split_again event s.words s.asking)
     ∙ asked_again tested event s.words s.asking
-
--- ---- the words of one verb
-
--- a value that there is exactly where a fact holds
-pub some_read : {X : Type 0} (P : Type 0) (o : Option X) (x v : X) → SomeIff o P v → o ≡ Some x → P × (x ≡ v)
-some_read {X} P o x v h e = subst (λ (y : Option X). SomeIff y P v) e h
-
-pub when_failed : {T E : Type 0} (P : Type 0) (r : Result T E) → P → OnErr r P
-when_failed P (Ok x) p = tt
-when_failed P (Err e) p = p
-
-pub info_read : (word name : List ℕ) → IsWord word → name ≡ word → Some (Info name) ≡ info_in word
-info_read word name is same = rw (same, (Decides-word word).1 is) refl
-
-pub route_read : (word name : List ℕ) → IsWord word → name ≡ word → Some (Route name) ≡ route_in word
-route_read word name is same = rw (same, (Decides-word word).1 is) refl
-
-pub load_read : (word name : List ℕ) → IsWord word → name ≡ word → Some (Load name) ≡ load_in word
-load_read word name is same = rw (same, (Decides-word word).1 is) refl
-
-pub info_again : (word : List ℕ) → IsWord word → info_in word ≡ Some (Info word)
-info_again word is = rw ((Decides-word word).1 is) refl
-
-pub route_again : (word : List ℕ) → IsWord word → route_in word ≡ Some (Route word)
-route_again word is = rw ((Decides-word word).1 is) refl
-
-pub load_again : (word : List ℕ) → IsWord word → load_in word ≡ Some (Load word)
-load_again word is = rw ((Decides-word word).1 is) refl
-
-pub rollback_read : KeysAreTested → (cell digits key : List ℕ) (number : ℕ) → IsKey cell → key ≡ cell → IsShortNumber digits → number ≡ value_of digits
-    → Some (Rollback key number) ≡ rollback_in cell digits
-rollback_read tested cell digits key number is same short value = rw (same, value, (tested cell).1 is, (Decides-short digits).1 short) refl
-
-pub rollback_missed : (cell digits : List ℕ) → ¬ IsShortNumber digits → None ≡ rollback_in cell digits
-rollback_missed cell digits other =
-    elim (is_key cell) as (λ b. None ≡ cond (b && is_short_number digits) (Some (Rollback cell (value_of digits))) None) [
-      | true ↦ rw (no_short digits other) refl
-      | false ↦ refl
-    ]
-
-pub save_step_read : (digits : List ℕ) (number : ℕ) → IsShortNumber digits → number ≡ value_of digits → save_step_with number ≡ save_step_in digits
-save_step_read digits number short is = rw (is, (Decides-short digits).1 short) refl
-
-pub save_step_missed : (digits : List ℕ) → ¬ IsShortNumber digits → None ≡ save_step_in digits
-save_step_missed digits other = rw (no_short digits other) refl
-
-pub make_read : (areas update : List ℕ) (number other : ℕ) → IsShortNumber areas → number ≡ value_of areas → IsShortNumber update → other ≡ value_of update
-    → make_with number other ≡ make_in areas update
-make_read areas update number other a is u of = rw (is, of, (Decides-short areas).1 a, (Decides-short update).1 u) refl
-
-pub make_without_areas : (areas update : List ℕ) → ¬ IsShortNumber areas → None ≡ make_in areas update
-make_without_areas areas update other = rw (no_short areas other) refl
-
-pub make_without_update : (areas update : List ℕ) → ¬ IsShortNumber update → None ≡ make_in areas update
-make_without_update areas update other =
-    elim (is_short_number areas) as (λ b. None ≡ cond (b && is_short_number update) (make_with (value_of areas) (value_of update)) None) [
-      | true ↦ rw (no_short update other) refl
-      | false ↦ refl
-    ]
-
--- memory that runs out at the name of a file, seen from the verb
-pub info_failed : {T E : Type 0} (verb word : List ℕ) (r : Result T E) → bytes_eq verb (codes "info") ≡ true → OnErr r (info_in word ≡ Some (Info word))
-    → OnErr r ((event : Event) × (event_with_one verb word ≡ Some event) × NamesFile event)
-info_failed verb word r is h = on_err_weaker r (λ e. (Info word, rw is e, tt)) h
-
-pub load_failed : {T E : Type 0} (verb word : List ℕ) (r : Result T E) → bytes_eq verb (codes "info") ≡ false → bytes_eq verb (codes "load") ≡ true
-    → OnErr r (load_in word ≡ Some (Load word)) → OnErr r ((event : Event) × (event_with_one verb word ≡ Some event) × NamesFile event)
-load_failed verb word r other is h = on_err_weaker r (λ e. (Load word, rw (other, is) e, tt)) h
-
-pub route_failed : {T E : Type 0} (verb word : List ℕ) (r : Result T E) → bytes_eq verb (codes "info") ≡ false → bytes_eq verb (codes "load") ≡ false
-    → bytes_eq verb (codes "drop") ≡ false → bytes_eq verb (codes "draw") ≡ false → bytes_eq verb (codes "route") ≡ true
-    → OnErr r (route_in word ≡ Some (Route word)) → OnErr r ((event : Event) × (event_with_one verb word ≡ Some event) × NamesFile event)
-route_failed verb word r info load drop draw is h = on_err_weaker r (λ e. (Route word, rw (info, load, drop, draw, is) e, tt)) h
 
 -- ---- what the line is
 
@@ -332,6 +349,14 @@ asked_short (Route name) words a =
 asked_short Save words a = omega (arith, ap (λ (w : List (List ℕ)). length (join_with_byte 32 w)) a)
 asked_short (SaveStep slices) words a =
     omega (arith, ap (λ (w : List (List ℕ)). length (join_with_byte 32 w)) a.spoken, length-append (codes "save-step") (32 ∷ a.digits), a.short.1)
+asked_short (Refresh panel) words a =
+    omega (arith, ap (λ (w : List (List ℕ)). length (join_with_byte 32 w)) a.spoken, length-append (codes "refresh") (32 ∷ a.digits), a.short.1)
+asked_short (Paint panel calls) words a =
+    omega (arith, ap (λ (w : List (List ℕ)). length (join_with_byte 32 w)) a.spoken, length-append (codes "paint") (32 ∷ (a.panel_digits ++ 32 ∷ a.call_digits)), length-append a.panel_digits (32 ∷ a.call_digits), a.panel_short.1, a.calls_short.1)
+asked_short (Panel panel) words a =
+    omega (arith, ap (λ (w : List (List ℕ)). length (join_with_byte 32 w)) a.spoken, length-append (codes "panel") (32 ∷ a.digits), a.short.1)
+asked_short (ClosePanel panel) words a =
+    omega (arith, ap (λ (w : List (List ℕ)). length (join_with_byte 32 w)) a.spoken, length-append (codes "close-panel") (32 ∷ a.digits), a.short.1)
 asked_short (Make areas update) words a =
     omega (arith, ap (λ (w : List (List ℕ)). length (join_with_byte 32 w)) a.spoken, length-append (codes "make") (32 ∷ (a.area_digits ++ 32 ∷ a.update_digits)), length-append a.area_digits (32 ∷ a.update_digits), a.areas_short.1, a.update_short.1)
 asked_short (Reissue cell) words a =
@@ -352,6 +377,10 @@ asked_in_range (Draw cell) words a = tt
 asked_in_range (Route name) words a = tt
 asked_in_range Save words a = tt
 asked_in_range (SaveStep slices) words a = a.some
+asked_in_range (Refresh panel) words a = tt
+asked_in_range (Paint panel calls) words a = a.some
+asked_in_range (Panel panel) words a = tt
+asked_in_range (ClosePanel panel) words a = tt
 asked_in_range (Make areas update) words a = a.ranges
 asked_in_range (Reissue cell) words a = tt
 

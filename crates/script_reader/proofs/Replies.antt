@@ -2,7 +2,7 @@
 use Rattle.std.proofs.Common.{ℕ, ◌<◌, List, [], ◌∷◌, ◌++◌, codes, length, length-append, arith}
 use Rattle.script_reader.specs.Reply.{line_of, number, bytes_of_reply, words_if}
 use Rattle.script_reader.specs.declared.reply.Reply.{Reply}
-use Rattle.script_reader.specs.declared.reply.Reply.TheVariants.{Info, Load, Cancel, Rollback, Drop, Cells, Draw, Route, Save, SaveStep, Saved, Make, Reissue, Refused}
+use Rattle.script_reader.specs.declared.reply.Reply.TheVariants.{Info, Load, Cancel, Rollback, Drop, Cells, Draw, Route, Save, SaveStep, Saved, Refresh, Paint, Panel, ClosePanel, Make, Reissue, Refused}
 
 -- a line has its line feed at least, whatever follows it
 line-spoken : (words : List (List ℕ)) → 0 < length (line_of words)
@@ -27,6 +27,12 @@ reply-spoken (Route legs count lines) = lines-spoken (codes "ok" ∷ codes "rout
 reply-spoken (Save slices) = line-spoken (codes "ok" ∷ codes "save" ∷ number slices ∷ [])
 reply-spoken (SaveStep done slices) = line-spoken (codes "ok" ∷ codes "save-step" ∷ number done ∷ number slices ∷ [])
 reply-spoken Saved = line-spoken (codes "ok" ∷ codes "saved" ∷ [])
+reply-spoken (Refresh panel calls) = line-spoken (codes "ok" ∷ codes "refresh" ∷ number panel ∷ number calls ∷ [])
+reply-spoken (Paint panel done calls) =
+    line-spoken (codes "ok" ∷ codes "paint" ∷ number panel ∷ number done ∷ number calls ∷ [])
+reply-spoken (Panel panel blocks items) =
+    line-spoken (codes "ok" ∷ codes "panel" ∷ number panel ∷ number blocks ∷ number items ∷ [])
+reply-spoken (ClosePanel panel) = line-spoken (codes "ok" ∷ codes "close-panel" ∷ number panel ∷ [])
 reply-spoken (Make key edition update records) =
     line-spoken (codes "ok" ∷ codes "make" ∷ key ∷ number edition ∷ number update ∷ number records ∷ [])
 reply-spoken (Reissue key edition update) =

@@ -9,7 +9,8 @@ use Rattle.script_reader.specs.Word.{IsWord}
 use Rattle.script_reader.specs.Number.{IsShortNumber}
 use Rattle.script_reader.specs.declared.event.Event.{Event}
 use Rattle.script_reader.specs.declared.event.Event.TheVariants.{Info, Load, Rollback, Drop, Cells, Draw, Route}
-use Rattle.script_reader.specs.declared.event.Event.TheVariants.{Save, SaveStep, Make, Reissue}
+use Rattle.script_reader.specs.declared.event.Event.TheVariants.{Save, SaveStep, Refresh, Paint, Panel}
+use Rattle.script_reader.specs.declared.event.Event.TheVariants.{ClosePanel, Make, Reissue}
 
 -- `rollback`, a cell and the digits of an update's number
 pub record AskForRollback (cell : List ℕ) (update : ℕ) (words : List (List ℕ)) : Type 0 where
@@ -26,6 +27,24 @@ pub record AskForSaveStep (slices : ℕ) (words : List (List ℕ)) : Type 0 wher
   pub short : IsShortNumber digits
   pub value : slices ≡ value_of digits
   pub some : 1 ≤ slices
+
+-- a verb and the digits of a panel's number
+pub record AskForPanel (verb : List ℕ) (panel : ℕ) (words : List (List ℕ)) : Type 0 where
+  pub digits : List ℕ
+  pub spoken : words ≡ verb ∷ digits ∷ []
+  pub short : IsShortNumber digits
+  pub value : panel ≡ value_of digits
+
+-- `paint`, the digits of a panel's number, and those of a number of calls, 1 at least
+pub record AskForPaint (panel calls : ℕ) (words : List (List ℕ)) : Type 0 where
+  pub panel_digits : List ℕ
+  pub call_digits : List ℕ
+  pub spoken : words ≡ codes "paint" ∷ panel_digits ∷ call_digits ∷ []
+  pub panel_short : IsShortNumber panel_digits
+  pub calls_short : IsShortNumber call_digits
+  pub panel_value : panel ≡ value_of panel_digits
+  pub calls_value : calls ≡ value_of call_digits
+  pub some : 1 ≤ calls
 
 -- so many areas, 1 to 20,000, and the number of an update, up to 999, where 0 is the base file
 pub record CanBeMade (areas update : ℕ) : Type 0 where
@@ -54,6 +73,10 @@ AskFor (Draw cell) words = (words ≡ codes "draw" ∷ cell ∷ []) × IsKey cel
 AskFor (Route name) words = (words ≡ codes "route" ∷ name ∷ []) × IsWord name
 AskFor Save words = words ≡ codes "save" ∷ []
 AskFor (SaveStep slices) words = AskForSaveStep slices words
+AskFor (Refresh panel) words = AskForPanel (codes "refresh") panel words
+AskFor (Paint panel calls) words = AskForPaint panel calls words
+AskFor (Panel panel) words = AskForPanel (codes "panel") panel words
+AskFor (ClosePanel panel) words = AskForPanel (codes "close-panel") panel words
 AskFor (Make areas update) words = AskForMake areas update words
 AskFor (Reissue cell) words = (words ≡ codes "reissue" ∷ cell ∷ []) × IsKey cell
 
@@ -68,6 +91,10 @@ NamesFile (Draw cell) = ⊥
 NamesFile (Route name) = ⊤
 NamesFile Save = ⊥
 NamesFile (SaveStep slices) = ⊥
+NamesFile (Refresh panel) = ⊥
+NamesFile (Paint panel calls) = ⊥
+NamesFile (Panel panel) = ⊥
+NamesFile (ClosePanel panel) = ⊥
 NamesFile (Make areas update) = ⊥
 NamesFile (Reissue cell) = ⊥
 
@@ -82,6 +109,10 @@ AreInRange (Draw cell) = ⊤
 AreInRange (Route name) = ⊤
 AreInRange Save = ⊤
 AreInRange (SaveStep slices) = 1 ≤ slices
+AreInRange (Refresh panel) = ⊤
+AreInRange (Paint panel calls) = 1 ≤ calls
+AreInRange (Panel panel) = ⊤
+AreInRange (ClosePanel panel) = ⊤
 AreInRange (Make areas update) = CanBeMade areas update
 AreInRange (Reissue cell) = ⊤
 

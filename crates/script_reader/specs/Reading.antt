@@ -9,7 +9,8 @@ use Rattle.script_reader.specs.Word.{is_word}
 use Rattle.script_reader.specs.Number.{is_short_number}
 use Rattle.script_reader.specs.declared.event.Event.{Event}
 use Rattle.script_reader.specs.declared.event.Event.TheVariants.{Info, Load, Rollback, Drop, Cells, Draw, Route}
-use Rattle.script_reader.specs.declared.event.Event.TheVariants.{Save, SaveStep, Make, Reissue}
+use Rattle.script_reader.specs.declared.event.Event.TheVariants.{Save, SaveStep, Refresh, Paint, Panel}
+use Rattle.script_reader.specs.declared.event.Event.TheVariants.{ClosePanel, Make, Reissue}
 use Rattle.script_reader.specs.declared.fault.LineFault.{LineFault}
 use Rattle.script_reader.specs.Line.{NamesFile}
 use Rattle.script_reader.specs.declared.fault.LineFault.TheVariants.{BadLine, NoMemory}
@@ -40,6 +41,22 @@ save_step_with slices = if nat_le 1 slices then Some (SaveStep slices) else None
 abbrev pub save_step_in : List ℕ → Option Event
 save_step_in digits = if is_short_number digits then save_step_with (value_of digits) else None
 
+abbrev pub refresh_in : List ℕ → Option Event
+refresh_in digits = if is_short_number digits then Some (Refresh (value_of digits)) else None
+
+abbrev pub paint_with : ℕ → ℕ → Option Event
+paint_with panel calls = if nat_le 1 calls then Some (Paint panel calls) else None
+
+abbrev pub paint_in : List ℕ → List ℕ → Option Event
+paint_in panel calls =
+    if is_short_number panel && is_short_number calls then paint_with (value_of panel) (value_of calls) else None
+
+abbrev pub panel_in : List ℕ → Option Event
+panel_in digits = if is_short_number digits then Some (Panel (value_of digits)) else None
+
+abbrev pub close_panel_in : List ℕ → Option Event
+close_panel_in digits = if is_short_number digits then Some (ClosePanel (value_of digits)) else None
+
 abbrev pub can_be_made : ℕ → ℕ → Bool
 can_be_made areas update = nat_le 1 areas && (nat_le areas 20000 && nat_le update 999)
 
@@ -53,11 +70,19 @@ make_in areas update =
 abbrev pub reissue_in : List ℕ → Option Event
 reissue_in cell = if is_key cell then Some (Reissue cell) else None
 
--- a verb that takes no word, one word, or two
+-- a verb that takes no word, one number, one word, or two
 abbrev pub event_alone : List ℕ → Option Event
 event_alone verb =
     if bytes_eq verb (codes "cells") then Some Cells
     else if bytes_eq verb (codes "save") then Some Save
+    else None
+
+abbrev pub event_with_number : List ℕ → List ℕ → Option Event
+event_with_number verb digits =
+    if bytes_eq verb (codes "save-step") then save_step_in digits
+    else if bytes_eq verb (codes "refresh") then refresh_in digits
+    else if bytes_eq verb (codes "panel") then panel_in digits
+    else if bytes_eq verb (codes "close-panel") then close_panel_in digits
     else None
 
 abbrev pub event_with_one : List ℕ → List ℕ → Option Event
@@ -68,12 +93,12 @@ event_with_one verb word =
     else if bytes_eq verb (codes "draw") then draw_in word
     else if bytes_eq verb (codes "route") then route_in word
     else if bytes_eq verb (codes "reissue") then reissue_in word
-    else if bytes_eq verb (codes "save-step") then save_step_in word
-    else None
+    else event_with_number verb word
 
 abbrev pub event_with_two : List ℕ → List ℕ → List ℕ → Option Event
 event_with_two verb first second =
     if bytes_eq verb (codes "rollback") then rollback_in first second
+    else if bytes_eq verb (codes "paint") then paint_in first second
     else if bytes_eq verb (codes "make") then make_in first second
     else None
 

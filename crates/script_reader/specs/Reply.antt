@@ -4,7 +4,8 @@ use Rattle.std.specs.List.{join_with_byte}
 use Rattle.text_scan.specs.Written.{decimal_of}
 use Rattle.script_reader.specs.declared.reply.Reply.{Reply}
 use Rattle.script_reader.specs.declared.reply.Reply.TheVariants.{Info, Load, Cancel, Rollback, Drop, Cells, Draw}
-use Rattle.script_reader.specs.declared.reply.Reply.TheVariants.{Route, Save, SaveStep, Saved, Make, Reissue, Refused}
+use Rattle.script_reader.specs.declared.reply.Reply.TheVariants.{Route, Save, SaveStep, Saved, Refresh, Paint, Panel}
+use Rattle.script_reader.specs.declared.reply.Reply.TheVariants.{ClosePanel, Make, Reissue, Refused}
 
 -- the decimal text of a number
 abbrev pub number : ℕ → List ℕ
@@ -36,6 +37,12 @@ bytes_of_reply (Save slices) = line_of (codes "ok" ∷ codes "save" ∷ number s
 bytes_of_reply (SaveStep done slices) =
     line_of (codes "ok" ∷ codes "save-step" ∷ number done ∷ number slices ∷ [])
 bytes_of_reply Saved = line_of (codes "ok" ∷ codes "saved" ∷ [])
+bytes_of_reply (Refresh panel calls) = line_of (codes "ok" ∷ codes "refresh" ∷ number panel ∷ number calls ∷ [])
+bytes_of_reply (Paint panel done calls) =
+    line_of (codes "ok" ∷ codes "paint" ∷ number panel ∷ number done ∷ number calls ∷ [])
+bytes_of_reply (Panel panel blocks items) =
+    line_of (codes "ok" ∷ codes "panel" ∷ number panel ∷ number blocks ∷ number items ∷ [])
+bytes_of_reply (ClosePanel panel) = line_of (codes "ok" ∷ codes "close-panel" ∷ number panel ∷ [])
 bytes_of_reply (Make key edition update records) =
     line_of (codes "ok" ∷ codes "make" ∷ key ∷ number edition ∷ number update ∷ number records ∷ [])
 bytes_of_reply (Reissue key edition update) =

@@ -8,7 +8,9 @@ ghost use Rattle.script_reader.specs.declared.event.Event.TheVariants.{Info, Loa
 ghost use Rattle.script_reader.specs.Line.{NamesFile};
 ghost use Rattle.script_reader.specs.Reading.{info_in, load_in, rollback_in, drop_in, draw_in, route_in};
 ghost use Rattle.script_reader.specs.Reading.{make_in, make_with, reissue_in, save_step_in, save_step_with};
-ghost use Rattle.script_reader.specs.Reading.{event_alone, event_with_one, event_with_two, event_of};
+ghost use Rattle.script_reader.specs.Reading.{refresh_in, paint_in, paint_with, panel_in, close_panel_in};
+ghost use Rattle.script_reader.specs.Reading.{event_alone, event_with_number, event_with_one, event_with_two};
+ghost use Rattle.script_reader.specs.Reading.{event_of};
 ghost use Rattle.text_lines.specs.Lines.{words_of};
 
 use crate::word::Word;
@@ -44,6 +46,14 @@ pub enum Event {
     Save,
     /// The next slices of the save are written, so many, 1 at least, or those that are left.
     SaveStep(u32),
+    /// The panel of this number is to show the charts that are held now.
+    Refresh(u32),
+    /// The next calls of the refresh of the panel of this number are made, so many, 1 at least, or those that are left.
+    Paint(u32, u32),
+    /// How much the panel of this number shows.
+    Panel(u32),
+    /// The panel of this number is taken out: those behind it move down by one.
+    ClosePanel(u32),
     /// A file is made and taken over: of the cell for trials with so many areas, 1 to 20,000, the base file where the
     /// second number is 0, or else its update of this number, 1 to 999.
     Make(u32, u32),
@@ -144,6 +154,50 @@ fn save_step_of(slices: &[u8]) -> Option<Event>
     save_step_with(slices)
 }
 
+/// `refresh` and the number of a panel.
+fn refresh_of(panel: &[u8]) -> Option<Event>
+    ensures { result ≡ refresh_in panel.now }
+{
+    let panel = read_short(panel)?;
+    Some(Event::Refresh(panel))
+}
+
+/// The number of a panel and so many calls, where they are 1 at least.
+fn paint_with(panel: u32, calls: u32) -> Option<Event>
+    ensures { result ≡ paint_with panel calls }
+{
+    if 1 <= calls {
+        Some(Event::Paint(panel, calls))
+    } else {
+        None
+    }
+}
+
+/// `paint`, the number of a panel and a number of calls.
+fn paint_of(panel: &[u8], calls: &[u8]) -> Option<Event>
+    ensures { result ≡ paint_in panel.now calls.now }
+{
+    let panel = read_short(panel)?;
+    let calls = read_short(calls)?;
+    paint_with(panel, calls)
+}
+
+/// `panel` and its number.
+fn panel_of(panel: &[u8]) -> Option<Event>
+    ensures { result ≡ panel_in panel.now }
+{
+    let panel = read_short(panel)?;
+    Some(Event::Panel(panel))
+}
+
+/// `close-panel` and the number of a panel.
+fn close_panel_of(panel: &[u8]) -> Option<Event>
+    ensures { result ≡ close_panel_in panel.now }
+{
+    let panel = read_short(panel)?;
+    Some(Event::ClosePanel(panel))
+}
+
 /// So many areas and the number of an update, where there is such a file.
 fn make_with(areas: u32, update: u32) -> Option<Event>
     ensures { result ≡ make_with areas update }
@@ -173,6 +227,23 @@ fn reissue_of(cell: &[u8]) -> Option<Event>
     Some(Event::Reissue(cell))
 }
 
+/// What a verb and one number ask for.
+fn event_with_number(verb: &[u8], digits: &[u8]) -> Option<Event>
+    ensures { result ≡ event_with_number verb.now digits.now }
+{
+    if verb == b"save-step".as_slice() {
+        save_step_of(digits)
+    } else if verb == b"refresh".as_slice() {
+        refresh_of(digits)
+    } else if verb == b"panel".as_slice() {
+        panel_of(digits)
+    } else if verb == b"close-panel".as_slice() {
+        close_panel_of(digits)
+    } else {
+        None
+    }
+}
+
 /// What a verb and one word ask for.
 fn event_with_one(alloc: Global, verb: &[u8], word: &[u8]) -> Result<Option<Event>, AllocError>
     ensures event { IfOk result (λ event. event ≡ event_with_one verb.now word.now) }
@@ -191,10 +262,8 @@ fn event_with_one(alloc: Global, verb: &[u8], word: &[u8]) -> Result<Option<Even
         route_of(alloc, word)
     } else if verb == b"reissue".as_slice() {
         Ok(reissue_of(word))
-    } else if verb == b"save-step".as_slice() {
-        Ok(save_step_of(word))
     } else {
-        Ok(None)
+        Ok(event_with_number(verb, word))
     }
 }
 
@@ -204,6 +273,8 @@ fn event_with_two(verb: &[u8], first: &[u8], second: &[u8]) -> Option<Event>
 {
     if verb == b"rollback".as_slice() {
         rollback_of(first, second)
+    } else if verb == b"paint".as_slice() {
+        paint_of(first, second)
     } else if verb == b"make".as_slice() {
         make_of(first, second)
     } else {

@@ -2,8 +2,8 @@
 //!
 //! A line is a verb and the words that it takes, parted by single spaces. Nothing stands before the
 //! first word, nor behind the last; a line feed and a carriage return are removed before. NAME is 1 to
-//! 255 visible ASCII characters (0x21 to 0x7E), CELL 1 to 32 of them, N and U 1 to 9 digits, of which N is at least 1;
-//! those of `make` are 1 to 20,000 and 0 to 999.
+//! 255 visible ASCII characters (0x21 to 0x7E), CELL 1 to 32 of them, K, N and U 1 to 9 digits, of which N is at least
+//! 1; those of `make` are 1 to 20,000 and 0 to 999.
 //!
 //! - `info NAME`: what the file says of itself, `ok info KEY EDITION UPDATE RECORDS`;
 //! - `load NAME`: the file is taken over, `ok load KEY EDITION UPDATE`, or `ok cancel KEY`;
@@ -15,6 +15,10 @@
 //! - `save`: what is held is to be saved as it is now, `ok save SLICES`;
 //! - `save-step N`: the next N slices of that are written, or those that are left, `ok save-step DONE SLICES`, or
 //!   `ok saved`;
+//! - `refresh K`: the panel K is to show the charts that are held now, `ok refresh K CALLS`;
+//! - `paint K N`: the next N calls of that are made, or those that are left, `ok paint K DONE CALLS`;
+//! - `panel K`: how much the panel K shows, `ok panel K BLOCKS ITEMS`;
+//! - `close-panel K`: the panel K is taken out, and those behind it move down by one, `ok close-panel K`;
 //! - `make N U`: a file of the cell for trials with N areas is made and taken over, its base file where U is 0, or else
 //!   its update U, `ok make KEY EDITION UPDATE RECORDS`;
 //! - `reissue CELL`: the chart of the cell is written and taken over, `ok reissue KEY EDITION UPDATE`.

@@ -36,6 +36,14 @@ pub enum Reply {
     SaveStep(u32, u32),
     /// All slices of the save are written, and the store goes on from it.
     Saved,
+    /// The panel of this number is to show the charts that are held now, by so many calls.
+    Refresh(u32, u64),
+    /// Of the refresh of the panel of this number so many calls are made, of so many.
+    Paint(u32, u64, u64),
+    /// The panel of this number shows so many blocks, and so many items in them.
+    Panel(u32, u64, u64),
+    /// The panel of this number was taken out.
+    ClosePanel(u32),
     /// A file of this cell was made and taken over: the edition and the update that are held now, and the number of the
     /// file's data records.
     Make(Key, u32, u32, u64),
@@ -175,6 +183,47 @@ fn print_saved(alloc: Global) -> Result<Octets, AllocError>
     Ok(line)
 }
 
+/// The line of the number of a panel and of the calls of its refresh.
+fn print_refresh(alloc: Global, panel: u32, calls: u64) -> Result<Octets, AllocError>
+    ensures { IfOk result (λ line. line
+        ≡ line_of (codes "ok" ∷ codes "refresh" ∷ number panel ∷ number calls ∷ [])) }
+{
+    let mut line = accepted(alloc, b"refresh")?;
+    push_number(alloc, &mut line, panel as u64)?;
+    push_number(alloc, &mut line, calls)?;
+    end_line(&mut line)?;
+    Ok(line)
+}
+
+/// The line of a verb, the number of a panel, and two numbers that tell of it.
+fn print_panel(
+    alloc: Global,
+    verb: &[u8],
+    panel: u32,
+    first: u64,
+    second: u64,
+) -> Result<Octets, AllocError>
+    ensures { IfOk result (λ line. line
+        ≡ line_of (codes "ok" ∷ verb.now ∷ number panel ∷ number first ∷ number second ∷ [])) }
+{
+    let mut line = accepted(alloc, verb)?;
+    push_number(alloc, &mut line, panel as u64)?;
+    push_number(alloc, &mut line, first)?;
+    push_number(alloc, &mut line, second)?;
+    end_line(&mut line)?;
+    Ok(line)
+}
+
+/// The line of the number of a panel that was taken out.
+fn print_close_panel(alloc: Global, panel: u32) -> Result<Octets, AllocError>
+    ensures { IfOk result (λ line. line ≡ line_of (codes "ok" ∷ codes "close-panel" ∷ number panel ∷ [])) }
+{
+    let mut line = accepted(alloc, b"close-panel")?;
+    push_number(alloc, &mut line, panel as u64)?;
+    end_line(&mut line)?;
+    Ok(line)
+}
+
 /// The line of a refusal.
 fn print_refusal(alloc: Global, code: u8, values: &Octets) -> Result<Octets, AllocError>
     ensures { IfOk result (λ line. line ≡ line_of (codes "no" ∷ number code ∷ words_if values.now)) }
@@ -212,6 +261,10 @@ pub fn print_reply(alloc: Global, reply: &Reply) -> Result<Octets, AllocError>
         Reply::Save(slices) => print_save(alloc, *slices),
         Reply::SaveStep(done, slices) => print_save_step(alloc, *done, *slices),
         Reply::Saved => print_saved(alloc),
+        Reply::Refresh(panel, calls) => print_refresh(alloc, *panel, *calls),
+        Reply::Paint(panel, done, calls) => print_panel(alloc, b"paint", *panel, *done, *calls),
+        Reply::Panel(panel, blocks, items) => print_panel(alloc, b"panel", *panel, *blocks, *items),
+        Reply::ClosePanel(panel) => print_close_panel(alloc, *panel),
         Reply::Make(key, edition, update, records) => {
             print_file(alloc, b"make", key, *edition, *update, *records)
         }

@@ -32,6 +32,12 @@ fn shown(alloc: Global, event: &Event) -> Result<Vec<u8>, AllocError> {
         Event::Route(name) => Ok(format!(in alloc; "route {}", name.as_str())?.into_bytes()),
         Event::Save => Vec::from_slice(alloc, b"save"),
         Event::SaveStep(slices) => Ok(format!(in alloc; "save {slices} more")?.into_bytes()),
+        Event::Refresh(panel) => Ok(format!(in alloc; "refresh of {panel}")?.into_bytes()),
+        Event::Paint(panel, calls) => {
+            Ok(format!(in alloc; "{calls} calls of {panel}")?.into_bytes())
+        }
+        Event::Panel(panel) => Ok(format!(in alloc; "what {panel} shows")?.into_bytes()),
+        Event::ClosePanel(panel) => Ok(format!(in alloc; "{panel} taken out")?.into_bytes()),
         Event::Make(areas, update) => {
             Ok(format!(in alloc; "make {areas} and {update}")?.into_bytes())
         }
@@ -63,7 +69,7 @@ fn with_letters(alloc: Global, front: &[u8], count: usize) -> Result<Vec<u8>, Al
 }
 
 /// A line, and what it is read as.
-static LINES: [(&[u8], &[u8]); 73] = [
+static LINES: [(&[u8], &[u8]); 103] = [
     (b"", b"nothing"),
     (b"#", b"nothing"),
     (b"# cells", b"nothing"),
@@ -93,6 +99,15 @@ static LINES: [(&[u8], &[u8]); 73] = [
     (b"save-step 1", b"save 1 more"),
     (b"save-step 000000017", b"save 17 more"),
     (b"save-step 999999999", b"save 999999999 more"),
+    (b"refresh 1", b"refresh of 1"),
+    (b"refresh 000000000", b"refresh of 0"),
+    (b"paint 2 1", b"1 calls of 2"),
+    (b"paint 0 999999999", b"999999999 calls of 0"),
+    (b"paint 999999999 000000017", b"17 calls of 999999999"),
+    (b"panel 3", b"what 3 shows"),
+    (b"panel 0", b"what 0 shows"),
+    (b"close-panel 999999999", b"999999999 taken out"),
+    (b"close-panel 00", b"0 taken out"),
     // no words, or not these
     (b" ", b"bad 7"),
     (b"\r", b"bad 7"),
@@ -136,6 +151,27 @@ static LINES: [(&[u8], &[u8]); 73] = [
     (b"save-step 0000000001", b"bad 7"),
     (b"save-step 1 1", b"bad 7"),
     (b"save_step 1", b"bad 7"),
+    (b"refresh", b"bad 7"),
+    (b"refresh x", b"bad 7"),
+    (b"refresh 0000000001", b"bad 7"),
+    (b"refresh 1 1", b"bad 7"),
+    (b"paint", b"bad 7"),
+    (b"paint 1", b"bad 7"),
+    (b"paint 1 0", b"bad 7"),
+    (b"paint x 1", b"bad 7"),
+    (b"paint 1 x", b"bad 7"),
+    (b"paint 0000000001 1", b"bad 7"),
+    (b"paint 1 0000000001", b"bad 7"),
+    (b"paint 1 1 1", b"bad 7"),
+    (b"panel", b"bad 7"),
+    (b"panel x", b"bad 7"),
+    (b"panel 1234567890", b"bad 7"),
+    (b"panel 1 1", b"bad 7"),
+    (b"close-panel", b"bad 7"),
+    (b"close-panel x", b"bad 7"),
+    (b"close-panel 1234567890", b"bad 7"),
+    (b"close-panel 1 1", b"bad 7"),
+    (b"close_panel 1", b"bad 7"),
     (b"rollback X", b"bad 7"),
     (b"rollback X 1234567890", b"bad 7"),
     (b"rollback X +1", b"bad 7"),
@@ -187,7 +223,7 @@ fn octets(alloc: Global, text: &[u8]) -> Result<Octets, AllocError> {
 #[test]
 fn replies(rt: HostRuntime) -> Result<(), Fail> {
     let key = Key::from_bytes(b"AA5TEST1").ok_or("a key")?;
-    let cases: [(Reply, &[u8]); 10] = [
+    let cases: [(Reply, &[u8]); 14] = [
         (
             Reply::Info(key, 1, 2, 18_446_744_073_709_551_615),
             b"ok info AA5TEST1 1 2 18446744073709551615\n",
@@ -205,6 +241,16 @@ fn replies(rt: HostRuntime) -> Result<(), Fail> {
             b"ok save-step 16 4294967295\n",
         ),
         (Reply::Saved, b"ok saved\n"),
+        (Reply::Refresh(1, 0), b"ok refresh 1 0\n"),
+        (
+            Reply::Paint(2, 16, 18_446_744_073_709_551_615),
+            b"ok paint 2 16 18446744073709551615\n",
+        ),
+        (Reply::Panel(3, 21, 43), b"ok panel 3 21 43\n"),
+        (
+            Reply::ClosePanel(4_294_967_295),
+            b"ok close-panel 4294967295\n",
+        ),
         (Reply::Make(key, 1, 10, 435), b"ok make AA5TEST1 1 10 435\n"),
         (Reply::Reissue(key, 1, 2), b"ok reissue AA5TEST1 1 2\n"),
     ];

@@ -1,7 +1,7 @@
 use Rattle.std.proofs.Common.{◌≡◌, true, false, rules}
 use Rattle.std.specs.Prelude.{codes}
 use Rattle.std.specs.Str.{bytes_eq}
-use Rattle.script_reader.proofs.Events.{info_failed, load_failed, route_failed}
+use Rattle.script_reader.proofs.Verbs.{info_failed, load_failed, route_failed}
 use Rattle.script_reader.proofs.event.event_with_one.Goals as goal
 
 pub returns-then-eq-clause-memory : goal.returns-then-eq-clause-memory

@@ -1,4 +1,4 @@
-use Rattle.script_reader.proofs.Events.{info_read, info_again, some_read, when_failed}
+use Rattle.script_reader.proofs.Verbs.{info_read, info_again, some_read, when_failed}
 use Rattle.script_reader.proofs.event.info_of.Goals as goal
 
 pub returns-in_err-name-clause-memory : goal.returns-in_err-name-clause-memory

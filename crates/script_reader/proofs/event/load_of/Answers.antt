@@ -1,4 +1,4 @@
-use Rattle.script_reader.proofs.Events.{load_read, load_again, some_read, when_failed}
+use Rattle.script_reader.proofs.Verbs.{load_read, load_again, some_read, when_failed}
 use Rattle.script_reader.proofs.event.load_of.Goals as goal
 
 pub returns-in_err-name-clause-memory : goal.returns-in_err-name-clause-memory

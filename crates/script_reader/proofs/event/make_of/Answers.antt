@@ -1,14 +1,14 @@
 use Rattle.std.proofs.Common.{◌∙◌}
-use Rattle.script_reader.proofs.Events.{make_read, make_without_areas, make_without_update}
+use Rattle.script_reader.proofs.Verbs.{make_read, first_missed, second_missed}
 use Rattle.script_reader.proofs.event.make_of.Goals as goal
 
 pub returns-in_err-areas : goal.returns-in_err-areas
 returns-in_err-areas c =
-    c.from_residual.ensures ∙ make_without_areas c.args.areas.now c.args.update.now c.in_err-areas.ensures
+    c.from_residual.ensures ∙ first_missed _ c.args.areas.now c.args.update.now c.in_err-areas.ensures
 
 pub returns-in_err-update : goal.returns-in_err-update
 returns-in_err-update c =
-    c.from_residual-in_err-update.ensures ∙ make_without_update c.args.areas.now c.args.update.now c.in_err-update.ensures
+    c.from_residual-in_err-update.ensures ∙ second_missed _ c.args.areas.now c.args.update.now c.in_err-update.ensures
 
 pub returns : goal.returns
 returns c =

@@ -1,5 +1,5 @@
 use Rattle.std.proofs.Common.{◌∙◌}
-use Rattle.script_reader.proofs.Events.{rollback_read, rollback_missed}
+use Rattle.script_reader.proofs.Verbs.{rollback_read, rollback_missed}
 use Rattle.script_reader.proofs.event.rollback_of.Goals as goal
 
 pub returns-in_err-update : goal.returns-in_err-update

@@ -1,9 +1,9 @@
 use Rattle.std.proofs.Common.{◌∙◌}
-use Rattle.script_reader.proofs.Events.{save_step_read, save_step_missed}
+use Rattle.script_reader.proofs.Verbs.{save_step_read, number_missed}
 use Rattle.script_reader.proofs.event.save_step_of.Goals as goal
 
 pub returns-in_err-slices : goal.returns-in_err-slices
-returns-in_err-slices c = c.from_residual.ensures ∙ save_step_missed c.args.slices.now c.in_err-slices.ensures
+returns-in_err-slices c = c.from_residual.ensures ∙ number_missed _ c.args.slices.now c.in_err-slices.ensures
 
 pub returns : goal.returns
 returns c =
