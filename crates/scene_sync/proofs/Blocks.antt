@@ -12,7 +12,7 @@ use Rattle.chart_model.specs.declared.drawing.Item.{Item}
 use Rattle.chart_model.specs.declared.drawing.Block.{Block}
 use Rattle.scene_sync.specs.Same.{same_geom, same_target, same_item, same_block, same_blocks}
 
-pub lists : {X : Type 0} (same : X → X → Bool) → ((x y : X) → Decides (same x y) (x ≡ y)) → (xs ys : List X) → Decides (pointwise same xs ys) (xs ≡ ys)
+lists : {X : Type 0} (same : X → X → Bool) → ((x y : X) → Decides (same x y) (x ≡ y)) → (xs ys : List X) → Decides (pointwise same xs ys) (xs ≡ ys)
 lists same each xs ys = slice_eq-Decides each xs ys (pointwise same xs ys) refl
 
 geoms : (x y : Geom) → Decides (same_geom x y) (x ≡ y)
@@ -38,7 +38,7 @@ targets (Edge a) (At c d) = (λ e. cc, λ e. cc)
 targets (At a b) Whole = (λ e. cc, λ e. cc)
 targets (At a b) (Edge c) = (λ e. cc, λ e. cc)
 
-pub items : (x y : Item) → Decides (same_item x y) (x ≡ y)
+items : (x y : Item) → Decides (same_item x y) (x ≡ y)
 items x y =
     Decides-like _ (λ p i. record { target = p.0 i; text = p.1 i }) (λ p. (ap (λ (t : Item). t.target) p, ap (λ (t : Item). t.text) p))
     (Decides-and _ _ (targets x.target y.target) (lists (λ a b. a == b) Decides-eqb x.text y.text))

@@ -1,5 +1,5 @@
 -- What calls that were made leave of a panel.
-use Rattle.std.proofs.Common.{◌≡◌, ℕ, ◌+◌, ◌-◌, ◌≤◌, ◌<◌, min, Bool, List, [], ◌∷◌, ◌++◌, map, length, take, drop, get_or, Option, arith, sym, ap, ◌∙◌}
+use Rattle.std.proofs.Common.{◌≡◌, ℕ, ◌+◌, ◌-◌, ◌≤◌, ◌<◌, min, Bool, List, [], ◌∷◌, ◌++◌, map, length, take, drop, get_or, Option, arith, refl, sym, ap, ◌∙◌}
 use Rattle.std.proofs.Math.Seq.{take-length}
 use Rattle.std.proofs.lemmas.List.{map-append, take_more, take-map, drop-map}
 use Rattle.std.proofs.Common.{length-drop}
@@ -9,20 +9,23 @@ use Rattle.scene_sync.specs.Calls.{PanelCall, after_call, after_calls, more_call
 use Rattle.scene_sync.proofs.Counts.{more-one, take-min}
 use Rattle.scene_sync.proofs.Shows.{after-append}
 
--- these calls were made since then, and so many were counted
-pub record Made (calls : List PanelCall) (count : ℕ) (told tells : Bool) (before now : Option Blocks) (counted-before counted : ℕ) (faults-before faults : ℕ) : Type 0 where
+-- these calls were made of a panel since then, and so many were counted
+pub record Made {P : Type 0} (calls : List PanelCall) (count : ℕ) (told tells : Bool) (before now : Option Blocks)
+    (counted-before counted : ℕ) (faults-before faults : ℕ) (panel-before panel : P) : Type 0 where
   pub shown : now ≡ after_calls told calls before
   pub tells-same : tells ≡ told
   pub counts : counted ≡ more_calls count counted-before
   pub later : faults-before ≤ faults
+  pub untouched : count ≡ 0 → panel ≡ panel-before
 
 -- one call more was made
-pub made-on : (calls calls' : List PanelCall) (call : PanelCall) (count : ℕ) (told tells tells' : Bool)
+pub made-on : {P : Type 0} (calls calls' : List PanelCall) (call : PanelCall) (count : ℕ) (told tells tells' : Bool)
     → (before now after : Option Blocks) (counted-before counted counted' : ℕ) (faults-before faults faults' : ℕ)
-    → Made calls count told tells before now counted-before counted faults-before faults
+    → (panel-before panel panel' : P)
+    → Made calls count told tells before now counted-before counted faults-before faults panel-before panel
     → calls' ≡ calls ++ call ∷ [] → after ≡ after_call tells call now → tells' ≡ tells → counted' ≡ one_more counted → faults ≤ faults'
-    → Made calls' (count + 1) told tells' before after counted-before counted' faults-before faults'
-made-on calls calls' call count told tells tells' before now after counted-before counted counted' faults-before faults faults' m is shown same counts later =
+    → Made calls' (count + 1) told tells' before after counted-before counted' faults-before faults' panel-before panel'
+made-on calls calls' call count told tells tells' before now after counted-before counted counted' faults-before faults faults' panel-before panel panel' m is shown same counts later =
     record {
       shown =
           shown
@@ -32,6 +35,7 @@ made-on calls calls' call count told tells tells' before now after counted-befor
       tells-same = same ∙ m.tells-same;
       counts = counts ∙ more-one count counted-before counted m.counts;
       later = omega (arith, m.later, later);
+      untouched = λ none. absurd (omega (arith, none));
     }
 
 -- the calls up to the next place
@@ -61,3 +65,8 @@ next-of {X} f n made count xs ys same counted =
     ∙ ap (λ (zs : List X). map f (take (min (length zs) n) (drop made xs))) rest
     ∙ next-are f n made xs
     ∙ ap (λ (zs : List X). take n (drop made (map f zs))) same
+
+-- no call is made where none is left or asked for
+pub none-next : {X Y : Type 0} (f : X → Y) (xs : List X) (next : List Y) → map f xs ≡ next → next ≡ [] → xs ≡ []
+none-next f [] next are none = refl
+none-next f (x ∷ xs) next are none = cc

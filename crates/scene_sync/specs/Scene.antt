@@ -1,5 +1,5 @@
 -- What contracts see of a scene: what is shown, and the refresh that is under way.
-use Rattle.std.specs.Prelude.{ℕ, ◌+◌, ◌≡◌, nat_eq, true, if◌then◌else◌, List, map, length, take, drop}
+use Rattle.std.specs.Prelude.{ℕ, ◌+◌, ◌≡◌, nat_eq, Bool, true, if◌then◌else◌, List, map, length, take, drop}
 use Rattle.std.specs.Prelude.{Option, Some, None, IfSome}
 use Rattle.panel_port.specs.Panel.{Scene as Blocks}
 use Rattle.scene_sync.specs.Calls.{PanelCall, after_calls, call_in}
@@ -48,8 +48,11 @@ abbrev pub progress_of : UnderWay → Progress
 progress_of refresh = record { done = refresh.made; calls = length refresh.calls }
 
 -- a refresh is finished when all its calls are made
+abbrev pub is_finished : UnderWay → Bool
+is_finished refresh = nat_eq refresh.made (length refresh.calls)
+
 abbrev pub unless_finished : UnderWay → Option UnderWay
-unless_finished refresh = if nat_eq refresh.made (length refresh.calls) then None else Some refresh
+unless_finished refresh = if is_finished refresh then None else Some refresh
 
 -- a refresh of which no call was made
 abbrev pub begun : List PanelCall → Blocks → Option UnderWay

@@ -2,7 +2,7 @@
 //!
 //! A call names its key alone: its block stays in the target, and is copied when it is put.
 
-ghost use Rattle.std.specs.Prelude.{◌≡◌, ◌≤◌, length, map, IsErrOf, OnOk};
+ghost use Rattle.std.specs.Prelude.{◌≡◌, ◌≤◌, [], length, map, IsErrOf, OnOk};
 ghost use Rattle.chart_ports.specs.Count.{Rose, one_more};
 ghost use Rattle.scene_sync.specs.Calls.{CountsUpTo, after_call, after_calls, call_for, call_in, more_calls};
 
@@ -77,6 +77,7 @@ pub(crate) fn make_calls(
 ) -> Result<(), PaintFault>
     ensures shown { OnOk result (scene panel.new
         ≡ after_calls (tells panel.old) (map (call_in target.now) next.now) (scene panel.old)) }
+    ensures untouched { OnOk result (next.now ≡ [] → panel.new ≡ panel.old) }
     ensures tells { tells panel.new ≡ tells panel.old }
     ensures counted { OnOk result (calls panel.new ≡ more_calls (length next.now) (calls panel.old)) }
     ensures at_most { CountsUpTo (length next.now) (calls panel.old) (calls panel.new) }

@@ -2,16 +2,12 @@
 //!
 //! Both maps are in the keys' order, so one pass over the two finds each key whose blocks differ.
 
-ghost use Rattle.std.specs.Prelude.{◌≡◌, ◌≢◌, true, Option, None, Some, IfOk, map};
+ghost use Rattle.std.specs.Prelude.{◌≡◌, None, IfOk, map};
 ghost use Rattle.std.specs.Option.{option_copied};
-ghost use Rattle.std.specs.FinMap as finite;
-ghost use Rattle.chart_model.specs.declared.drawing.PanelKey.{PanelKey};
-ghost use Rattle.panel_port.specs.Panel as panel;
-ghost use Rattle.scene_sync.specs.Calls.{after_calls, call_for, call_in, calls_between, calls_for, changes};
+ghost use Rattle.scene_sync.specs.Calls.{call_in, calls_between, calls_for};
 ghost use Rattle.scene_sync.specs.Walk.{first_key_of, least_of};
 
 use crate::call::Call;
-use crate::same::same_blocks;
 use crate::walk::Walk;
 use chart_model::PanelKey;
 use panel_port::BlockMap;
@@ -42,7 +38,7 @@ fn calls_between(
     while let Some(key) = least_key(&old, &new) {
         let before = old.pass(&key);
         let after = new.pass(&key);
-        if !same_blocks(before, after) {
+        if before != after {
             calls.push(Call::Show(key))?;
         }
     }
@@ -75,14 +71,3 @@ pub(crate) fn calls_for(
         None => calls_anew(alloc, target),
     }
 }
-
-/// What the definitions say of the calls of a refresh: there is one for each key whose blocks differ, and none for
-/// another; and after all of them the target is shown, whatever was shown before.
-pub fn calls_are_differences()
-    ensures differing { (shown target : panel.Scene) (key : PanelKey) → finite.get shown key ≢ finite.get target key
-        → finite.get (changes shown target) key ≡ Some (call_for target key) }
-    ensures equal { (shown target : panel.Scene) (key : PanelKey) → finite.get shown key ≡ finite.get target key
-        → finite.get (changes shown target) key ≡ None }
-    ensures target { (shown : Option panel.Scene) (target : panel.Scene)
-        → after_calls true (calls_for shown target) shown ≡ Some target }
-{}

@@ -7,14 +7,13 @@
 mod call;
 mod change;
 mod fault;
+mod laws;
 mod progress;
 mod refresh;
-mod same;
 mod scene;
 mod walk;
 
-pub use change::calls_are_differences;
 pub use fault::PaintFault;
+pub use laws::{blocks_are_compared, calls_are_differences};
 pub use progress::Progress;
-pub use same::blocks_are_compared;
 pub use scene::Scene;

@@ -28,7 +28,7 @@ pub(crate) struct Refresh {
 }
 
 impl Refresh {
-    ghost use Rattle.std.specs.Prelude.{◌↔◌, ◌+◌, IfOk, IsTrue, IsErrOf, OnOk, is_none, nat_eq};
+    ghost use Rattle.std.specs.Prelude.{◌↔◌, ◌+◌, [], IfOk, IsTrue, IsErrOf, OnOk, is_none, nat_eq};
     ghost use Rattle.chart_ports.specs.Count.{Rose};
     ghost use Rattle.scene_sync.specs.Calls.{CountsUpTo, after_calls, more_calls};
     ghost use Rattle.scene_sync.specs.Scene.{advanced, calls_in, next_calls, shown_by, under_way_in};
@@ -63,6 +63,7 @@ impl Refresh {
         ensures before { OnOk result (self.new.before ≡ self.old.before) }
         ensures shown { let next = next_calls n (under_way_in self.old) in
             OnOk result (scene panel.new ≡ after_calls (tells panel.old) next (scene panel.old)) }
+        ensures untouched { OnOk result (next_calls n (under_way_in self.old) ≡ [] → panel.new ≡ panel.old) }
         ensures tells { tells panel.new ≡ tells panel.old }
         ensures counted { let next = next_calls n (under_way_in self.old) in
             OnOk result (calls panel.new ≡ more_calls (length next) (calls panel.old)) }

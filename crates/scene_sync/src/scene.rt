@@ -3,7 +3,7 @@
 //! After any error nobody knows what the panel shows. So a scene is stale while calls are made, and is put right again
 //! only when all went well.
 
-ghost use Rattle.std.specs.Prelude.{◌≡◌, ◌≤◌, None, Some, true, length, is_none, is_some};
+ghost use Rattle.std.specs.Prelude.{◌≡◌, ◌≤◌, [], None, Some, true, length, is_none, is_some};
 ghost use Rattle.std.specs.Prelude.{IfOk, IfSome, IsErrOf, IsSome, IsTrue, OnErr, OnOk};
 ghost use Rattle.std.specs.Option.{option_map};
 ghost use Rattle.chart_ports.specs.Count.{Rose};
@@ -91,6 +91,7 @@ impl Scene {
         ensures calls { IfOk result (λ calls. calls ≡ length (calls_for (shown_of self.old) target)) }
         ensures begun { OnOk result (refresh_of self.new ≡ begun (calls_for (shown_of self.old) target) target) }
         ensures shown { OnOk result (shown_of self.new ≡ shown_of self.old) }
+        ensures finished { OnOk result (refresh_of self.new ≡ None → shown_of self.new ≡ Some target) }
         ensures stale { OnErr result (shown_of self.new ≡ None) }
         ensures ended { OnErr result (refresh_of self.new ≡ None) }
     {
@@ -127,11 +128,13 @@ impl Scene {
         ensures stale { OnErr result (shown_of self.new ≡ None) }
         ensures ended { OnErr result (refresh_of self.new ≡ None) }
 
-        // No other call is made.
+        // No other call is made, and without one the panel stays as it was.
         ensures counted { IfSome (refresh_of self.old) (λ refresh.
             OnOk result (calls panel.new ≡ more_calls (length (next_calls n refresh)) (calls panel.old))) }
         ensures at_most { IfSome (refresh_of self.old) (λ refresh.
             CountsUpTo (length (next_calls n refresh)) (calls panel.old) (calls panel.new)) }
+        ensures untouched { IfSome (refresh_of self.old) (λ refresh.
+            OnOk result (next_calls n refresh ≡ [] → panel.new ≡ panel.old)) }
 
         ensures tells { tells panel.new ≡ tells panel.old }
         ensures later { faults panel.old ≤ faults panel.new }

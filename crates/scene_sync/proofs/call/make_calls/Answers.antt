@@ -1,4 +1,4 @@
-use Rattle.std.proofs.Common.{length, arith}
+use Rattle.std.proofs.Common.{◌≡◌, length, arith, ap}
 use Rattle.scene_sync.specs.Calls.{call_in}
 use Rattle.scene_sync.proofs.Counts.{counts-on}
 use Rattle.scene_sync.proofs.Paints.{made-on, one-further}
@@ -11,8 +11,14 @@ returns-in_err-make_call-clause-at_most g c =
 
 pub loop-call-preserved : goal.loop-call-preserved
 loop-call-preserved g c =
-    made-on _ _ (call_in c.args.target.now c.call-item.result) c.loop-call.call-index _ _ _ _ _ _ _ _ _ _ _ _
+    made-on _ _ (call_in c.args.target.now c.call-item.result) c.loop-call.call-index _ _ _ _ _ _ _ _ _ _ _ _ _ _ _
     c.loop-call.invariant
     (one-further (call_in c.args.target.now) c.args.next.now c.loop-call.call-index c.call-item.result c.loop-call-test.true
     c.call-item.is)
     c.in_ok-make_call.ensures.shown c.make_call.ensures.tells c.in_ok-make_call.ensures.counted c.make_call.ensures.later
+
+pub returns-clause-untouched : goal.returns-clause-untouched
+returns-clause-untouched g c = λ none.
+    let made : c.loop-call.call-index ≡ 0 =
+    omega (arith, ap length none, c.loop-call.auto.call-index-end, c.loop-call-test.false) in
+    c.loop-call.invariant.untouched made

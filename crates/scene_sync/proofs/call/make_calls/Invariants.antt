@@ -12,3 +12,4 @@ invariant-loop-call g l =
     (before.scene l.fn.panel.now.1) (panel.scene l.panel.now.1)
     (before.calls l.fn.panel.now.1) (panel.calls l.panel.now.1)
     (before.faults l.fn.panel.now.1) (panel.faults l.panel.now.1)
+    l.fn.panel.now l.panel.now

@@ -1,4 +1,4 @@
-use Rattle.std.proofs.Common.{◌≡◌, true, Some, None, IfSome, sym, ap, subst, ◌∙◌}
+use Rattle.std.proofs.Common.{◌≡◌, true, [], Some, None, IfSome, sym, ap, subst, ◌∙◌}
 use Rattle.scene_sync.specs.Calls.{after_calls}
 use Rattle.scene_sync.specs.Scene.{UnderWay, next_calls, refresh_in, shown_in, shown_of, under_way_in}
 use Rattle.scene_sync.proofs.Refreshes.{agrees-on, finished-shows, painted}
@@ -31,3 +31,12 @@ returns-clause-finished g c =
     c.settled.ensures.shown
     ∙ finished-shows new (sym c.settled.ensures.refresh ∙ finished)
     ∙ ap (λ (u : UnderWay). Some u.target) c.in_ok-advance.ensures.made)
+
+pub returns-clause-untouched : goal.returns-clause-untouched
+returns-clause-untouched g c =
+    subst
+    (λ o.
+    IfSome o
+    (λ refresh. next_calls c.args.n refresh ≡ [] → (c.args.panel.now.0, c.advance.new.panel) ≡ c.args.panel.now))
+    (sym c.take_refresh-refresh.ensures.refresh)
+    c.in_ok-advance.ensures.untouched

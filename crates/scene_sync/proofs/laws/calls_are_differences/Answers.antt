@@ -1,5 +1,5 @@
 use Rattle.scene_sync.proofs.Shows.{get-differing-change, get-equal-change, shows-target}
-use Rattle.scene_sync.proofs.change.calls_are_differences.Goals as goal
+use Rattle.scene_sync.proofs.laws.calls_are_differences.Goals as goal
 
 pub returns-clause-differing : goal.returns-clause-differing
 returns-clause-differing c = λ shown target key differ. get-differing-change shown target key differ
