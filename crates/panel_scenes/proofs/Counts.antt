@@ -1,10 +1,13 @@
 -- Counts of faults and of calls, from the beginning of a session on.
-use Rattle.std.proofs.Common.{◌≡◌, ◌⊎◌, inl, inr, ⊎_elim, ℕ, zero, suc, ◌+◌, ◌-◌, ◌<◌, ◌≤◌, min, nat_eq, false, if◌then◌else◌, arith, length, Option, Some, None, IfSome, unwrap_or, refl, sym, ap, ◌∙◌}
+use Rattle.std.proofs.Common.{◌≡◌, ⊎_elim, ℕ, zero, suc, ◌+◌, ◌-◌, ◌≤◌, min, nat_eq, false}
+use Rattle.std.proofs.Common.{if◌then◌else◌, List, [], ◌∷◌, length, Option, Some, None, IfSome, unwrap_or}
+use Rattle.std.proofs.Common.{arith, refl, sym, ap, ◌∙◌}
 use Rattle.std.specs.Option.{option_map}
 use Rattle.std.proofs.lemmas.Bool.Decides.{nat_tests}
 use Rattle.std.proofs.lemmas.Option.{none-some}
-use Rattle.chart_ports.specs.Count.{IsSteady, LAST, Rose, RoseBy, one_more}
+use Rattle.chart_ports.specs.Count.{IsSteady, LAST, RoseBy}
 use Rattle.panel_port.specs.Panel.{up_to_last}
+use Rattle.panel_port.specs.declared.summary.Summary.{Summary}
 use Rattle.scene_sync.specs.Calls.{more_calls}
 use Rattle.scene_sync.specs.Scene.{UnderWay, made_after, next_calls, progress_of}
 use Rattle.scene_sync.specs.declared.progress.Progress.{Progress}
@@ -78,3 +81,26 @@ counted-in (Some it) before now n much start faults faults₀ faults' made made�
     (omega (arith, same, later))
     (counted ∙ ap (more_calls (length (next_calls n it))) same')
     (more ∙ (λ i. up_to_last (same'' i + between i))) known steady
+
+none-long : {X : Type 0} (xs : List X) → length xs ≡ 0 → xs ≡ []
+none-long [] none = refl
+none-long (x ∷ xs) none = absurd (omega (arith, none))
+
+-- Where it made no call, and none was made before, the panel has the numbers that it had from the beginning on.
+pub first-in : {P : Type 0} (refresh : Option UnderWay) (before now : Progress) (n : ℕ) (panel panel₀ panel' : P)
+    → (numbers : P → Summary) (start : Summary) (failures failures₀ made made₀ made' : ℕ)
+    → option_map progress_of refresh ≡ Some before
+    → IfSome refresh (λ it. now ≡ record { done = made_after n it; calls = length it.calls })
+    → IfSome refresh (λ it. next_calls n it ≡ [] → panel' ≡ panel₀)
+    → panel₀ ≡ panel → failures₀ ≡ failures → made₀ ≡ made → made' ≡ up_to_last (made₀ + (now.done - before.done))
+    → (failures ≡ 0 → made ≡ 0 → numbers panel ≡ start) → failures₀ ≡ 0 → made' ≡ 0 → numbers panel' ≡ start
+first-in None before now n panel panel₀ panel' numbers start failures failures₀ made made₀ made' is progress stays same
+    same' same'' more known none none' =
+    absurd (none-some before is)
+first-in (Some it) before now n panel panel₀ panel' numbers start failures failures₀ made made₀ made' is progress stays same
+    same' same'' more known none none' =
+    let begun : it.made ≡ before.done = ap (λ o. (unwrap_or o before).done) is in
+    let ended : now.done ≡ it.made + length (next_calls n it) = ap (λ p. p.done) progress in
+    let no-more : length (next_calls n it) ≡ 0 = omega (arith, begun, ended, more, none') in
+    let none-yet : made ≡ 0 = omega (arith, same'', more, none') in
+    ap numbers (stays (none-long (next_calls n it) no-more) ∙ same) ∙ known (sym same' ∙ none) none-yet

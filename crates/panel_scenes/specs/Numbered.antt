@@ -1,5 +1,6 @@
 -- Lists whose items have numbers, which are counted from 1.
-use Rattle.std.specs.Prelude.{ℕ, ◌-◌, ◌≡◌, ◌≢◌, nat_eq, if◌then◌else◌, List, [], ◌∷◌, length, slice_get, slice_set, Option, None, IfSome}
+use Rattle.std.specs.Prelude.{ℕ, ◌-◌, ◌≡◌, ◌≢◌, nat_eq, if◌then◌else◌, List, [], ◌∷◌, length, slice_get, slice_set}
+use Rattle.std.specs.Prelude.{Option, None, IfSome}
 use Rattle.std.specs.List.{remove}
 
 -- the item of this number, where there is one

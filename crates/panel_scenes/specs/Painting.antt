@@ -1,5 +1,6 @@
 -- What is refused of a panel, and what a painting answers and leaves.
-use Rattle.std.specs.Prelude.{ℕ, ◌≡◌, Bool, true, false, if◌then◌else◌, List, Option, Some, None, is_some, Result, Ok, Err}
+use Rattle.std.specs.Prelude.{ℕ, ◌≡◌, Bool, true, false, if◌then◌else◌, List, Option, Some, None, is_some}
+use Rattle.std.specs.Prelude.{Result, Ok, Err}
 use Rattle.panel_port.specs.declared.summary.Summary.{Summary}
 use Rattle.scene_sync.specs.Scene.{UnderWay, advanced, progress_of}
 use Rattle.scene_sync.specs.declared.progress.Progress.{Progress}

@@ -1,10 +1,10 @@
 -- What contracts see of the scene of a panel and of what was counted of its paintings, and what becomes of both.
-use Rattle.std.specs.Prelude.{ℕ, ◌+◌, true, List, length, replicate, Option, None, refl}
+use Rattle.std.specs.Prelude.{ℕ, ◌+◌, true, if◌then◌else◌, List, length, replicate, Option, Some, None, refl}
 use Rattle.std.specs.Coded.{Coded, code_by, coded×, coded_list, coded_option, coded_ℕ}
 use Rattle.chart_ports.specs.Count.{one_more}
 use Rattle.panel_port.specs.Panel.{Scene as Blocks, scene_code, up_to_last}
 use Rattle.scene_sync.specs.Calls.{PanelCall, after_calls, call_code, calls_for}
-use Rattle.scene_sync.specs.Scene.{UnderWay, advanced, begun, next_calls, refresh_of, shown_of, unless_finished}
+use Rattle.scene_sync.specs.Scene.{UnderWay, advanced, is_finished, next_calls, refresh_of, shown_of, unless_finished}
 use Rattle.scene_sync.specs.declared.scene.Scene.{Scene}
 
 -- what the panel shows, none where that isn't known; the refresh that is under way; how many paintings failed; and how
@@ -45,11 +45,19 @@ new_scenes panels = replicate panels new_scene
 abbrev pub calls_to : Blocks → SceneValue → List PanelCall
 calls_to target scene = calls_for scene.shown target
 
--- the scene once such a refresh has begun
+-- such a refresh, of which no call is made
+abbrev pub refresh_to : Blocks → SceneValue → UnderWay
+refresh_to target scene = record { target = target; calls = calls_to target scene; made = 0 }
+
+-- what is shown where a refresh has come so far: its target once all its calls are made, and else what these made of it
+abbrev pub shown_at : UnderWay → Option Blocks → Option Blocks
+shown_at refresh so_far = if is_finished refresh then Some refresh.target else so_far
+
+-- the scene once such a refresh has begun: without a call it is finished at once
 abbrev pub refreshing : Blocks → SceneValue → SceneValue
 refreshing target scene = record {
-  shown = scene.shown;
-  refresh = begun (calls_to target scene) target;
+  shown = shown_at (refresh_to target scene) scene.shown;
+  refresh = unless_finished (refresh_to target scene);
   failures = scene.failures;
   made = scene.made;
 }
@@ -57,7 +65,7 @@ refreshing target scene = record {
 -- the scene once the next n calls of its refresh are made, or those left where they are fewer
 abbrev pub painted : ℕ → UnderWay → SceneValue → SceneValue
 painted n refresh scene = record {
-  shown = after_calls true (next_calls n refresh) scene.shown;
+  shown = shown_at (advanced n refresh) (after_calls true (next_calls n refresh) scene.shown);
   refresh = unless_finished (advanced n refresh);
   failures = scene.failures;
   made = up_to_last (scene.made + length (next_calls n refresh));

@@ -1,7 +1,7 @@
 //! The panels of a session, by their numbers.
 //!
-//! Each panel has a scene, and two counts tell of it what its replies told. A call touches one panel at most: the one of
-//! the number that is given.
+//! Each panel has a scene, and two counts tell of it what its replies told. A call touches one panel at most: the one
+//! of the number that is given.
 #![tactic(auto)]
 
 mod fault;

@@ -75,8 +75,6 @@ impl PanelScene {
         n: u32,
     ) -> Result<Progress, PaintingFault>
         ensures gives { GivesPainting result self.new (painting_of k n self.old) (stale self.old) }
-        ensures finished { IfSome self.old.refresh (λ refresh.
-            OnOk result (self.new.refresh ≡ None → self.new.shown ≡ Some refresh.target)) }
         ensures untouched { (refusal : PanelRefusal) → result ≡ Err (Refused refusal) → is_failure refusal ≡ false
             → panel.new ≡ panel.old }
 
@@ -85,8 +83,8 @@ impl PanelScene {
             → IsInStep start (tells panel.new) (scene panel.new) (faults panel.new) self.new }
         ensures counted { result ≢ Err NoMemory → (start : Start)
             → IsInStep start (tells panel.old) (scene panel.old) (faults panel.old) self.old
-            → IsCounted start (faults panel.old) (calls panel.old) self.old
-            → IsCounted start (faults panel.new) (calls panel.new) self.new }
+            → IsCounted start (faults panel.old) (calls panel.old) (numbers panel.old) self.old
+            → IsCounted start (faults panel.new) (calls panel.new) (numbers panel.new) self.new }
         ensures failed { result ≡ Err (Refused (Failed k)) → Rose (faults panel.old) (faults panel.new) }
     {
         let Some(before) = self.scene.progress() else {

@@ -47,9 +47,9 @@ impl Model for PanelScenes {
 /// What holds of panels when a session begins: their scenes are in step with them.
 pub fn new_scenes_are_in_step(panels: &[Box<dyn Panel>])
     ensures in_step { AreInStep tells scene faults
-        (starts_of tells faults calls panels.now) panels.now (new_scenes (length panels.now)) }
-    ensures counted { AreCounted faults calls
-        (starts_of tells faults calls panels.now) panels.now (new_scenes (length panels.now)) }
+        (starts_of tells faults calls numbers panels.now) panels.now (new_scenes (length panels.now)) }
+    ensures counted { AreCounted faults calls numbers
+        (starts_of tells faults calls numbers panels.now) panels.now (new_scenes (length panels.now)) }
 {}
 
 /// What holds of panels when a refresh of one of them begins: they stay in step, and so they do where there was no
@@ -65,8 +65,8 @@ pub fn refreshes_keep_step(panels: &[Box<dyn Panel>])
         → AreInStep tells scene faults starts panels.now (with_numbered k (stale before) scenes) }
     ensures counted { (starts : List Start) (scenes : List SceneValue) (k : ℕ) (target : panel.Scene)
         (before : SceneValue) → numbered k scenes ≡ Some before
-        → AreCounted faults calls starts panels.now scenes
-        → AreCounted faults calls starts panels.now (with_numbered k (refreshing target before) scenes) }
+        → AreCounted faults calls numbers starts panels.now scenes
+        → AreCounted faults calls numbers starts panels.now (with_numbered k (refreshing target before) scenes) }
 {}
 
 impl PanelScenes {
@@ -137,8 +137,6 @@ impl PanelScenes {
     ) -> Result<Progress, PaintingFault>
         requires as_many { vec_len panels.old ≡ length self.old }
         ensures gives { GivesPainting result self.new (painting_among k n self.old) (given_up k self.old) }
-        ensures finished { IfSome (numbered k self.old) (λ before. IfSome before.refresh (λ refresh.
-            IfSome (numbered k self.new) (λ now. OnOk result (now.refresh ≡ None → now.shown ≡ Some refresh.target)))) }
         ensures untouched { (refusal : PanelRefusal) → result ≡ Err (Refused refusal) → is_failure refusal ≡ false
             → panels.new.items ≡ panels.old.items }
         ensures others { SameOthers k panels.old.items panels.new.items }
@@ -148,8 +146,8 @@ impl PanelScenes {
             → AreInStep tells scene faults starts panels.new.items self.new }
         ensures counted { result ≢ Err NoMemory → (starts : List Start)
             → AreInStep tells scene faults starts panels.old.items self.old
-            → AreCounted faults calls starts panels.old.items self.old
-            → AreCounted faults calls starts panels.new.items self.new }
+            → AreCounted faults calls numbers starts panels.old.items self.old
+            → AreCounted faults calls numbers starts panels.new.items self.new }
         ensures failed { result ≡ Err (Refused (Failed k))
             → IsOfNumbered k (λ before now. Rose (faults before) (faults now)) panels.old.items panels.new.items }
     {
@@ -182,8 +180,8 @@ impl PanelScenes {
             → AreInStep tells scene faults starts panels.old.items self.old
             → AreInStep tells scene faults (without_numbered k starts) panels.new.items self.new) }
         ensures counted { OnOk result ((starts : List Start)
-            → AreCounted faults calls starts panels.old.items self.old
-            → AreCounted faults calls (without_numbered k starts) panels.new.items self.new) }
+            → AreCounted faults calls numbers starts panels.old.items self.old
+            → AreCounted faults calls numbers (without_numbered k starts) panels.new.items self.new) }
     {
         let place = self.place(k)?;
         self.scenes.remove(place);

@@ -7,4 +7,5 @@ returns-clause-in_step g c =
     zip3-made _ _ _ (λ panel. record { same = refl; agrees = λ _. tt; rose = inl (omega arith) }) c.args.panels.now
 
 pub returns-clause-counted : goal.returns-clause-counted
-returns-clause-counted g c = zip3-made _ _ _ (λ panel steady. refl) c.args.panels.now
+returns-clause-counted g c =
+    zip3-made _ _ _ (λ panel. record { counted = λ steady. refl; first = λ failed made. refl }) c.args.panels.now
