@@ -1,4 +1,5 @@
 pub mod Shown
+pub mod Named
 pub mod Orders
 pub mod Unique
 pub mod Placed

@@ -17,6 +17,7 @@ use Rattle.std.proofs.lemmas.List.Sorted.{ranks_by, sorted_far, All-permutation,
 use Rattle.std.proofs.lemmas.List.Sums.{sum_by-cons}
 use Rattle.chart_model.specs.Cell.{CellValue, IsCell, IsFeature}
 use Rattle.chart_model.specs.Names.{name_cmp}
+use Rattle.chart_model.proofs.Names.{name_cmp-total}
 use Rattle.chart_model.specs.declared.cell.Feature.{Feature}
 use Rattle.chart_model.specs.declared.drawing.Block.{Block}
 use Rattle.chart_model.specs.declared.name.Name.{Name}
@@ -197,16 +198,14 @@ drawn_total =
     then_total (on_total (λ (d : Drawn). d.block.priority) nat_cmp_total)
     (then_total (on_total (λ (d : Drawn). rank_of d.block.geom) nat_cmp_total) (on_total (λ (d : Drawn). d.rcid) nat_cmp_total))
 
+-- the entries of a cell's features are those that are found by their names
+pub entries_there : (cell : CellValue) → All (λ e. map.get cell.features e.0 ≡ Some e.1) (map.entries cell.features)
+entries_there cell = λ k d h. map.get-entries cell.features _ ∙ found_each name_cmp-total (map.entries cell.features) (map.entries_sorted cell.features) k d h
+
 pub one_drawing : (cell : CellValue) (table : List TableLine) (settings : Settings) (a b : List Drawn) → IsCell cell → IsDrawing cell table settings a → IsDrawing cell table settings b → a ≡ b
 one_drawing cell table settings a b is x y =
-    let entries = map.entries cell.features in
-    let found = found_each name_total entries (map.entries_sorted cell.features) in
-    let there : All (λ e. map.get cell.features e.0 ≡ Some e.1) entries = λ k d h. map.get-entries cell.features _ ∙ found k d h in
-    let each = all_drawn cell table settings is entries there in
+    let each = all_drawn cell table settings is (map.entries cell.features) (entries_there cell) in
     sorted_once drawn_cmp drawn_total (IsOf cell table settings) (same_drawn cell table settings) a b
     (λ f. sum_by-IsPermutation f _ _ x.all ∙ sym (sum_by-IsPermutation f _ _ y.all))
     (All-permutation (IsOf cell table settings) _ _ x.all each) (All-permutation (IsOf cell table settings) _ _ y.all each)
     x.ordered y.ordered
-  where
-    name_total : IsTotalOrder name_cmp
-    name_total = then_total (on_total (λ (n : Name). n.rcnm) nat_cmp_total) (on_total (λ (n : Name). n.rcid) nat_cmp_total)

@@ -59,7 +59,7 @@ fn push_block(blocks: &mut Vec<Drawn>, rcid: u32, block: Option<Block>) -> Resul
 }
 
 /// The blocks of all features that are shown, in the order of their names.
-fn blocks_of(alloc: Global, from: &Sources) -> Result<Vec<Drawn>, AllocError>
+fn drawn_blocks(alloc: Global, from: &Sources) -> Result<Vec<Drawn>, AllocError>
     ensures cell { IsCell from.now.cell.now }
     ensures blocks { IfOk result (λ blocks.
         blocks.items ≡ blocks_in from.now.cell.now from.now.table.now from.now.settings.now) }
@@ -93,7 +93,7 @@ pub fn draw_cell(
         table,
         settings,
     };
-    let mut blocks = blocks_of(alloc, &from)?;
+    let mut blocks = drawn_blocks(alloc, &from)?;
     blocks.sort_by_key(|drawn| order_of(drawn))?;
     Ok(DrawList::from_vec(blocks))
 }

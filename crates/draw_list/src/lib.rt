@@ -5,11 +5,12 @@
 //! line for it, each on the whole feature or, where it calls a procedure, what the procedure makes of the feature; or a
 //! question mark at priority 5, where the table has no line for it.
 //!
-//! The drawing is the blocks of all features that are shown, by priority; at one priority areas before lines before
-//! points; then by the features' numbers (RCID).
+//! The blocks of all features that are shown are listed under the features' names, in their order. The drawing is the
+//! same blocks by priority; at one priority areas before lines before points; then by the features' numbers (RCID).
 #![tactic(auto)]
 
 mod block;
+mod blocks;
 mod drawing;
 mod items;
 mod laws;
@@ -18,7 +19,8 @@ mod print;
 mod sources;
 
 pub use block::block_of;
+pub use blocks::{NamedBlock, blocks_of};
 pub use drawing::{DrawList, Drawn, draw_cell};
-pub use laws::drawings_are_one;
+pub use laws::{blocks_are_by_name, drawings_are_one};
 pub use lines::print_drawing;
 pub use print::print_item;

@@ -5,7 +5,7 @@
 
 use crate::tests::users::find_users;
 use chart_model::{Block, Geom, Item, ItemList, Octets, Settings, Shades, Target};
-use draw_list::{block_of, draw_cell, print_drawing, print_item};
+use draw_list::{block_of, blocks_of, draw_cell, print_drawing, print_item};
 use lookup_table::{Table, read_table};
 use object_catalogue::read_objects;
 use sample_rows::{Row, chart, feature, name};
@@ -169,6 +169,42 @@ fn blocks(rt: HostRuntime) -> Result<(), Fail> {
     for (rcid, scale, count) in &BLOCKS {
         let found = block_length(rt.alloc(), *rcid, *scale)?;
         assert!(rt; found == *count, "feature {rcid} at {scale}");
+    }
+    Ok(())
+}
+
+/// The number of a feature, its block's priority, and how many instructions that has.
+type Listed = (u32, u8, usize);
+
+/// The denominator of a display scale, and the blocks of the chart in their order.
+static LISTS: [(u32, &[Listed]); 3] = [
+    // a line without instructions makes a block too
+    (1, &[(1, 1, 1), (2, 1, 1), (3, 9, 2), (4, 9, 2), (5, 0, 0)]),
+    (2, &[(1, 1, 1), (2, 1, 1), (3, 9, 2), (4, 9, 2)]),
+    (3, &[(1, 1, 1), (3, 9, 2), (4, 9, 2)]),
+];
+
+/// The blocks of the chart in their order.
+fn listed(alloc: Global, scale: u32) -> Result<Vec<Listed>, Fail> {
+    let cell = chart(alloc, &CHART)?;
+    let users = find_users(alloc, &cell)?;
+    let table = table(
+        alloc,
+        b"DEPARE P 9 - SY(B);SY(A)\nDEPARE A 1 - AC(DEPVS)\nDEPARE L 0 - -\n",
+    )?;
+    let mut listed = Vec::new(alloc);
+    for named in &blocks_of(alloc, &cell, &users, &table, &settings(scale))? {
+        let items = named.block.items.as_slice().len();
+        listed.push((named.name.rcid, named.block.priority, items))?;
+    }
+    Ok(listed)
+}
+
+#[test]
+fn lists(rt: HostRuntime) -> Result<(), Fail> {
+    for (scale, blocks) in &LISTS {
+        let found = listed(rt.alloc(), *scale)?;
+        assert!(rt; found.as_slice() == *blocks, "scale {scale}");
     }
     Ok(())
 }

@@ -2,7 +2,7 @@ use Rattle.std.proofs.Common.{◌≡◌, ◌++◌}
 use Rattle.std.specs.List.{flat_map}
 use Rattle.draw_list.specs.Known.{AreKnown}
 use Rattle.draw_list.specs.Drawing.{drawn_of, blocks_in}
-use Rattle.draw_list.proofs.drawing.blocks_of.Given as goal
+use Rattle.draw_list.proofs.drawing.drawn_blocks.Given as goal
 
 abbrev pub invariant-loop-name : goal.invariant-loop-name
 invariant-loop-name l =

@@ -1,7 +1,7 @@
 use Rattle.std.proofs.Common.{◌≡◌, ◌++◌, rules}
 use Rattle.std.specs.List.{flat_map}
 use Rattle.draw_list.specs.Drawing.{drawn_of, blocks_in}
-use Rattle.draw_list.proofs.drawing.blocks_of.Goals as goal
+use Rattle.draw_list.proofs.drawing.drawn_blocks.Goals as goal
 
 pub loop-name-init : goal.loop-name-init
 loop-name-init c =
