@@ -24,9 +24,12 @@ reply_by state settings route = or_refused route >>= λ read. Ok (reply_along re
 
 unread-fails : (state : StateValue) (settings : Settings) (fault : RouteFault) (wanted : Result Route RouteFault) → Answers (Err fault) wanted
     → Gives {A = Reply} (Err (fault_of_route fault)) (reply_by state settings wanted)
-unread-fails state settings (of_route.BadLine line) wanted h = ap (reply_by state settings) h
-unread-fails state settings (of_route.Few points) wanted h = ap (reply_by state settings) h
-unread-fails state settings (of_route.Many points) wanted h = ap (reply_by state settings) h
+unread-fails state settings (of_route.BadLine line) wanted h =
+    ap (reply_by state settings) (h (λ (e : of_route.BadLine line ≡ of_route.NoMemory). cc))
+unread-fails state settings (of_route.Few points) wanted h =
+    ap (reply_by state settings) (h (λ (e : of_route.Few points ≡ of_route.NoMemory). cc))
+unread-fails state settings (of_route.Many points) wanted h =
+    ap (reply_by state settings) (h (λ (e : of_route.Many points ≡ of_route.NoMemory). cc))
 unread-fails state settings of_route.NoMemory wanted h = tt
 
 -- a route that isn't read

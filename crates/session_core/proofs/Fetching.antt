@@ -10,7 +10,6 @@ use Rattle.chart_ports.specs.declared.shelf.ShelfError.{ShelfError}
 use Rattle.chart_ports.specs.declared.shelf.ShelfError.TheVariants as of_shelf
 use Rattle.update_sequence.specs.Answers.{GivesRead}
 use Rattle.update_sequence.specs.declared.fault.ReadFault.{ReadFault}
-use Rattle.update_sequence.specs.declared.fault.ReadFault.TheVariants as of_read
 use Rattle.chart_store.specs.Fault.{or_refused}
 use Rattle.chart_store.specs.Loaded.{FILE_LIMIT}
 use Rattle.chart_store.specs.Refusal.{refusal_of_read}
@@ -26,6 +25,7 @@ use Rattle.session_core.specs.Answers.{Gives, fault_of_read, fault_of_shelf, ref
 use Rattle.session_core.specs.Fetch.{AreFetched, Fetches, Files, fetches_of, file_in}
 use Rattle.update_sequence.specs.Info.{info_in}
 use Rattle.session_core.specs.Info.{info_of, info_reply}
+use Rattle.session_core.specs.Outside.{FromOutside}
 
 -- ---- faults that are passed up
 
@@ -89,6 +89,10 @@ served-found true files before now limit name shown fetched answer same is h = (
 )
 served-found false files before now limit name shown fetched answer same is h = (λ l n. Some fetched, are-given files before now fetched, h)
 
+-- nothing but this comes from outside
+abbrev pub fetching : Fetches → FromOutside
+fetching fetches = record { fetches = fetches; painting_failed = false; numbers = record { blocks = 0; items = 0 } }
+
 -- ---- what a file says of itself
 
 abbrev by_read : Result FileInfo ReadFault → Result Reply LineRefusal
@@ -112,22 +116,16 @@ info-read_as name o bytes shown found same =
     info-by_file name o ∙ next-done by_bytes (file_in FILE_LIMIT name o) bytes found ∙ ap by_bytes (sym same)
 
 -- a fault below is refused as its row of the table
-refused-row : (row : Option of_store.Refusal) (fault : ReadFault) → refusal_of_read fault ≡ row
-    → Gives {A = Reply} (Err (refused_or_none row)) (Err (Store (unwrap_or (refusal_of_read fault) NoGeneral)))
-refused-row (Some refusal) fault e = ap (λ (o : Option of_store.Refusal). Err (Store (unwrap_or o NoGeneral))) e
-refused-row None fault e = tt
-
-read-row : (fault : ReadFault) (wanted : Result FileInfo ReadFault) → wanted ≡ Err fault
-    → Gives {A = Reply} (Err (fault_of_read fault)) (by_read wanted)
-read-row fault wanted h =
-    subst (λ (w : Result FileInfo ReadFault). Gives {A = Reply} (Err (fault_of_read fault)) (by_read w))
-    (sym h) (refused-row (refusal_of_read fault) fault refl)
+read-row : (row : Option of_store.Refusal) (fault : ReadFault) (wanted : Result FileInfo ReadFault) → refusal_of_read fault ≡ row
+    → GivesRead (Err fault) wanted → Gives {A = Reply} (Err (refused_or_none row)) (by_read wanted)
+read-row None fault wanted e h = tt
+read-row (Some refusal) fault wanted e h =
+    ap by_read (h (λ same. let f : ◌≡◌ {A = Option of_store.Refusal} (Some refusal) None = sym e ∙ ap refusal_of_read same in cc))
+    ∙ ap (λ (o : Option of_store.Refusal). Err (Store (unwrap_or o NoGeneral))) e
 
 read-fails : (fault : ReadFault) (wanted : Result FileInfo ReadFault) → GivesRead (Err fault) wanted
     → Gives {A = Reply} (Err (fault_of_read fault)) (by_read wanted)
-read-fails (of_read.File fault) wanted h = read-row (of_read.File fault) wanted h
-read-fails (of_read.Dataset fault) wanted h = read-row (of_read.Dataset fault) wanted h
-read-fails of_read.NoMemory wanted h = tt
+read-fails fault wanted h = read-row (refusal_of_read fault) fault wanted refl h
 
 pub info-refused : (name : List ℕ) (o : Option Fetched) (bytes shown : List ℕ) (r : Result Reply EventFault) (fault : ReadFault)
     → IsErrAnd r (λ passed. passed ≡ fault_of_read fault) → file_in FILE_LIMIT name o ≡ Ok bytes → shown ≡ bytes → GivesRead (Err fault) (info_in shown)

@@ -2,6 +2,10 @@ pub mod Joining
 pub mod Fetching
 pub mod Turning
 pub mod Following
+pub mod Replying
+pub mod PanelTurns
+pub mod Painting
+pub mod Targets
 pub mod Checking
 pub mod Writing
 pub mod Reissuing

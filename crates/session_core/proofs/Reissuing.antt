@@ -32,7 +32,8 @@ use Rattle.session_core.specs.Held.{chart_of}
 use Rattle.session_core.specs.Model.{Model}
 use Rattle.session_core.specs.Order.{order_of_file, reply_to}
 use Rattle.session_core.specs.Reissue.{KeepsChart, LacksRoom, ReadsBack, ReissueKeepsChart}
-use Rattle.session_core.specs.Turn.{Turn, decision_turn, order_turn, refusal_turn, turn_of}
+use Rattle.session_core.specs.Replied.{Turn, refusal_turn}
+use Rattle.session_core.specs.Turn.{decision_turn, order_turn, turn_of}
 use Rattle.session_core.specs.Written.{or_refused, reissue_file}
 use Rattle.session_core.proofs.Fetching.{passed-is}
 
@@ -201,7 +202,7 @@ module _ (model : Model) (key : List ℕ) (here : Holding) (chart : CellValue)
 -- a held chart is kept, where what is written of it is a base file of it
 pub reissue-keeps : Reissues → (model : Model) (key : List ℕ) → IsState model.state → ReadsBack model.state.cells key → ReissueKeepsChart model key
 unfolding turn_of reissue_file
-reissue-keeps law model key live back fetches here chart found is =
+reissue-keeps law model key live back outside here chart found is =
     subst (λ (o : Option CellValue). KeepsChart model key here chart (order_turn model
     ((or_fault (Store (NoCell key)) o >>= λ held. or_refused (base_file_of held)) >>= λ file. Ok (order_of_file orders.Reissue file))))
     (sym (chart-of model.state.cells key here chart found is))

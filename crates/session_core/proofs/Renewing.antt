@@ -26,9 +26,10 @@ use Rattle.session_core.specs.declared.fault.EventFault.TheVariants.{Refused, De
 use Rattle.session_core.specs.declared.refusal.LineRefusal.TheVariants as line
 use Rattle.session_core.specs.declared.changes.order.Order.{Order}
 use Rattle.session_core.specs.declared.session.Session.{Session}
-use Rattle.session_core.specs.Model.{Model}
+use Rattle.session_core.specs.Model.{Model, with_scenes}
 use Rattle.session_core.specs.Order.{reply_to}
-use Rattle.session_core.specs.Session.{GivesEvent, model_of, portrayal_of, progress_of, store_of}
+use Rattle.session_core.specs.Replied.{Turn}
+use Rattle.session_core.specs.Session.{GivesEvent, LeavesEither, model_of, portrayal_of, progress_of, scenes_of, store_of}
 use Rattle.session_core.specs.Turn.{decision_turn, order_turn}
 use Rattle.session_core.specs.Answers.{fault_of_submit}
 use Rattle.plane_bounds.specs.declared.bounds.Bounds.{Bounds}
@@ -79,8 +80,8 @@ stays-sound false failed h none = absurd (none (h.0 refl))
 
 -- the model is that of what the store keeps
 pub same-model : (old new : Session) → value_of (store_of new) ≡ value_of (store_of old) → portrayal_of new ≡ portrayal_of old
-    → model_of new ≡ model_of old
-same-model old new same drawn = λ i. record {
+    → scenes_of new ≡ scenes_of old → model_of new ≡ model_of old
+same-model old new same drawn known = λ i. record {
   state = (same i).state;
   room = record {
     used = (same i).pair.gate + 1;
@@ -88,27 +89,32 @@ same-model old new same drawn = λ i. record {
   };
   save = option_map progress_of (same i).pair.save;
   portrayal = drawn i;
+  scenes = known i;
 }
+
+-- a model that is as it was is so where memory ran out
+pub left-alone : (before now : Model) (turn : Turn) → now ≡ before → LeavesEither before now turn
+left-alone before now turn same = inl (same ∙ ap (λ (m : Model). with_scenes before m.scenes) (sym same))
 
 -- a command that isn't accepted
 pub refused-given : (old new : Session) (order : Order) (fault : SubmitFault) (r : Result Reply EventFault)
     → IsErrAnd r (λ passed. passed ≡ fault_of_submit fault)
     → GivesAccepted (Err fault) (state_of (store_of new)) (accepted (state_of (store_of old)) (room_of (store_of old)) order.command)
     → (◌≢◌ {A = Result Accepted SubmitFault} (Err fault) (Err of_submit.DeskFault) → value_of (store_of new) ≡ value_of (store_of old))
-    → state_of (store_of new) ≡ state_of (store_of old) → portrayal_of new ≡ portrayal_of old
+    → state_of (store_of new) ≡ state_of (store_of old) → portrayal_of new ≡ portrayal_of old → scenes_of new ≡ scenes_of old
     → GivesEvent r (model_of old) (model_of new) (order_turn (model_of old) (Ok order))
-refused-given old new order (of_submit.Refused refusal) r passed given same held drawn =
+refused-given old new order (of_submit.Refused refusal) r passed given same held drawn known =
     subst (λ (s : Result Reply EventFault). GivesEvent s (model_of old) (model_of new) (order_turn (model_of old) (Ok order)))
     (sym (passed-is r (Refused (line.Store refusal)) passed)) (
       ap (decision_turn (model_of old) order.command (λ done. reply_to order.success done.key done.held)) given,
-      same-model old new (same (λ e. cc)) drawn,
+      same-model old new (same (λ e. cc)) drawn known,
     )
-refused-given old new order of_submit.DeskFault r passed given same held drawn =
+refused-given old new order of_submit.DeskFault r passed given same held drawn known =
     subst (λ (s : Result Reply EventFault). GivesEvent s (model_of old) (model_of new) (order_turn (model_of old) (Ok order)))
     (sym (passed-is r DeskFault passed)) held
-refused-given old new order of_submit.NoMemory r passed given same held drawn =
+refused-given old new order of_submit.NoMemory r passed given same held drawn known =
     subst (λ (s : Result Reply EventFault). GivesEvent s (model_of old) (model_of new) (order_turn (model_of old) (Ok order)))
-    (sym (passed-is r NoMemory passed)) (inl (same-model old new (same (λ e. cc)) drawn))
+    (sym (passed-is r NoMemory passed)) (left-alone (model_of old) (model_of new) (order_turn (model_of old) (Ok order)) (same-model old new (same (λ e. cc)) drawn known))
 
 -- what an order leaves is what its command leaves, or what was held
 pub order-leaves : (model : Model) (order : Order)

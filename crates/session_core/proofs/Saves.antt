@@ -1,5 +1,5 @@
 -- Saves as a session has them: one that begins, and one that goes on.
-use Rattle.std.proofs.Common.{◌≡◌, ◌≢◌, ℕ, ◌+◌, ◌*◌, ◌≤◌, leb, Bool, true, false, cond, List, length, Option, Some, None, refl, sym, ◌∙◌, ap, subst, inl, arith}
+use Rattle.std.proofs.Common.{◌≡◌, ◌≢◌, ℕ, ◌+◌, ◌*◌, ◌≤◌, Bool, true, false, cond, List, length, Option, Some, None, refl, sym, ◌∙◌, ap, subst, arith}
 use Rattle.std.specs.Prelude.{◌/◌, ◌<◌, IfSome, IsErrAnd, IsTrue, OnErr, OnOk, Result, Ok, Err, is_some, option_map, unwrap_or}
 use Rattle.std.proofs.lemmas.Bool.{true≢false}
 use Rattle.std.proofs.lemmas.Bool.Decides.{nat_tests}
@@ -7,12 +7,11 @@ use Rattle.std.specs.FinMap as finite
 use Rattle.bank_pair.specs.Saving.{AreSlicesOf, SaveValue, gate_of_save}
 use Rattle.chart_model.specs.State.{StateValue}
 use Rattle.chart_pages.specs.Grammar.{spelling}
-use Rattle.chart_store.specs.Outcome.{BANK_LIMIT}
 use Rattle.chart_store.specs.Saving.{HasBegun, begun_save, save_after, saved_by, used_after}
 use Rattle.chart_store.specs.Saving as of_store
 use Rattle.bank_pair.specs.Pair.{IsPairInStep}
 use Rattle.chart_store.specs.Images.{Holds}
-use Rattle.chart_store.specs.Store.{IsKept, IsSaveOf, StoreValue, count_of, pair_of, save_of, state_of, used_of}
+use Rattle.chart_store.specs.Store.{IsKept, IsSaveOf, StoreValue, count_of, save_of, state_of, used_of}
 use Rattle.chart_store.specs.Store.{store_of as value_of}
 use Rattle.chart_store.specs.declared.refusal.Refusal.TheVariants.{BankFull}
 use Rattle.chart_store.specs.Submitted.{RefusedHas}
@@ -22,27 +21,29 @@ use Rattle.chart_store.specs.declared.submit_fault.SubmitFault.TheVariants as of
 use Rattle.chart_store.specs.declared.save_state.SaveState.{SaveState}
 use Rattle.chart_store.specs.declared.save_state.SaveState.TheVariants.{Saved, Under}
 use Rattle.chart_store.specs.declared.store.Store.{Store}
+use Rattle.panel_scenes.specs.Scene.{SceneValue}
 use Rattle.script_reader.specs.declared.reply.Reply.{Reply}
 use Rattle.script_reader.specs.declared.reply.Reply.TheVariants as replies
 use Rattle.session_core.specs.Answers.{fault_of_submit}
 use Rattle.session_core.specs.Model.{Model, Portrayal, Progress}
-use Rattle.session_core.specs.Save.{bank_bytes, is_done_by, is_too_long, model_saving, model_stepped, slices_of, written_more}
+use Rattle.session_core.specs.Save.{bank_bytes, is_too_long, model_saving, model_stepped, slices_of, written_more}
 use Rattle.script_reader.specs.declared.event.Event.{Event}
 use Rattle.script_reader.specs.declared.event.Event.TheVariants as asks
 use Rattle.session_core.specs.Held.{chart_of}
 use Rattle.session_core.specs.Kept.{IsKeptOf}
 use Rattle.session_core.specs.Session.{GivesEvent, IsReady, KeepsCharts, WritesSlices, grids_in, model_of, portrayal_of, progress_of}
-use Rattle.session_core.specs.Session.{store_of, users_in}
+use Rattle.session_core.specs.Session.{scenes_of, store_of, users_in}
 use Rattle.session_core.specs.Steps.{TakesAtMost}
 use Rattle.spatial_grid.specs.Box.{IsGridOf}
 use Rattle.topology_cache.specs.Users.{AreUsersOf}
-use Rattle.session_core.specs.Turn.{Turn, begin_turn, refusal_turn, reply_stepped, save_turn, step_turn}
+use Rattle.session_core.specs.Replied.{Turn, refusal_turn}
+use Rattle.session_core.specs.Turn.{begin_turn, reply_stepped, save_turn, step_turn}
 use Rattle.session_core.specs.declared.fault.EventFault.{EventFault}
 use Rattle.session_core.specs.declared.fault.EventFault.TheVariants.{Refused, DeskFault, NoMemory}
 use Rattle.session_core.specs.declared.refusal.LineRefusal.TheVariants as line
 use Rattle.session_core.specs.declared.session.Session.{Session}
 use Rattle.session_core.proofs.Fetching.{passed-is}
-use Rattle.session_core.proofs.Renewing.{same-model}
+use Rattle.session_core.proofs.Renewing.{left-alone, same-model}
 use Rattle.session_core.proofs.Stepping.{none-taken}
 
 -- ---- a save begins
@@ -57,17 +58,18 @@ counted bytes slices sliced =
     omega (arith, least, holds)
 
 -- a model by what a store keeps
-abbrev model_by : StateValue → ℕ → Option SaveValue → Portrayal → Model
-model_by state gate save portrayal = record {
+abbrev model_by : StateValue → ℕ → Option SaveValue → Portrayal → List SceneValue → Model
+model_by state gate save portrayal scenes = record {
   state = state;
   room = record { used = gate + 1; other = option_map (λ (s : SaveValue). gate_of_save s + 1) save };
   save = option_map progress_of save;
   portrayal = portrayal;
+  scenes = scenes;
 }
 
 begun-model : (old new : Session) (slices : ℕ) → HasBegun slices (store_of old) (store_of new) → portrayal_of new ≡ portrayal_of old
-    → model_saving (model_of old) ≡ model_of new
-begun-model old new slices begun drawn =
+    → scenes_of new ≡ scenes_of old → model_saving (model_of old) ≡ model_of new
+begun-model old new slices begun drawn known =
     let state : StateValue = state_of (store_of old) in
     let bytes : bank_bytes state ≡ gate_of_save (begun_save (store_of old) slices) + 1 = omega arith in
     let in_slices : slices_of state ≡ slices = counted (spelling state) slices begun.sliced in
@@ -76,17 +78,18 @@ begun-model old new slices begun drawn =
       room = record { used = used_of (store_of old); other = Some (bytes i) };
       save = Some (record { written = 0; slices = in_slices i });
       portrayal = portrayal_of old;
+      scenes = scenes_of old;
     })
-    ∙ (λ i. model_by (sym begun.state i) (sym begun.gate i) (sym begun.save i) (sym drawn i))
+    ∙ (λ i. model_by (sym begun.state i) (sym begun.gate i) (sym begun.save i) (sym drawn i) (sym known i))
 
 -- no save was under way, and there is room
 fits : (state : StateValue) → bank_bytes state ≤ 268435456 → is_too_long state ≡ false
 fits state h = grind (arith, nat_tests)
 
 pub begun-gives : (old new : Session) (slices : ℕ) → save_of (store_of old) ≡ None → length (spelling (state_of (store_of old))) + 9 ≤ 268435456
-    → HasBegun slices (store_of old) (store_of new) → portrayal_of new ≡ portrayal_of old
+    → HasBegun slices (store_of old) (store_of new) → portrayal_of new ≡ portrayal_of old → scenes_of new ≡ scenes_of old
     → ((begin_turn (model_of old) (model_of old).save).reply ≡ replies.Save slices) × ((begin_turn (model_of old) (model_of old).save).model ≡ model_of new)
-begun-gives old new slices idle room begun drawn =
+begun-gives old new slices idle room begun drawn known =
     let model : Model = model_of old in
     let none : (model_of old).save ≡ None = ap (option_map progress_of) idle in
     let is : begin_turn model model.save ≡ save_turn (replies.Save (slices_of model.state)) (model_saving model)
@@ -94,7 +97,7 @@ begun-gives old new slices idle room begun drawn =
     ∙ ap (λ (b : Bool). cond b (refusal_turn model (line.Store (BankFull 0 (bank_bytes model.state))))
     (save_turn (replies.Save (slices_of model.state)) (model_saving model))) (fits model.state room) in (
       ap (λ turn. turn.reply) is ∙ ap replies.Save (counted (spelling model.state) slices begun.sliced),
-      ap (λ turn. turn.model) is ∙ begun-model old new slices begun drawn,
+      ap (λ turn. turn.model) is ∙ begun-model old new slices begun drawn known,
     )
 
 -- the bank would be too long
@@ -127,19 +130,20 @@ pub refused-gives : (old new : Session) (fault : SubmitFault) (r : Result Reply 
     → save_of (store_of old) ≡ None
     → RefusedHas (λ refusal. (refusal ≡ BankFull 0 (length (spelling (state_of (store_of old))) + 9))
     × (268435456 < length (spelling (state_of (store_of old))) + 9)) fault
-    → value_of (store_of new) ≡ value_of (store_of old) → portrayal_of new ≡ portrayal_of old → fault ≢ of_submit.DeskFault
+    → value_of (store_of new) ≡ value_of (store_of old) → portrayal_of new ≡ portrayal_of old → scenes_of new ≡ scenes_of old → fault ≢ of_submit.DeskFault
     → GivesEvent r (model_of old) (model_of new) (begin_turn (model_of old) (model_of old).save)
-refused-gives old new (of_submit.Refused refusal) r passed idle (is, long) same drawn no_desk =
+refused-gives old new (of_submit.Refused refusal) r passed idle (is, long) same drawn known no_desk =
     subst (λ (s : Result Reply EventFault). GivesEvent s (model_of old) (model_of new) (begin_turn (model_of old) (model_of old).save))
     (sym (passed-is r (Refused (line.Store refusal)) passed)) (
       full-refuses (model_of old) (ap (option_map progress_of) idle) long
           ∙ ap (λ (given : of_refusal.Refusal). refusal_turn (model_of old) (line.Store given)) (sym is),
-      same-model old new same drawn,
+      same-model old new same drawn known,
     )
-refused-gives old new of_submit.DeskFault r passed idle full same drawn no_desk = absurd (no_desk refl)
-refused-gives old new of_submit.NoMemory r passed idle full same drawn no_desk =
+refused-gives old new of_submit.DeskFault r passed idle full same drawn known no_desk = absurd (no_desk refl)
+refused-gives old new of_submit.NoMemory r passed idle full same drawn known no_desk =
     subst (λ (s : Result Reply EventFault). GivesEvent s (model_of old) (model_of new) (begin_turn (model_of old) (model_of old).save))
-    (sym (passed-is r NoMemory passed)) (inl (same-model old new same drawn))
+    (sym (passed-is r NoMemory passed))
+    (left-alone (model_of old) (model_of new) (begin_turn (model_of old) (model_of old).save) (same-model old new same drawn known))
 
 -- ---- a save goes on
 
@@ -165,6 +169,7 @@ module _ (old new : Session) (n : ℕ) (save : SaveValue) where
     };
     save = option_map progress_of (cond b None (Some (record save { written = save.written + n })));
     portrayal = portrayal_of old;
+    scenes = scenes_of old;
   }
 
   stepped-model : (b : Bool) → of_store.is_done_by save n ≡ b → save_of (store_of old) ≡ Some save
@@ -185,6 +190,7 @@ module _ (old new : Session) (n : ℕ) (save : SaveValue) where
         room = record { used = unwrap_or other (used_of (store_of old)); other = None };
         save = None;
         portrayal = portrayal_of old;
+        scenes = scenes_of old;
       }
 
       going : Option ℕ → Model
@@ -193,14 +199,15 @@ module _ (old new : Session) (n : ℕ) (save : SaveValue) where
         room = record { used = used_of (store_of old); other = other };
         save = Some (written_more (progress_of save) n);
         portrayal = portrayal_of old;
+        scenes = scenes_of old;
       }
 
   pub stepped-gives : (answer : SaveState) → save_of (store_of old) ≡ Some save → answer ≡ saved_by save n
       → save_of (store_of new) ≡ save_after save n → used_of (store_of new) ≡ used_after (used_of (store_of old)) save n
-      → state_of (store_of new) ≡ state_of (store_of old) → portrayal_of new ≡ portrayal_of old
+      → state_of (store_of new) ≡ state_of (store_of old) → portrayal_of new ≡ portrayal_of old → scenes_of new ≡ scenes_of old
       → ((step_turn (model_of old) n (model_of old).save).reply ≡ reply_by answer)
       × ((step_turn (model_of old) n (model_of old).save).model ≡ model_of new)
-  stepped-gives answer some is left used held drawn =
+  stepped-gives answer some is left used held drawn known =
       let under : (model_of old).save ≡ Some (progress_of save) = ap (option_map progress_of) some in
       let done : Bool = of_store.is_done_by save n in (
         ap (λ s. (step_turn (model_of old) n s).reply) under ∙ stepped-reply done refl ∙ ap reply_by (sym is),
@@ -210,6 +217,7 @@ module _ (old new : Session) (n : ℕ) (save : SaveValue) where
               room = record { used = sym used i; other = option_map (λ (s : SaveValue). gate_of_save s + 1) (sym left i) };
               save = option_map progress_of (sym left i);
               portrayal = sym drawn i;
+              scenes = sym known i;
             }),
       )
 

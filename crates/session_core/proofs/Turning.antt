@@ -9,6 +9,7 @@ use Rattle.chart_store.specs.Images.{StandFor}
 use Rattle.chart_store.specs.Loaded.{FILE_LIMIT}
 use Rattle.chart_store.specs.Outcome.{most_steps}
 use Rattle.chart_store.specs.Store.{StandsForEither, StandsForSame}
+use Rattle.panel_scenes.specs.Numbered.{numbered}
 use Rattle.script_reader.specs.declared.event.Event.{Event}
 use Rattle.script_reader.specs.declared.event.Event.TheVariants as asks
 use Rattle.script_reader.specs.declared.reply.Reply.{Reply}
@@ -18,7 +19,7 @@ use Rattle.session_core.specs.declared.fault.EventFault.TheVariants.{Refused, De
 use Rattle.session_core.specs.declared.refusal.LineRefusal.{LineRefusal}
 use Rattle.session_core.specs.Answers.{Gives}
 use Rattle.session_core.specs.Draw.{draw_of}
-use Rattle.session_core.specs.Fetch.{Fetches, file_in}
+use Rattle.session_core.specs.Fetch.{file_in}
 use Rattle.session_core.specs.Info.{info_of}
 use Rattle.session_core.specs.Listing.{cells_reply}
 use Rattle.session_core.specs.Model.{Model}
@@ -26,7 +27,10 @@ use Rattle.session_core.specs.Order.{drop_order, load_order, make_order, reissue
 use Rattle.session_core.specs.Route.{ROUTE_LIMIT, route_of}
 use Rattle.session_core.specs.Session.{GivesEvent, TakesTurn}
 use Rattle.session_core.specs.Steps.{most_steps_at, most_steps_for, records_of_file}
-use Rattle.session_core.specs.Turn.{Turn, begin_turn, order_turn, reply_turn, step_turn, turn_of}
+use Rattle.session_core.specs.Outside.{FromOutside}
+use Rattle.session_core.specs.Panels.{close_turn, paint_turn, panel_turn, refresh_turn}
+use Rattle.session_core.specs.Replied.{Turn, reply_turn}
+use Rattle.session_core.specs.Turn.{begin_turn, order_turn, step_turn, turn_of}
 use Rattle.session_core.proofs.Fetching.{passed-is}
 
 -- files that stand for the same stand for either
@@ -75,61 +79,61 @@ replied-gives before (Err NoMemory) wanted h = inl refl
 -- ---- questions and orders
 
 -- what a line orders, as far as its turn and its steps go
-pub record Orders (fetches : Fetches) (before : Model) (event : Event) (wanted : Result Order LineRefusal) : Type 0 where
-  pub turn : turn_of fetches before event ≡ order_turn before wanted
-  pub steps : most_steps_at fetches before event ≡ most_steps_for before.state wanted
+pub record Orders (outside : FromOutside) (before : Model) (event : Event) (wanted : Result Order LineRefusal) : Type 0 where
+  pub turn : turn_of outside before event ≡ order_turn before wanted
+  pub steps : most_steps_at outside.fetches before event ≡ most_steps_for before.state wanted
 
-module _ (A : Fetches → Type 0) (L : (Images → List ℕ → Type 0) → Type 0) (said : List ℕ) (event : Event) (before : Model) (W : ℕ → Type 0) where
+module _ (A : FromOutside → Type 0) (L : (Images → List ℕ → Type 0) → Type 0) (said : List ℕ) (event : Event) (before : Model) (W : ℕ → Type 0) where
   -- a question is answered, or refused
-  pub question-turns : (fetches : Fetches) (wanted : Result Reply LineRefusal) (r : Result Reply EventFault) → A fetches
-      → turn_of fetches before event ≡ reply_turn before wanted → W (most_steps_at fetches before event) → Gives {A = Reply} r wanted
+  pub question-turns : (outside : FromOutside) (wanted : Result Reply LineRefusal) (r : Result Reply EventFault) → A outside
+      → turn_of outside before event ≡ reply_turn before wanted → W (most_steps_at outside.fetches before event) → Gives {A = Reply} r wanted
       → ((after : StateValue) → L (StandsForEither said before.state after))
       → TakesTurn A L said event before W (GivesEvent r before before)
-  question-turns fetches wanted r answers is steps given leaves = record {
-    fetches = fetches;
+  question-turns outside wanted r answers is steps given leaves = record {
+    outside = outside;
     answers = answers;
     gives = subst (GivesEvent r before before) (sym is) (replied-gives before r wanted given);
     steps = steps;
-    leaves = leaves (turn_of fetches before event).model.state;
+    leaves = leaves (turn_of outside before event).model.state;
   }
 
   -- a save goes on
-  pub save-turns : (fetches : Fetches) (wanted : Turn) (r : Result Reply EventFault) (now : Model) → A fetches
-      → turn_of fetches before event ≡ wanted → W (most_steps_at fetches before event) → GivesEvent r before now wanted
+  pub save-turns : (outside : FromOutside) (wanted : Turn) (r : Result Reply EventFault) (now : Model) → A outside
+      → turn_of outside before event ≡ wanted → W (most_steps_at outside.fetches before event) → GivesEvent r before now wanted
       → ((after : StateValue) → L (StandsForEither said before.state after))
       → TakesTurn A L said event before W (GivesEvent r before now)
-  save-turns fetches wanted r now answers is steps given leaves = record {
-    fetches = fetches;
+  save-turns outside wanted r now answers is steps given leaves = record {
+    outside = outside;
     answers = answers;
     gives = subst (GivesEvent r before now) (sym is) given;
     steps = steps;
-    leaves = leaves (turn_of fetches before event).model.state;
+    leaves = leaves (turn_of outside before event).model.state;
   }
 
   -- nothing is ordered
-  pub order-fails : (fetches : Fetches) (wanted : Result Order LineRefusal) (r : Result Reply EventFault) (fault : EventFault) → A fetches
-      → Orders fetches before event wanted → W (most_steps_at fetches before event) → IsErrAnd r (λ passed. passed ≡ fault)
+  pub order-fails : (outside : FromOutside) (wanted : Result Order LineRefusal) (r : Result Reply EventFault) (fault : EventFault) → A outside
+      → Orders outside before event wanted → W (most_steps_at outside.fetches before event) → IsErrAnd r (λ passed. passed ≡ fault)
       → Gives {A = Order} (Err fault) wanted → ((after : StateValue) → L (StandsForEither said before.state after))
       → TakesTurn A L said event before W (GivesEvent r before before)
-  order-fails fetches wanted r fault answers is steps passed given leaves = record {
-    fetches = fetches;
+  order-fails outside wanted r fault answers is steps passed given leaves = record {
+    outside = outside;
     answers = answers;
     gives = subst (GivesEvent r before before) (sym is.turn)
         (passed-event r fault before before (order_turn before wanted) passed (ordered-fails before fault wanted given));
     steps = steps;
-    leaves = leaves (turn_of fetches before event).model.state;
+    leaves = leaves (turn_of outside before event).model.state;
   }
 
   -- what comes of an order
-  pub order-turns : (fetches : Fetches) (wanted : Result Order LineRefusal) (order : Order) (r : Result Reply EventFault) (now : Model) → A fetches
-      → Orders fetches before event wanted → wanted ≡ Ok order → W (most_steps before.state order.command)
+  pub order-turns : (outside : FromOutside) (wanted : Result Order LineRefusal) (order : Order) (r : Result Reply EventFault) (now : Model) → A outside
+      → Orders outside before event wanted → wanted ≡ Ok order → W (most_steps before.state order.command)
       → GivesEvent r before now (order_turn before (Ok order))
       → L (StandsForEither said before.state (order_turn before (Ok order)).model.state)
       → TakesTurn A L said event before W (GivesEvent r before now)
-  order-turns fetches wanted order r now answers is found steps given leaves =
-      let same : turn_of fetches before event ≡ order_turn before (Ok order) = is.turn ∙ ap (order_turn before) found in
+  order-turns outside wanted order r now answers is found steps given leaves =
+      let same : turn_of outside before event ≡ order_turn before (Ok order) = is.turn ∙ ap (order_turn before) found in
       record {
-        fetches = fetches;
+        outside = outside;
         answers = answers;
         gives = subst (GivesEvent r before now) (sym same) given;
         steps = subst W (sym (is.steps ∙ ap (most_steps_for before.state) found)) steps;
@@ -138,63 +142,79 @@ module _ (A : Fetches → Type 0) (L : (Images → List ℕ → Type 0) → Type
 
 -- ---- the turn of each line
 
-module _ (fetches : Fetches) (model : Model) (event : Event) where
+module _ (outside : FromOutside) (model : Model) (event : Event) where
   pub info-is : (name : List ℕ) → event ≡ asks.Info name
-      → turn_of fetches model event ≡ reply_turn model (info_of name (fetches FILE_LIMIT name))
+      → turn_of outside model event ≡ reply_turn model (info_of name (outside.fetches FILE_LIMIT name))
   unfolding turn_of
-  info-is name is = ap (turn_of fetches model) is
+  info-is name is = ap (turn_of outside model) is
 
-  pub cells-is : event ≡ asks.Cells → turn_of fetches model event ≡ reply_turn model (Ok (cells_reply model.state.cells))
+  pub cells-is : event ≡ asks.Cells → turn_of outside model event ≡ reply_turn model (Ok (cells_reply model.state.cells))
   unfolding turn_of
-  cells-is is = ap (turn_of fetches model) is
+  cells-is is = ap (turn_of outside model) is
 
   pub draw-is : (key : List ℕ) → event ≡ asks.Draw key
-      → turn_of fetches model event ≡ reply_turn model (draw_of model.portrayal model.state.cells key)
+      → turn_of outside model event ≡ reply_turn model (draw_of model.portrayal model.state.cells key)
   unfolding turn_of
-  draw-is key is = ap (turn_of fetches model) is
+  draw-is key is = ap (turn_of outside model) is
 
   pub route-is : (name : List ℕ) → event ≡ asks.Route name
-      → turn_of fetches model event ≡ reply_turn model (route_of model.portrayal.settings model.state name (fetches ROUTE_LIMIT name))
+      → turn_of outside model event ≡ reply_turn model (route_of model.portrayal.settings model.state name (outside.fetches ROUTE_LIMIT name))
   unfolding turn_of
-  route-is name is = ap (turn_of fetches model) is
+  route-is name is = ap (turn_of outside model) is
 
   pub info-steps : (name : List ℕ) → event ≡ asks.Info name
-      → most_steps_at fetches model event ≡ records_of_file (file_in FILE_LIMIT name (fetches FILE_LIMIT name))
+      → most_steps_at outside.fetches model event ≡ records_of_file (file_in FILE_LIMIT name (outside.fetches FILE_LIMIT name))
   unfolding most_steps_at
-  info-steps name is = ap (most_steps_at fetches model) is
+  info-steps name is = ap (most_steps_at outside.fetches model) is
 
-  pub load-is : (name : List ℕ) → event ≡ asks.Load name → Orders fetches model event (load_order name (fetches FILE_LIMIT name))
+  pub load-is : (name : List ℕ) → event ≡ asks.Load name → Orders outside model event (load_order name (outside.fetches FILE_LIMIT name))
   unfolding turn_of most_steps_at
-  load-is name is = record { turn = ap (turn_of fetches model) is; steps = ap (most_steps_at fetches model) is }
+  load-is name is = record { turn = ap (turn_of outside model) is; steps = ap (most_steps_at outside.fetches model) is }
 
-  pub rollback-is : (key : List ℕ) (update : ℕ) → event ≡ asks.Rollback key update → Orders fetches model event (Ok (rollback_order key update))
+  pub rollback-is : (key : List ℕ) (update : ℕ) → event ≡ asks.Rollback key update → Orders outside model event (Ok (rollback_order key update))
   unfolding turn_of most_steps_at
-  rollback-is key update is = record { turn = ap (turn_of fetches model) is; steps = ap (most_steps_at fetches model) is }
+  rollback-is key update is = record { turn = ap (turn_of outside model) is; steps = ap (most_steps_at outside.fetches model) is }
 
-  pub drop-is : (key : List ℕ) → event ≡ asks.Drop key → Orders fetches model event (Ok (drop_order key))
+  pub drop-is : (key : List ℕ) → event ≡ asks.Drop key → Orders outside model event (Ok (drop_order key))
   unfolding turn_of most_steps_at
-  drop-is key is = record { turn = ap (turn_of fetches model) is; steps = ap (most_steps_at fetches model) is }
+  drop-is key is = record { turn = ap (turn_of outside model) is; steps = ap (most_steps_at outside.fetches model) is }
 
-  pub save-is : event ≡ asks.Save → turn_of fetches model event ≡ begin_turn model model.save
+  pub save-is : event ≡ asks.Save → turn_of outside model event ≡ begin_turn model model.save
   unfolding turn_of
-  save-is is = ap (turn_of fetches model) is
+  save-is is = ap (turn_of outside model) is
 
-  pub save-step-is : (slices : ℕ) → event ≡ asks.SaveStep slices → turn_of fetches model event ≡ step_turn model slices model.save
+  pub save-step-is : (slices : ℕ) → event ≡ asks.SaveStep slices → turn_of outside model event ≡ step_turn model slices model.save
   unfolding turn_of
-  save-step-is slices is = ap (turn_of fetches model) is
+  save-step-is slices is = ap (turn_of outside model) is
 
-  pub save-steps : event ≡ asks.Save → most_steps_at fetches model event ≡ 0
+  pub save-steps : event ≡ asks.Save → most_steps_at outside.fetches model event ≡ 0
   unfolding most_steps_at
-  save-steps is = ap (most_steps_at fetches model) is
+  save-steps is = ap (most_steps_at outside.fetches model) is
 
-  pub save-step-steps : (slices : ℕ) → event ≡ asks.SaveStep slices → most_steps_at fetches model event ≡ 0
+  pub save-step-steps : (slices : ℕ) → event ≡ asks.SaveStep slices → most_steps_at outside.fetches model event ≡ 0
   unfolding most_steps_at
-  save-step-steps slices is = ap (most_steps_at fetches model) is
+  save-step-steps slices is = ap (most_steps_at outside.fetches model) is
 
-  pub make-is : (areas update : ℕ) → event ≡ asks.Make areas update → Orders fetches model event (make_order areas update)
+  pub make-is : (areas update : ℕ) → event ≡ asks.Make areas update → Orders outside model event (make_order areas update)
   unfolding turn_of most_steps_at
-  make-is areas update is = record { turn = ap (turn_of fetches model) is; steps = ap (most_steps_at fetches model) is }
+  make-is areas update is = record { turn = ap (turn_of outside model) is; steps = ap (most_steps_at outside.fetches model) is }
 
-  pub reissue-is : (key : List ℕ) → event ≡ asks.Reissue key → Orders fetches model event (reissue_order model.state.cells key)
+  pub reissue-is : (key : List ℕ) → event ≡ asks.Reissue key → Orders outside model event (reissue_order model.state.cells key)
   unfolding turn_of most_steps_at
-  reissue-is key is = record { turn = ap (turn_of fetches model) is; steps = ap (most_steps_at fetches model) is }
+  reissue-is key is = record { turn = ap (turn_of outside model) is; steps = ap (most_steps_at outside.fetches model) is }
+
+  pub refresh-is : (k : ℕ) → event ≡ asks.Refresh k → turn_of outside model event ≡ refresh_turn model k (numbered k model.scenes)
+  unfolding turn_of
+  refresh-is k is = ap (turn_of outside model) is
+
+  pub paint-is : (k n : ℕ) → event ≡ asks.Paint k n → turn_of outside model event ≡ paint_turn model k n outside.painting_failed
+  unfolding turn_of
+  paint-is k n is = ap (turn_of outside model) is
+
+  pub panel-is : (k : ℕ) → event ≡ asks.Panel k → turn_of outside model event ≡ panel_turn model k outside.numbers (numbered k model.scenes)
+  unfolding turn_of
+  panel-is k is = ap (turn_of outside model) is
+
+  pub close-panel-is : (k : ℕ) → event ≡ asks.ClosePanel k → turn_of outside model event ≡ close_turn model k (numbered k model.scenes)
+  unfolding turn_of
+  close-panel-is k is = ap (turn_of outside model) is

@@ -7,6 +7,9 @@ pub mod Refusal
 pub mod Answers
 pub mod Model
 pub mod Save
+pub mod Replied
+pub mod Outside
+pub mod Panels
 pub mod Draw
 pub mod Route
 pub mod Written

@@ -5,6 +5,7 @@ use Rattle.chart_model.specs.declared.command.Command.{Command}
 use Rattle.chart_model.specs.declared.settings.Settings.{Settings}
 use Rattle.chart_store.specs.Outcome.{Room, record_size, room_after}
 use Rattle.lookup_table.specs.declared.line.TableLine.{TableLine}
+use Rattle.panel_scenes.specs.Scene.{SceneValue}
 
 -- by what cells are drawn: the lines of the lookup table, and what the mariner set
 pub record Portrayal : Type 0 where
@@ -19,12 +20,18 @@ pub record Progress : Type 0 where
   pub written : ℕ
   pub slices : ℕ
 
--- what is held, how much of the banks is used, the save that is under way, and by what cells are drawn
+-- what is held, how much of the banks is used, the save that is under way, by what cells are drawn, and what is known
+-- of each panel
 pub record Model : Type 0 where
   pub state : StateValue
   pub room : Room
   pub save : Option Progress
   pub portrayal : Portrayal
+  pub scenes : List SceneValue
+
+-- the model where this is known of panels
+abbrev pub with_scenes : Model → List SceneValue → Model
+with_scenes model scenes = record model { scenes = scenes }
 
 -- the model once a command has left this behind: its record is in the journal
 abbrev pub model_with : Model → Command → StateValue → Model

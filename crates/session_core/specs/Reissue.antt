@@ -12,10 +12,11 @@ use Rattle.chart_store.specs.Reissued.{held_by_file}
 use Rattle.chart_store.specs.declared.refusal.Refusal.TheVariants.{BankFull, StoreFull}
 use Rattle.script_reader.specs.declared.event.Event.TheVariants as asks
 use Rattle.script_reader.specs.declared.reply.Reply.TheVariants as replies
-use Rattle.session_core.specs.Fetch.{Fetches}
 use Rattle.session_core.specs.Held.{chart_of}
 use Rattle.session_core.specs.Model.{Model}
-use Rattle.session_core.specs.Turn.{Turn, refusal_turn, turn_of}
+use Rattle.session_core.specs.Outside.{FromOutside}
+use Rattle.session_core.specs.Replied.{Turn, refusal_turn}
+use Rattle.session_core.specs.Turn.{turn_of}
 use Rattle.session_core.specs.Written.{or_refused}
 use Rattle.session_core.specs.declared.refusal.LineRefusal.{LineRefusal}
 use Rattle.session_core.specs.declared.refusal.LineRefusal.TheVariants.{CellLong, RecordLong, Store}
@@ -48,5 +49,5 @@ pub record KeepsChart (model : Model) (key : List ℕ) (here : Holding) (chart :
 -- so does the line `reissue` of a cell that is held and not cancelled
 abbrev pub ReissueKeepsChart : Model → List ℕ → Type 0
 ReissueKeepsChart model key =
-    (fetches : Fetches) (here : Holding) (chart : CellValue) → map.get model.state.cells key ≡ Some here
-    → here.chart ≡ Some chart → KeepsChart model key here chart (turn_of fetches model (asks.Reissue key))
+    (outside : FromOutside) (here : Holding) (chart : CellValue) → map.get model.state.cells key ≡ Some here
+    → here.chart ≡ Some chart → KeepsChart model key here chart (turn_of outside model (asks.Reissue key))

@@ -1,5 +1,5 @@
 -- What the lines `save` and `save-step` make of a model. What is held stays.
-use Rattle.std.specs.Prelude.{ℕ, ◌+◌, ◌/◌, nat_le, nat_lt, if◌then◌else◌, Bool, length, Option, Some, None, unwrap_or}
+use Rattle.std.specs.Prelude.{ℕ, ◌+◌, ◌/◌, nat_le, nat_lt, if◌then◌else◌, Bool, length, Some, None, unwrap_or}
 use Rattle.chart_model.specs.State.{StateValue}
 use Rattle.chart_pages.specs.Grammar.{spelling}
 use Rattle.chart_store.specs.Outcome.{BANK_LIMIT, Room}

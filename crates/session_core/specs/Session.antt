@@ -8,6 +8,7 @@ use Rattle.chart_ports.specs.declared.images.Images.{Images}
 use Rattle.chart_store.specs.declared.store.Store.{Store}
 use Rattle.bank_pair.specs.Saving.{SaveValue}
 use Rattle.chart_store.specs.Store.{IsKept, StandsForEither, count_of, is_sound, pair_of, room_of, save_of, state_of}
+use Rattle.panel_scenes.specs.Scene.{SceneValue}
 use Rattle.plane_bounds.specs.declared.bounds.Bounds.{Bounds}
 use Rattle.script_reader.specs.declared.event.Event.{Event}
 use Rattle.script_reader.specs.declared.event.Event.TheVariants as asks
@@ -17,11 +18,12 @@ use Rattle.session_core.specs.declared.fault.EventFault.TheVariants.{Refused, De
 use Rattle.session_core.specs.declared.fault.TurnFault.{TurnFault}
 use Rattle.session_core.specs.declared.fault.TurnFault.TheVariants as no_turn
 use Rattle.session_core.specs.declared.session.Session.{Session}
-use Rattle.session_core.specs.Fetch.{Fetches}
 use Rattle.session_core.specs.Kept.{IsKeptOfEach}
-use Rattle.session_core.specs.Model.{Model, Portrayal, Progress, portrayal_with}
+use Rattle.session_core.specs.Model.{Model, Portrayal, Progress, portrayal_with, with_scenes}
+use Rattle.session_core.specs.Outside.{FromOutside}
+use Rattle.session_core.specs.Replied.{Turn, refusal_turn}
 use Rattle.session_core.specs.Steps.{most_steps_at}
-use Rattle.session_core.specs.Turn.{Turn, refusal_turn, turn_of}
+use Rattle.session_core.specs.Turn.{turn_of}
 use Rattle.spatial_grid.specs.Box.{IsGridOf}
 use Rattle.topology_cache.specs.Users.{AreUsersOf, UsersValue}
 
@@ -37,6 +39,10 @@ portrayal_of session = portrayal_with session.table session.settings
 abbrev pub progress_of : SaveValue → Progress
 progress_of save = record { written = save.written; slices = save.slices }
 
+-- what it knows of each panel
+abbrev pub scenes_of : Session → List SceneValue
+scenes_of session = session.panels
+
 -- what its replies depend on
 abbrev pub model_of : Session → Model
 model_of session = record {
@@ -44,6 +50,7 @@ model_of session = record {
   room = room_of (store_of session);
   save = option_map progress_of (save_of (store_of session));
   portrayal = portrayal_of session;
+  scenes = scenes_of session;
 }
 
 -- the users that it keeps, by the keys of the charts
@@ -71,9 +78,9 @@ pub record IsReady (tells : Bool) (contents : ℕ → List ℕ) (may_leave : ℕ
 -- ---- a turn
 
 -- Where memory ran out all is as it was, or the model is what the turn leaves: its command was accepted, and its reply
--- isn't told.
+-- isn't told. Nothing is said of what is known of panels then.
 abbrev pub LeavesEither : Model → Model → Turn → Type 0
-LeavesEither before now turn = (now ≡ before) ⊎ (turn.model ≡ now)
+LeavesEither before now turn = (now ≡ with_scenes before now.scenes) ⊎ (with_scenes turn.model now.scenes ≡ now)
 
 -- The answer and the model after it are those of the turn. A fault of the desk leaves what is held as it was.
 abbrev pub GivesTurn : Result Reply TurnFault → Model → Model → Turn → Type 0
@@ -88,17 +95,17 @@ GivesEvent (Err (Refused refusal)) before now turn = (turn ≡ refusal_turn befo
 GivesEvent (Err DeskFault) before now turn = now.state ≡ before.state
 GivesEvent (Err NoMemory) before now turn = LeavesEither before now turn
 
--- A turn of an event: by some answers of the shelf it is the one that is given, it takes no more steps than the event
+-- A turn of an event: by some answers from outside it is the one that is given, it takes no more steps than the event
 -- may, and a crash at any moment of it leaves files that stand for what was held before, or for what the turn leaves.
 -- Nothing is said.
-pub record TakesTurn (AreAnswers : Fetches → Type 0) (Leaves : (Images → List ℕ → Type 0) → Type 0)
+pub record TakesTurn (AreAnswers : FromOutside → Type 0) (Leaves : (Images → List ℕ → Type 0) → Type 0)
     (said : List ℕ) (event : Event) (before : Model) (IsWithin : ℕ → Type 0) (IsGiven : Turn → Type 0)
     : Type 0 where
-  pub fetches : Fetches
-  pub answers : AreAnswers fetches
-  pub gives : IsGiven (turn_of fetches before event)
-  pub steps : IsWithin (most_steps_at fetches before event)
-  pub leaves : Leaves (StandsForEither said before.state (turn_of fetches before event).model.state)
+  pub outside : FromOutside
+  pub answers : AreAnswers outside
+  pub gives : IsGiven (turn_of outside before event)
+  pub steps : IsWithin (most_steps_at outside.fetches before event)
+  pub leaves : Leaves (StandsForEither said before.state (turn_of outside before event).model.state)
 
 -- Whatever comes of a turn, one command at most is accepted, and none where the desk failed.
 pub record AcceptsOne {E : Type 0} (failed : E) (result : Result Reply E) (before now : Session) : Type 0 where

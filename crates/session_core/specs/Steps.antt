@@ -38,6 +38,10 @@ most_steps_at fetches model (asks.Rollback key update) = most_steps_for model.st
 most_steps_at fetches model (asks.Drop key) = most_steps_for model.state (Ok (drop_order key))
 most_steps_at fetches model asks.Save = 0
 most_steps_at fetches model (asks.SaveStep slices) = 0
+most_steps_at fetches model (asks.Refresh k) = 0
+most_steps_at fetches model (asks.Paint k n) = 0
+most_steps_at fetches model (asks.Panel k) = 0
+most_steps_at fetches model (asks.ClosePanel k) = 0
 most_steps_at fetches model (asks.Make areas update) = most_steps_for model.state (make_order areas update)
 most_steps_at fetches model (asks.Reissue key) = most_steps_for model.state (reissue_order model.state.cells key)
 

@@ -5,6 +5,7 @@ use Rattle.chart_store.specs.declared.refusal.Refusal as of_store
 use Rattle.chart_store.specs.declared.refusal.Refusal.TheVariants.{BankFull}
 use Rattle.chart_store.specs.Loaded.{FILE_LIMIT, Outcome}
 use Rattle.chart_store.specs.Outcome.{accepted}
+use Rattle.panel_scenes.specs.Numbered.{numbered}
 use Rattle.script_reader.specs.declared.event.Event.{Event}
 use Rattle.script_reader.specs.declared.event.Event.TheVariants as asks
 use Rattle.script_reader.specs.declared.reply.Reply.{Reply}
@@ -12,34 +13,16 @@ use Rattle.script_reader.specs.declared.reply.Reply.TheVariants as replies
 use Rattle.session_core.specs.declared.refusal.LineRefusal.{LineRefusal}
 use Rattle.session_core.specs.declared.refusal.LineRefusal.TheVariants.{Busy, NothingBegun, Store}
 use Rattle.session_core.specs.Draw.{draw_of}
-use Rattle.session_core.specs.Fetch.{Fetches}
 use Rattle.session_core.specs.Info.{info_of}
 use Rattle.session_core.specs.Listing.{cells_reply}
 use Rattle.session_core.specs.Model.{Model, Progress, model_with}
 use Rattle.session_core.specs.Order.{drop_order, load_order, make_order, reissue_order, reply_to, rollback_order}
 use Rattle.session_core.specs.declared.changes.order.Order.{Order}
-use Rattle.session_core.specs.Refusal.{reply_of}
+use Rattle.session_core.specs.Outside.{FromOutside}
+use Rattle.session_core.specs.Panels.{close_turn, paint_turn, panel_turn, refresh_turn}
+use Rattle.session_core.specs.Replied.{Turn, refusal_turn, reply_turn}
 use Rattle.session_core.specs.Route.{ROUTE_LIMIT, route_of}
 use Rattle.session_core.specs.Save.{bank_bytes, is_done_by, is_too_long, model_saving, model_stepped, slices_of}
-
--- what is replied, the command that is accepted, where one is, and the model after it
-pub record Turn : Type 0 where
-  pub reply : Reply
-  pub command : Option Command
-  pub model : Model
-
--- a question leaves everything as it is
-abbrev pub answer_turn : Model → Reply → Turn
-answer_turn model reply = record { reply = reply; command = None; model = model }
-
--- so does what is refused
-abbrev pub refusal_turn : Model → LineRefusal → Turn
-refusal_turn model refusal = answer_turn model (reply_of refusal)
-
--- a question that may be refused
-abbrev pub reply_turn : Model → Result Reply LineRefusal → Turn
-reply_turn model (Ok reply) = answer_turn model reply
-reply_turn model (Err refusal) = refusal_turn model refusal
 
 -- a command is accepted, or refused
 abbrev pub decision_turn : Model → Command → (Outcome → Reply) → Result Outcome of_store.Refusal → Turn
@@ -76,20 +59,24 @@ abbrev pub step_turn : Model → ℕ → Option Progress → Turn
 step_turn model n None = refusal_turn model NothingBegun
 step_turn model n (Some save) = save_turn (reply_stepped save n) (model_stepped model save n)
 
--- the turn of each event, by what the shelf answers
-unfoldable pub turn_of : Fetches → Model → Event → Turn
-turn_of fetches model (asks.Info name) = reply_turn model (info_of name (fetches FILE_LIMIT name))
-turn_of fetches model asks.Cells = reply_turn model (Ok (cells_reply model.state.cells))
-turn_of fetches model (asks.Draw key) = reply_turn model (draw_of model.portrayal model.state.cells key)
-turn_of fetches model (asks.Route name) =
-    reply_turn model (route_of model.portrayal.settings model.state name (fetches ROUTE_LIMIT name))
-turn_of fetches model (asks.Load name) = order_turn model (load_order name (fetches FILE_LIMIT name))
-turn_of fetches model (asks.Rollback key update) = order_turn model (Ok (rollback_order key update))
-turn_of fetches model (asks.Drop key) = order_turn model (Ok (drop_order key))
-turn_of fetches model asks.Save = begin_turn model model.save
-turn_of fetches model (asks.SaveStep slices) = step_turn model slices model.save
-turn_of fetches model (asks.Make areas update) = order_turn model (make_order areas update)
-turn_of fetches model (asks.Reissue key) = order_turn model (reissue_order model.state.cells key)
+-- the turn of each event, by what it gets from outside
+unfoldable pub turn_of : FromOutside → Model → Event → Turn
+turn_of outside model (asks.Info name) = reply_turn model (info_of name (outside.fetches FILE_LIMIT name))
+turn_of outside model asks.Cells = reply_turn model (Ok (cells_reply model.state.cells))
+turn_of outside model (asks.Draw key) = reply_turn model (draw_of model.portrayal model.state.cells key)
+turn_of outside model (asks.Route name) =
+    reply_turn model (route_of model.portrayal.settings model.state name (outside.fetches ROUTE_LIMIT name))
+turn_of outside model (asks.Load name) = order_turn model (load_order name (outside.fetches FILE_LIMIT name))
+turn_of outside model (asks.Rollback key update) = order_turn model (Ok (rollback_order key update))
+turn_of outside model (asks.Drop key) = order_turn model (Ok (drop_order key))
+turn_of outside model asks.Save = begin_turn model model.save
+turn_of outside model (asks.SaveStep slices) = step_turn model slices model.save
+turn_of outside model (asks.Refresh k) = refresh_turn model k (numbered k model.scenes)
+turn_of outside model (asks.Paint k n) = paint_turn model k n outside.painting_failed
+turn_of outside model (asks.Panel k) = panel_turn model k outside.numbers (numbered k model.scenes)
+turn_of outside model (asks.ClosePanel k) = close_turn model k (numbered k model.scenes)
+turn_of outside model (asks.Make areas update) = order_turn model (make_order areas update)
+turn_of outside model (asks.Reissue key) = order_turn model (reissue_order model.state.cells key)
 
 -- the lines that begin a save and go on with it
 abbrev pub IsOfSave : Event → Type 0

@@ -11,6 +11,7 @@ use crate::refusal::LineRefusal;
 use cell_writer::WriteFault;
 use chart_ports::ShelfError;
 use chart_store::{SubmitFault, TakeFault};
+use panel_scenes::PanelRefusal;
 use route_check::RouteFault;
 use std::alloc::{AllocError, AllocFailed};
 use thiserror::Error;
@@ -122,6 +123,18 @@ impl From<WriteFault> for EventFault {
             WriteFault::CellLong(bytes) => EventFault::Refused(LineRefusal::CellLong(bytes)),
             WriteFault::NoMemory => EventFault::NoMemory,
         }
+    }
+}
+
+impl From<PanelRefusal> for EventFault {
+    ghost use Rattle.std.specs.Prelude.{◌≡◌};
+    ghost use Rattle.session_core.specs.declared.fault.EventFault.TheVariants.{Refused};
+    ghost use Rattle.session_core.specs.Panels.{refusal_of_panel};
+
+    ghost from_gives = { λ refusal e. e ≡ Refused (refusal_of_panel refusal) };
+
+    fn from(refusal: PanelRefusal) -> EventFault {
+        EventFault::Refused(LineRefusal::from(refusal))
     }
 }
 

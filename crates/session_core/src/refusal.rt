@@ -10,6 +10,7 @@ ghost use Rattle.session_core.specs.Refusal.{numbers, store_code, code_of, store
 use crate::values::{Value, join};
 use chart_model::{Name, Octets};
 use chart_store::Refusal as StoreRefusal;
+use panel_scenes::PanelRefusal;
 use script_reader::{Reply, Word};
 use std::alloc::{AllocError, Global};
 
@@ -32,9 +33,13 @@ pub enum LineRefusal {
     NoFile(Word),
     /// 72: the shelf failed.
     ShelfFault,
-    /// 76: no save is under way.
+    /// 76: no save is under way, or no refresh of the panel.
     NothingBegun,
-    /// 79: a save is under way.
+    /// 77: there is no panel of this number.
+    NoPanel(u32),
+    /// 78: the panel of this number failed.
+    PanelFault(u32),
+    /// 79: a save is under way, or a refresh of the panel.
     Busy,
     /// 10 to 63, 73 and 74: the store refuses.
     Store(StoreRefusal),
@@ -187,6 +192,22 @@ fn store_values(alloc: Global, refusal: &StoreRefusal) -> Result<Octets, AllocEr
     }
 }
 
+impl From<PanelRefusal> for LineRefusal {
+    ghost use Rattle.std.specs.Prelude.{◌≡◌};
+    ghost use Rattle.session_core.specs.Panels.{refusal_of_panel};
+
+    ghost from_gives = { λ refusal line. line ≡ refusal_of_panel refusal };
+
+    fn from(refusal: PanelRefusal) -> LineRefusal {
+        match refusal {
+            PanelRefusal::NoPanel(k) => LineRefusal::NoPanel(k),
+            PanelRefusal::NothingBegun => LineRefusal::NothingBegun,
+            PanelRefusal::Failed(k) => LineRefusal::PanelFault(k),
+            PanelRefusal::Busy => LineRefusal::Busy,
+        }
+    }
+}
+
 impl LineRefusal {
     /// The number that says why.
     pub fn code(&self) -> u8
@@ -202,6 +223,8 @@ impl LineRefusal {
             LineRefusal::NoFile(_) => 71,
             LineRefusal::ShelfFault => 72,
             LineRefusal::NothingBegun => 76,
+            LineRefusal::NoPanel(_) => 77,
+            LineRefusal::PanelFault(_) => 78,
             LineRefusal::Busy => 79,
             LineRefusal::Store(refusal) => store_code(refusal),
         }
@@ -222,6 +245,9 @@ impl LineRefusal {
             | LineRefusal::RouteMany(number)
             | LineRefusal::BadLine(number) => join(alloc, &[Value::Number(*number)]),
             LineRefusal::NoFile(name) => join(alloc, &[Value::Text(name.as_str().as_bytes())]),
+            LineRefusal::NoPanel(k) | LineRefusal::PanelFault(k) => {
+                join(alloc, &[Value::Number(*k as u64)])
+            }
             LineRefusal::ShelfFault | LineRefusal::NothingBegun | LineRefusal::Busy => {
                 join(alloc, &[])
             }

@@ -8,8 +8,10 @@
 use crate::changes::{Order, drop_order, load_order, make_order, reissue_order, rollback_order};
 use crate::fault::{EventFault, TurnFault};
 use crate::held::{cells_of, chart_of};
+use crate::panels::{close, paint, refresh, sum_up};
 use crate::questions::{check_route, draw_chart, inform, list_cells};
 use crate::refusal::LineRefusal;
+use crate::target::Charts;
 use crate::upkeep::{all_grids, all_users, renew_grids, renew_users};
 use chart_model::Settings;
 use chart_ports::{Desk, Shelf, Steps};
@@ -18,14 +20,16 @@ use chart_store::{
     kept_stores_are_read,
 };
 use lookup_table::Table;
+use panel_port::Panel;
+use panel_scenes::PanelScenes;
 use script_reader::{Event, Reply};
 use spatial_grid::GridMap;
 use std::alloc::{AllocError, Global};
 use std::sync::ledger::Ledger;
 use topology_cache::UsersMap;
 
-/// What a run of events goes on with: the store, and the table and the settings by which cells are drawn. The shelf and
-/// the desk are handed in at each turn.
+/// What a run of events goes on with: the store, the table and the settings by which cells are drawn, and what is known
+/// of each panel. The shelf, the desk and the panels are handed in at each turn.
 ///
 /// Beside each chart that is held it keeps the users of its edges and its grid.
 #[derive(Drop)]
@@ -35,11 +39,12 @@ pub struct Session {
     settings: Settings,
     users: UsersMap,
     grids: GridMap,
+    panels: PanelScenes,
 }
 
 impl Session {
     ghost use Rattle.std.specs.Prelude.{◌≡◌, ◌≢◌, ◌+◌, ◌<◌, ◌≤◌, ◌^◌, ℕ, List, length, None, Ok, Err};
-    ghost use Rattle.std.specs.Prelude.{IfOk, IsTrue, OnErr, OnOk};
+    ghost use Rattle.std.specs.Prelude.{IfOk, IsTrue, OnErr, OnOk, vec_len};
     ghost use Rattle.std.specs.FinMap as finite;
     ghost use Rattle.bank_journal.specs.Fault.{HasDeskCause};
     ghost use Rattle.chart_difference.specs.Difference.{AreChanged};
@@ -49,31 +54,35 @@ impl Session {
     ghost use Rattle.chart_store.specs.Saving.{HasBegun};
     ghost use Rattle.chart_store.specs.Store.{StandsForEither, StandsForSame, count_of, is_sound, save_of, state_of};
     ghost use Rattle.chart_store.specs.Store.{store_of as value_of};
+    ghost use Rattle.panel_scenes.specs.Scene.{new_scenes};
     ghost use Rattle.script_reader.specs.Line.{AreInRange};
     ghost use Rattle.script_reader.specs.declared.event.Event.TheVariants.{Reissue};
     ghost use Rattle.session_core.specs.declared.fault.EventFault.TheVariants.{DeskFault as EventFailed};
-    ghost use Rattle.session_core.specs.declared.fault.EventFault.TheVariants.{NoMemory as NoMemoryForEvent};
+    ghost use Rattle.session_core.specs.declared.fault.EventFault.TheVariants.{NoMemory as NoMemoryForEvent, Refused};
     ghost use Rattle.session_core.specs.declared.fault.TurnFault.TheVariants.{DeskFault};
+    ghost use Rattle.session_core.specs.declared.refusal.LineRefusal.{LineRefusal};
     ghost use Rattle.session_core.specs.Fetch.{AreFetched, KeepsShelf};
     ghost use Rattle.session_core.specs.Held.{chart_of};
     ghost use Rattle.session_core.specs.Kept.{IsKeptOf, IsRenewed, feature_count};
     ghost use Rattle.session_core.specs.Model.{portrayal_with};
+    ghost use Rattle.session_core.specs.Outside.{AreOfPanels, KeepsPanels, faults_of, tells_of};
     ghost use Rattle.session_core.specs.Reissue.{ReissueKeepsChart};
     ghost use Rattle.session_core.specs.Session.{AcceptsOne, GivesEvent, GivesTurn, IsReady, KeepsCharts};
     ghost use Rattle.session_core.specs.Session.{KeepsOthers, TakesTurn, WritesSlices, file_of};
-    ghost use Rattle.session_core.specs.Session.{grids_in, model_of, portrayal_of, store_of, users_in};
+    ghost use Rattle.session_core.specs.Session.{grids_in, model_of, portrayal_of, scenes_of, store_of, users_in};
     ghost use Rattle.session_core.specs.Steps.{TakesAtMost};
     ghost use Rattle.session_core.specs.Turn.{begin_turn, order_turn, step_turn};
     ghost use Rattle.spatial_grid.specs.Box.{IsGridOf};
     ghost use Rattle.topology_cache.specs.Users.{AreUsersOf};
 
-    /// A session over a store that was just opened, which draws cells by a table and by what the mariner set. Each
-    /// feature of a chart is a step.
+    /// A session over a store that was just opened and over so many panels, which draws cells by a table and by what
+    /// the mariner set. Each feature of a chart is a step.
     pub fn new<C: Ledger>(
         alloc: Global,
         store: Store,
         table: Table,
         settings: Settings,
+        panels: usize,
         steps: &mut Steps<C>,
     ) -> Result<Session, AllocError>
         requires sound { IsTrue (is_sound store) }
@@ -81,18 +90,21 @@ impl Session {
         requires idle { save_of store ≡ None }
         ensures store { IfOk result (λ session. store_of session ≡ store) }
         ensures portrayal { IfOk result (λ session. portrayal_of session ≡ portrayal_with table settings) }
+        ensures scenes { IfOk result (λ session. scenes_of session ≡ new_scenes panels) }
         ensures charts { IfOk result KeepsCharts }
         ensures at_most { steps.new ≤ steps.old + feature_count (state_of store).cells }
     {
         let cells = cells_of(&store);
         let users = all_users(alloc, cells, steps)?;
         let grids = all_grids(alloc, cells)?;
+        let panels = PanelScenes::new(alloc, panels)?;
         Ok(Session {
             store,
             table,
             settings,
             users,
             grids,
+            panels,
         })
     }
 
@@ -124,6 +136,7 @@ impl Session {
             (chart_of (state_of (store_of self.old)).cells done.now.key) done.now.changed }
         ensures store { store_of self.new ≡ store_of self.old }
         ensures portrayal { portrayal_of self.new ≡ portrayal_of self.old }
+        ensures scenes { scenes_of self.new ≡ scenes_of self.old }
         ensures users { OnOk result (IsRenewed AreUsersOf done.now.key
             (chart_of (state_of (store_of self.old)).cells done.now.key) (users_in self.old) (users_in self.new)) }
         ensures grids { OnOk result (IsRenewed IsGridOf done.now.key
@@ -152,6 +165,7 @@ impl Session {
             (order_turn (model_of self.old) (Ok order)).model.state) }
         ensures stood { IsTrue D.tells → StandFor (images_of (D.contents desk.old)) (model_of self.old).state →
             result ≢ Err EventFailed → StandFor (images_of (D.contents desk.new)) (model_of self.new).state }
+        ensures scenes { scenes_of self.new ≡ scenes_of self.old }
         ensures accepted { OnOk result (count_of (store_of self.new) ≡ count_of (store_of self.old) + 1) }
         ensures accepts { AcceptsOne EventFailed result self.old self.new }
         ensures untouched { result ≢ Err EventFailed →
@@ -180,6 +194,7 @@ impl Session {
         ensures err { OnErr result (value_of (store_of self.new) ≡ value_of (store_of self.old)) }
         ensures no_desk { result ≢ Err EventFailed }
         ensures portrayal { portrayal_of self.new ≡ portrayal_of self.old }
+        ensures scenes { scenes_of self.new ≡ scenes_of self.old }
         ensures users { users_in self.new ≡ users_in self.old }
         ensures grids { grids_in self.new ≡ grids_in self.old }
     {
@@ -201,6 +216,7 @@ impl Session {
             result ≢ Err EventFailed → StandFor (images_of (D.contents desk.new)) (model_of self.new).state }
         ensures count { count_of (store_of self.new) ≡ count_of (store_of self.old) }
         ensures held { (model_of self.new).state ≡ (model_of self.old).state }
+        ensures scenes { scenes_of self.new ≡ scenes_of self.old }
         ensures untouched { (model_of self.old).save ≡ None → desk.new ≡ desk.old }
         ensures memory { result ≢ Err NoMemoryForEvent }
         ensures cause { HasDeskCause EventFailed (D.faults desk.old) (D.faults desk.new) result }
@@ -225,12 +241,16 @@ impl Session {
         event: Event,
         shelf: &mut L,
         desk: &mut D,
+        panels: &mut Vec<Box<dyn Panel>>,
         steps: &mut Steps<C>,
     ) -> Result<Reply, EventFault>
         requires ready { IsReady D.tells (D.contents desk.old) (D.may_leave desk.old) self.old }
         requires count { count_of (store_of self.old) < 2 ^ 63 }
         requires ranges { AreInRange event }
-        ensures turned { TakesTurn (AreFetched L.tells (L.files shelf.old) (L.faults shelf.old) (L.faults shelf.new))
+        requires as_many { vec_len panels.old ≡ length (scenes_of self.old) }
+        ensures turned { TakesTurn (λ outside.
+            AreFetched L.tells (L.files shelf.old) (L.faults shelf.old) (L.faults shelf.new) outside.fetches
+            × AreOfPanels scene (faults_of Panel-box) numbers event panels.old.items panels.new.items outside)
             (λ P. IsTrue D.tells → StandFor (images_of (D.contents desk.old)) (model_of self.old).state →
             LeavesOnly D.clock D.might desk.old desk.new P) (D.said desk.old)
             event (model_of self.old)
@@ -249,7 +269,12 @@ impl Session {
             KeepsOthers D.tells D.contents D.may_leave (file_of self.old) desk.old desk.new }
         ensures ready { result ≢ Err EventFailed → result ≢ Err NoMemoryForEvent →
             IsReady D.tells (D.contents desk.new) (D.may_leave desk.new) self.new }
+        ensures as_many { vec_len panels.new ≡ length (scenes_of self.new) }
         ensures shelf { KeepsShelf L.tells L.files L.faults shelf.old shelf.new }
+        ensures panels { KeepsPanels (tells_of Panel-box) scene (faults_of Panel-box) calls numbers event result
+            panels.old.items panels.new.items (scenes_of self.old) (scenes_of self.new) }
+        ensures refused { (refusal : LineRefusal) → result ≡ Err (Refused refusal)
+            → panels.new.items ≡ panels.old.items }
     {
         kept_stores_are_read::<D>();
         begun_saves_are_kept::<D>();
@@ -274,6 +299,18 @@ impl Session {
             Event::Drop(key) => self.obey(alloc, drop_order(key), desk, steps),
             Event::Save => self.begin_save(alloc),
             Event::SaveStep(slices) => self.write_slices(desk, slices),
+            Event::Refresh(k) => {
+                let charts = Charts {
+                    cells: cells_of(&self.store),
+                    users: &self.users,
+                    table: &self.table,
+                    settings: &self.settings,
+                };
+                refresh(alloc, k, &mut self.panels, panels.as_slice(), &charts)
+            }
+            Event::Paint(k, n) => paint(alloc, k, n, &mut self.panels, panels),
+            Event::Panel(k) => sum_up(k, &self.panels, panels.as_slice()),
+            Event::ClosePanel(k) => close(k, &mut self.panels, panels),
             Event::Make(areas, update) => {
                 let order = make_order(alloc, areas, update)?;
                 self.obey(alloc, order, desk, steps)
@@ -285,19 +322,23 @@ impl Session {
         }
     }
 
-    /// Carries out what a line asks for, and tells its reply. A refusal is a reply, and changes nothing.
+    /// Carries out what a line asks for, and tells its reply. A refusal is a reply, and changes nothing, but that it
+    /// isn't known any more what a panel shows that failed. The panels are those whose scenes the session keeps; one
+    /// that is closed is taken out of them.
     ///
     /// # Errors
     ///
     /// `DeskFault` only where the desk's count rose: what is held is then as it was. `NoMemory`: what is held is as it
     /// was, or what the event leaves, whose command is then on the disk although its reply isn't told, as after a
-    /// crash. The session is used no more: the store is to be opened again.
+    /// crash. The session is used no more: the store is to be opened again. No panel is taken out then, and none but
+    /// the one that was to be painted has been called.
     pub fn turn<L: Shelf, D: Desk, C: Ledger>(
         &mut self,
         alloc: Global,
         event: Event,
         shelf: &mut L,
         desk: &mut D,
+        panels: &mut Vec<Box<dyn Panel>>,
         steps: &mut Steps<C>,
     ) -> Result<Reply, TurnFault>
         requires ready { IsReady D.tells (D.contents desk.old) (D.may_leave desk.old) self.old }
@@ -305,12 +346,15 @@ impl Session {
 
         // As of every event that a line asks for.
         requires ranges { AreInRange event }
+        requires as_many { vec_len panels.old ≡ length (scenes_of self.old) }
 
-        // The reply and what is held after it are those of the event, by what the shelf answered. No more steps are
-        // taken than the data records that are come to at the event, and the names whose records differ after it. A
-        // crash at any moment leaves what stands for what was held, or for what the event leaves, where what a read
-        // gives before stands for what was held.
-        ensures turned { TakesTurn (AreFetched L.tells (L.files shelf.old) (L.faults shelf.old) (L.faults shelf.new))
+        // The reply, and what is held and known of panels after it, are those of the event, by what the shelf and the
+        // panel answered. No more steps are taken than the data records that are come to at the event, and the names
+        // whose records differ after it. A crash at any moment leaves what stands for what was held, or for what the
+        // event leaves, where what a read gives before stands for what was held.
+        ensures turned { TakesTurn (λ outside.
+            AreFetched L.tells (L.files shelf.old) (L.faults shelf.old) (L.faults shelf.new) outside.fetches
+            × AreOfPanels scene (faults_of Panel-box) numbers event panels.old.items panels.new.items outside)
             (λ P. IsTrue D.tells → StandFor (images_of (D.contents desk.old)) (model_of self.old).state →
             LeavesOnly D.clock D.might desk.old desk.new P) (D.said desk.old)
             event (model_of self.old)
@@ -338,9 +382,14 @@ impl Session {
 
         // The next turn may follow: the session keeps the users and the grid of each chart that is held now.
         ensures ready { OnOk result (IsReady D.tells (D.contents desk.new) (D.may_leave desk.new) self.new) }
+        ensures as_many { vec_len panels.new ≡ length (scenes_of self.new) }
         ensures shelf { KeepsShelf L.tells L.files L.faults shelf.old shelf.new }
+
+        // What is known of the panels stays true of them.
+        ensures panels { KeepsPanels (tells_of Panel-box) scene (faults_of Panel-box) calls numbers event result
+            panels.old.items panels.new.items (scenes_of self.old) (scenes_of self.new) }
     {
-        match self.carry_out(alloc, event, shelf, desk, steps) {
+        match self.carry_out(alloc, event, shelf, desk, panels, steps) {
             Ok(reply) => Ok(reply),
             Err(EventFault::Refused(refusal)) => Ok(refusal.reply(alloc)?),
             Err(EventFault::DeskFault) => Err(TurnFault::DeskFault),

@@ -5,7 +5,7 @@
 
 ghost use Rattle.std.specs.Prelude.{◌≡◌, ◌<◌};
 
-use super::turns::{SETTINGS, failing, replies, shelf, table};
+use super::turns::{SETTINGS, failing, panels, replies, shelf, table};
 use chart_model::{Cell, Key, State};
 use chart_ports::{MemoryDesk, Steps};
 use chart_store::open_store;
@@ -107,12 +107,15 @@ fn keeps_after<C: Ledger>(
     let Ok(store) = open_store(alloc, &mut desk, &mut steps) else {
         return Ok(false);
     };
-    let mut session = Session::new(alloc, store, table(alloc)?, SETTINGS, &mut steps)?;
+    let mut panels = panels(alloc)?;
+    let count = panels.len();
+    let mut session = Session::new(alloc, store, table(alloc)?, SETTINGS, count, &mut steps)?;
     let _ = replies(
         alloc,
         &mut session,
         &mut shelf,
         &mut desk,
+        &mut panels,
         &mut steps,
         lines,
     )?;

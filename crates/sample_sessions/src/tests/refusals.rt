@@ -34,7 +34,7 @@ const GIVEN: Foid = Foid {
 };
 
 /// Refusals, and the replies to them.
-const REFUSALS: [(LineRefusal, &[u8]); 38] = [
+const REFUSALS: [(LineRefusal, &[u8]); 40] = [
     (
         LineRefusal::RecordLong(FEATURE, 100_004),
         b"no 64 100 16 100004\n",
@@ -49,6 +49,8 @@ const REFUSALS: [(LineRefusal, &[u8]); 38] = [
     ),
     (LineRefusal::ShelfFault, b"no 72\n"),
     (LineRefusal::NothingBegun, b"no 76\n"),
+    (LineRefusal::NoPanel(36), b"no 77 36\n"),
+    (LineRefusal::PanelFault(37), b"no 78 37\n"),
     (LineRefusal::Busy, b"no 79\n"),
     (Store(StoreRefusal::Leader(1)), b"no 10 1\n"),
     (Store(StoreRefusal::Directory(2)), b"no 11 2\n"),

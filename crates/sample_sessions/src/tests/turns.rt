@@ -3,18 +3,21 @@
 //! A row is a whole session: its lines, the calls of the shelf and of the desk that fail, and all that is replied. A
 //! shelf that fails is replied to, and a desk that fails ends the session.
 
-ghost use Rattle.std.specs.Prelude.{◌≡◌, ◌<◌, true};
+ghost use Rattle.std.specs.Prelude.{◌≡◌, ◌<◌, true, length, vec_len};
 ghost use Rattle.chart_ports.specs.MemoryDesk.{contents_of, leaves_of};
 ghost use Rattle.chart_store.specs.Store.{count_of};
-ghost use Rattle.session_core.specs.Session.{IsReady, store_of};
+ghost use Rattle.session_core.specs.Session.{IsReady, scenes_of, store_of};
 
 use chart_model::{Settings, Shades};
 use chart_ports::{FailingCalls, FileBytes, MemoryDesk, MemoryShelf, Steps};
 use chart_store::open_store;
 use lookup_table::{Table, read_table};
 use object_catalogue::read_objects;
+use panel_port::{FailingPanel, MemoryPanel, Panel};
 use script_reader::{print_reply, read_line};
-use session_core::{Session, TurnFault, turns_follow_their_commands};
+use session_core::{
+    Session, TurnFault, targets_are_the_blocks_of_charts, turns_follow_their_commands,
+};
 use std::alloc::{AllocError, Global};
 use std::marker::Brand;
 use std::sync::ledger::{Blank, Ledger};
@@ -136,24 +139,34 @@ pub fn shelf(alloc: Global, call: u64) -> Result<MemoryShelf, AllocError> {
     Ok(shelf)
 }
 
+/// Two panels, of which the first one fails at its second call.
+pub fn panels(alloc: Global) -> Result<Vec<Box<dyn Panel>>, AllocError> {
+    let mut panels: Vec<Box<dyn Panel>> = Vec::new(alloc);
+    panels.push(Box::new(alloc, FailingPanel::new(alloc, failing(alloc, 2)?))?)?;
+    panels.push(Box::new(alloc, MemoryPanel::new(alloc))?)?;
+    Ok(panels)
+}
+
 /// The replies to lines, up to one at which the desk fails.
 pub fn replies<C: Ledger>(
     alloc: Global,
     session: &mut Session,
     shelf: &mut MemoryShelf,
     desk: &mut MemoryDesk,
+    panels: &mut Vec<Box<dyn Panel>>,
     steps: &mut Steps<C>,
     lines: &[&[u8]],
 ) -> Result<Vec<u8>, AllocError>
     requires ready { IsReady true (contents_of desk.old) (leaves_of desk.old) session.old }
     requires count { count_of (store_of session.old) ≡ 0 }
+    requires as_many { vec_len panels.old ≡ length (scenes_of session.old) }
 {
     let mut said = Vec::new(alloc);
     for line in lines {
         let Ok(Some(event)) = read_line(alloc, line, 1) else {
             return Err(AllocError);
         };
-        match session.turn(alloc, event, shelf, desk, steps) {
+        match session.turn(alloc, event, shelf, desk, panels, steps) {
             Ok(reply) => said.extend_from_slice(print_reply(alloc, &reply)?.as_slice())?,
             Err(TurnFault::DeskFault) => {
                 said.extend_from_slice(b"desk fault")?;
@@ -180,8 +193,25 @@ fn replies_with<C: Ledger>(
     let mut steps = Steps::<C>::new(blank);
     match open_store(alloc, desk, &mut steps) {
         Ok(store) => {
-            let mut session = Session::new(alloc, store, table(alloc)?, SETTINGS, &mut steps)?;
-            replies(alloc, &mut session, shelf, desk, &mut steps, lines)
+            let mut panels = panels(alloc)?;
+            let count = panels.len();
+            let mut session = Session::new(
+                alloc,
+                store,
+                table(alloc)?,
+                SETTINGS,
+                count,
+                &mut steps,
+            )?;
+            replies(
+                alloc,
+                &mut session,
+                shelf,
+                desk,
+                &mut panels,
+                &mut steps,
+                lines,
+            )
         }
         Err(_) => Vec::from_slice(alloc, b"not opened"),
     }
@@ -284,12 +314,54 @@ ok cancel AA5TEST1\n";
 const CANCELLATIONS: &[u8] =
     b"ok load AA5TEST1 1 0\nok load AA5TEST1 1 1\nok cancel AA5TEST1\nno 73 AA5TEST1\n";
 
+/// Lines about two panels, of which the first one fails at its second call. A refresh is fixed when it begins, so the
+/// second panel shows a chart that is gone by then.
+const PANELS: [&[u8]; 29] = [
+    b"panel 1",
+    b"panel 3",
+    b"refresh 0",
+    b"paint 1 1",
+    b"load T",
+    b"save",
+    b"refresh 1",
+    b"refresh 1",
+    b"refresh 2",
+    b"paint 1 1",
+    b"paint 1 9",
+    b"paint 1 1",
+    b"panel 1",
+    b"drop AA5TEST1",
+    b"paint 2 9",
+    b"panel 2",
+    b"refresh 1",
+    b"paint 1 9",
+    b"close-panel 3",
+    b"close-panel 1",
+    b"panel 1",
+    b"panel 2",
+    b"paint 2 1",
+    b"refresh 1",
+    b"paint 1 1",
+    b"panel 1",
+    b"refresh 1",
+    b"paint 1 1",
+    b"close-panel 0",
+];
+
+/// What is replied to them.
+const SHOWN: &[u8] = b"ok panel 1 0 0\nno 77 3\nno 77 0\nno 76\nok load AA5TEST1 1 0\nok save 1\n\
+ok refresh 1 2\nno 79\nok refresh 2 2\nok paint 1 1 2\nno 78 1\nno 76\nok panel 1 0 0\n\
+ok drop AA5TEST1\nok paint 2 2 2\nok panel 2 1 2\nok refresh 1 1\nok paint 1 1 1\n\
+no 77 3\nok close-panel 1\nok panel 1 1 2\nno 77 2\nno 77 2\n\
+ok refresh 1 1\nok paint 1 1 1\nok panel 1 0 0\nok refresh 1 0\nno 76\nno 77 0\n";
+
 /// Lines, the calls of the shelf and of the desk that fail, and what is replied.
-const TURNS: [(&[&[u8]], u64, u64, &[u8]); 11] = [
+const TURNS: [(&[&[u8]], u64, u64, &[u8]); 12] = [
     (&ALL, 0, 0, REPLIES),
     (&ROUTES, 0, 0, DANGERS),
     (&WRITTEN, 0, 0, WRITINGS),
     (&CANCELLED, 0, 0, CANCELLATIONS),
+    (&PANELS, 0, 0, SHOWN),
     // Nothing is fetched for a file that is made.
     (
         &MADE_TWICE,
@@ -318,5 +390,6 @@ fn turns(rt: HostRuntime) -> Result<(), Fail> {
         assert!(rt; said.as_slice() == *wanted, "case {at}");
     }
     turns_follow_their_commands();
+    targets_are_the_blocks_of_charts();
     Ok(())
 }

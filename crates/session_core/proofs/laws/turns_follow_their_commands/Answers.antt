@@ -1,4 +1,5 @@
-use Rattle.session_core.proofs.Following.{turn-none, turn-same, turn-some, turn-live, turn-portrayal, turn-failed}
+use Rattle.session_core.proofs.Following.{turn-live, turn-none, turn-of-panel, turn-portrayal, turn-same, turn-scenes, turn-some}
+use Rattle.session_core.proofs.Replying.{turn-failed, turn-panel-failed, turn-told}
 use Rattle.session_core.proofs.laws.turns_follow_their_commands.Goals as goal
 
 pub returns-clause-none : goal.returns-clause-none
@@ -6,6 +7,12 @@ returns-clause-none c = turn-none
 
 pub returns-clause-same : goal.returns-clause-same
 returns-clause-same c = turn-same
+
+pub returns-clause-of_panel : goal.returns-clause-of_panel
+returns-clause-of_panel c = turn-of-panel
+
+pub returns-clause-scenes : goal.returns-clause-scenes
+returns-clause-scenes c = turn-scenes
 
 pub returns-clause-some : goal.returns-clause-some
 returns-clause-some c = turn-some
@@ -18,3 +25,9 @@ returns-clause-portrayal c = turn-portrayal
 
 pub returns-clause-failed : goal.returns-clause-failed
 returns-clause-failed c = turn-failed
+
+pub returns-clause-panel_failed : goal.returns-clause-panel_failed
+returns-clause-panel_failed c = turn-panel-failed
+
+pub returns-clause-told : goal.returns-clause-told
+returns-clause-told c = turn-told

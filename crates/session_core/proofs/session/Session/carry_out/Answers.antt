@@ -1,5 +1,5 @@
 -- Each event is answered, or stopped by a fault.
-use Rattle.std.proofs.Common.{◌≡◌, ◌+◌, ◌≤◌, ℕ, false, Ok, Err, sym, ◌∙◌, ap, subst, arith}
+use Rattle.std.proofs.Common.{◌≡◌, ◌+◌, ◌≤◌, ℕ, false, Ok, Err, refl, sym, ◌∙◌, ap, subst, arith}
 use Rattle.chart_model.specs.State.{StateValue}
 use Rattle.chart_ports.specs.Moments.{images_of}
 use Rattle.chart_store.specs.Images.{StandFor}
@@ -7,6 +7,7 @@ use Rattle.chart_store.specs.Loaded.{HoldingsByKey}
 use Rattle.route_check.specs.Grids.{HasGrids}
 use Rattle.script_reader.specs.Line.{AreInRange, CanBeMade}
 use Rattle.script_reader.specs.declared.event.Event.{Event}
+use Rattle.script_reader.specs.declared.event.Event.TheVariants as asks
 use Rattle.script_reader.specs.declared.event.Event.TheVariants.{Make}
 use Rattle.script_reader.specs.declared.reply.Reply.{Reply}
 use Rattle.session_core.specs.declared.changes.order.Order.{Order}
@@ -16,16 +17,20 @@ use Rattle.session_core.specs.Draw.{draw_of}
 use Rattle.session_core.specs.Fetch.{fetches_of}
 use Rattle.session_core.specs.Kept.{IsKeptOfEach}
 use Rattle.session_core.specs.Listing.{cells_reply}
+use Rattle.session_core.specs.Model.{with_scenes}
 use Rattle.session_core.specs.Order.{reissue_order}
 use Rattle.session_core.specs.Route.{ROUTE_LIMIT, route_of}
 use Rattle.session_core.specs.Session.{grids_in, model_of, store_of, users_in}
-use Rattle.session_core.proofs.Fetching.{are-served}
+use Rattle.session_core.specs.Panels.{IsOfPanel}
+use Rattle.session_core.proofs.Fetching.{are-served, fetching}
+use Rattle.session_core.proofs.PanelTurns.{none-asked, painted-panel, painting, panels-stay, slice-asked, slice-panels, summed-panels, telling, unasked-panel}
 use Rattle.session_core.proofs.Reissuing.{event-keeps, not-passed}
 use Rattle.session_core.proofs.Renewing.{has-grids}
 use Rattle.session_core.proofs.Stepping.{none-taken, within, within-none}
 use Rattle.session_core.proofs.Saves.{begun-count, begun-held, begun-ready, held-within, no-slices}
 use Rattle.session_core.proofs.Turning.{no-call, question-turns, order-fails, order-turns, save-turns, same-either}
 use Rattle.session_core.proofs.Turning.{info-is, info-steps, cells-is, draw-is, route-is, load-is, rollback-is, drop-is, save-is, save-step-is, make-is, reissue-is}
+use Rattle.session_core.proofs.Turning.{close-panel-is, paint-is, panel-is, refresh-is}
 use Rattle.topology_cache.specs.Users.{AreUsersOf}
 use Rattle.session_core.proofs.session.Session.carry_out.Goals as goal
 
@@ -35,10 +40,10 @@ pub returns-in-Info-clause-turned : goal.returns-in-Info-clause-turned
 returns-in-Info-clause-turned g c =
     let found = c.inform.ensures.found in
     question-turns _ _ _ c.args.event (model_of c.args.self.now)
-    (within (model_of c.args.self.now).state (model_of c.args.self.now).state c.args.steps.now c.inform.new.steps) found.0 _ c.inform.result found.1 (info-is found.0 (model_of c.args.self.now) c.args.event c.in-Info.name c.in-Info.is)
+    (within (model_of c.args.self.now).state (model_of c.args.self.now).state c.args.steps.now c.inform.new.steps) (fetching found.0) _ c.inform.result (found.1, none-asked _ _ _ _ _ _ _ (λ of. subst IsOfPanel c.in-Info.is of)) (info-is (fetching found.0) (model_of c.args.self.now) c.args.event c.in-Info.name c.in-Info.is)
     (within-none _ (model_of c.args.self.now).state c.args.steps.now c.inform.new.steps
     (subst (λ (most : ℕ). c.inform.new.steps ≤ c.args.steps.now + most)
-    (sym (info-steps found.0 (model_of c.args.self.now) c.args.event c.in-Info.name c.in-Info.is)) found.3)) found.2 (λ after tells stood.
+    (sym (info-steps (fetching found.0) (model_of c.args.self.now) c.args.event c.in-Info.name c.in-Info.is)) found.3)) found.2 (λ after tells stood.
     no-call g.D.Desk.clock g.D.Desk.might c.args.desk.now (g.D.Desk.may_leave c.args.desk.now) (g.D.Desk.said c.args.desk.now)
     (model_of c.args.self.now).state after
     (λ images bytes left. g.met.D.Desk.only_now c.args.desk.now images bytes tells left)
@@ -47,7 +52,7 @@ returns-in-Info-clause-turned g c =
 pub returns-in-Cells-clause-turned : goal.returns-in-Cells-clause-turned
 returns-in-Cells-clause-turned g c =
     question-turns _ _ _ c.args.event (model_of c.args.self.now)
-    (within (model_of c.args.self.now).state (model_of c.args.self.now).state c.args.steps.now c.args.steps.now) (fetches_of (g.L.Shelf.files c.args.shelf.now) false) _ c.list_cells.result (are-served g.L.Shelf.tells (g.L.Shelf.files c.args.shelf.now) _ _) (cells-is (fetches_of (g.L.Shelf.files c.args.shelf.now) false) (model_of c.args.self.now) c.args.event c.in-Cells.is)
+    (within (model_of c.args.self.now).state (model_of c.args.self.now).state c.args.steps.now c.args.steps.now) (fetching (fetches_of (g.L.Shelf.files c.args.shelf.now) false)) _ c.list_cells.result (are-served g.L.Shelf.tells (g.L.Shelf.files c.args.shelf.now) _ _, none-asked _ _ _ _ _ _ _ (λ of. subst IsOfPanel c.in-Cells.is of)) (cells-is (fetching (fetches_of (g.L.Shelf.files c.args.shelf.now) false)) (model_of c.args.self.now) c.args.event c.in-Cells.is)
     (none-taken _ (model_of c.args.self.now).state c.args.steps.now)
     (subst (λ (held : HoldingsByKey). Gives {A = Reply} c.list_cells.result (Ok (cells_reply held))) c.cells_of.ensures.cells c.list_cells.ensures.given) (λ after tells stood.
     no-call g.D.Desk.clock g.D.Desk.might c.args.desk.now (g.D.Desk.may_leave c.args.desk.now) (g.D.Desk.said c.args.desk.now)
@@ -58,7 +63,7 @@ returns-in-Cells-clause-turned g c =
 pub returns-in-Draw-clause-turned : goal.returns-in-Draw-clause-turned
 returns-in-Draw-clause-turned g c =
     question-turns _ _ _ c.args.event (model_of c.args.self.now)
-    (within (model_of c.args.self.now).state (model_of c.args.self.now).state c.args.steps.now c.args.steps.now) (fetches_of (g.L.Shelf.files c.args.shelf.now) false) _ c.draw_chart.result (are-served g.L.Shelf.tells (g.L.Shelf.files c.args.shelf.now) _ _) (draw-is (fetches_of (g.L.Shelf.files c.args.shelf.now) false) (model_of c.args.self.now) c.args.event c.in-Draw.key c.in-Draw.is)
+    (within (model_of c.args.self.now).state (model_of c.args.self.now).state c.args.steps.now c.args.steps.now) (fetching (fetches_of (g.L.Shelf.files c.args.shelf.now) false)) _ c.draw_chart.result (are-served g.L.Shelf.tells (g.L.Shelf.files c.args.shelf.now) _ _, none-asked _ _ _ _ _ _ _ (λ of. subst IsOfPanel c.in-Draw.is of)) (draw-is (fetching (fetches_of (g.L.Shelf.files c.args.shelf.now) false)) (model_of c.args.self.now) c.args.event c.in-Draw.key c.in-Draw.is)
     (none-taken _ (model_of c.args.self.now).state c.args.steps.now)
     (subst (λ (held : HoldingsByKey). Gives {A = Reply} c.draw_chart.result (draw_of (model_of c.args.self.now).portrayal held c.in-Draw.key)) c.cells_of-cells.ensures.cells c.draw_chart.ensures.given) (λ after tells stood.
     no-call g.D.Desk.clock g.D.Desk.might c.args.desk.now (g.D.Desk.may_leave c.args.desk.now) (g.D.Desk.said c.args.desk.now)
@@ -70,7 +75,7 @@ pub returns-in-Route-clause-turned : goal.returns-in-Route-clause-turned
 returns-in-Route-clause-turned g c =
     let found = c.check_route.ensures.found in
     question-turns _ _ _ c.args.event (model_of c.args.self.now)
-    (within (model_of c.args.self.now).state (model_of c.args.self.now).state c.args.steps.now c.args.steps.now) found.0 _ c.check_route.result found.1 (route-is found.0 (model_of c.args.self.now) c.args.event c.in-Route.name c.in-Route.is)
+    (within (model_of c.args.self.now).state (model_of c.args.self.now).state c.args.steps.now c.args.steps.now) (fetching found.0) _ c.check_route.result (found.1, none-asked _ _ _ _ _ _ _ (λ of. subst IsOfPanel c.in-Route.is of)) (route-is (fetching found.0) (model_of c.args.self.now) c.args.event c.in-Route.name c.in-Route.is)
     (none-taken _ (model_of c.args.self.now).state c.args.steps.now)
     (subst (λ (state : StateValue). Gives {A = Reply} c.check_route.result (route_of (model_of c.args.self.now).portrayal.settings state c.in-Route.name (found.0 ROUTE_LIMIT c.in-Route.name)))
     c.state-state.ensures.state found.2) (λ after tells stood.
@@ -85,8 +90,8 @@ pub returns-in_err-order-in-Load-clause-turned : goal.returns-in_err-order-in-Lo
 returns-in_err-order-in-Load-clause-turned g c =
     let found = c.in_err-order-in-Load.ensures.found in
     order-fails _ _ _ c.args.event (model_of c.args.self.now)
-    (within (model_of c.args.self.now).state (model_of c.args.self.now).state c.args.steps.now c.args.steps.now) found.0 _ c.from_residual.result c.in_err-order-in-Load.field-0.0 found.1
-    (load-is found.0 (model_of c.args.self.now) c.args.event c.in-Load.name c.in-Load.is) (none-taken _ (model_of c.args.self.now).state c.args.steps.now) c.from_residual.ensures.1 found.2 (λ after tells stood.
+    (within (model_of c.args.self.now).state (model_of c.args.self.now).state c.args.steps.now c.args.steps.now) (fetching found.0) _ c.from_residual.result c.in_err-order-in-Load.field-0.0 (found.1, none-asked _ _ _ _ _ _ _ (λ of. subst IsOfPanel c.in-Load.is of))
+    (load-is (fetching found.0) (model_of c.args.self.now) c.args.event c.in-Load.name c.in-Load.is) (none-taken _ (model_of c.args.self.now).state c.args.steps.now) c.from_residual.ensures.1 found.2 (λ after tells stood.
     no-call g.D.Desk.clock g.D.Desk.might c.args.desk.now (g.D.Desk.may_leave c.args.desk.now) (g.D.Desk.said c.args.desk.now)
     (model_of c.args.self.now).state after
     (λ images bytes left. g.met.D.Desk.only_now c.args.desk.now images bytes tells left)
@@ -96,32 +101,32 @@ pub returns-in_ok-order-in-Load-clause-turned : goal.returns-in_ok-order-in-Load
 returns-in_ok-order-in-Load-clause-turned g c =
     let found = c.in_ok-order-in-Load.ensures.found in
     order-turns _ _ _ c.args.event (model_of c.args.self.now)
-    (within (model_of c.args.self.now).state (model_of c.obey.new.self).state c.args.steps.now c.obey.new.steps) found.0 _ c.in_ok-order-in-Load.order c.obey.result (model_of c.obey.new.self) found.1
-    (load-is found.0 (model_of c.args.self.now) c.args.event c.in-Load.name c.in-Load.is) found.2 c.obey.ensures.steps c.obey.ensures.given c.obey.ensures.moments
+    (within (model_of c.args.self.now).state (model_of c.obey.new.self).state c.args.steps.now c.obey.new.steps) (fetching found.0) _ c.in_ok-order-in-Load.order c.obey.result (model_of c.obey.new.self) (found.1, none-asked _ _ _ _ _ _ _ (λ of. subst IsOfPanel c.in-Load.is of))
+    (load-is (fetching found.0) (model_of c.args.self.now) c.args.event c.in-Load.name c.in-Load.is) found.2 c.obey.ensures.steps c.obey.ensures.given c.obey.ensures.moments
 
 pub returns-in-Rollback-clause-turned : goal.returns-in-Rollback-clause-turned
 returns-in-Rollback-clause-turned g c =
     order-turns _ _ _ c.args.event (model_of c.args.self.now)
-    (within (model_of c.args.self.now).state (model_of c.obey-in-Rollback.new.self).state c.args.steps.now c.obey-in-Rollback.new.steps) (fetches_of (g.L.Shelf.files c.args.shelf.now) false) _ c.rollback_order.result c.obey-in-Rollback.result (model_of c.obey-in-Rollback.new.self) (are-served g.L.Shelf.tells (g.L.Shelf.files c.args.shelf.now) _ _)
-    (rollback-is (fetches_of (g.L.Shelf.files c.args.shelf.now) false) (model_of c.args.self.now) c.args.event c.in-Rollback.key c.in-Rollback.update c.in-Rollback.is) (ap Ok (sym c.rollback_order.ensures))
+    (within (model_of c.args.self.now).state (model_of c.obey-in-Rollback.new.self).state c.args.steps.now c.obey-in-Rollback.new.steps) (fetching (fetches_of (g.L.Shelf.files c.args.shelf.now) false)) _ c.rollback_order.result c.obey-in-Rollback.result (model_of c.obey-in-Rollback.new.self) (are-served g.L.Shelf.tells (g.L.Shelf.files c.args.shelf.now) _ _, none-asked _ _ _ _ _ _ _ (λ of. subst IsOfPanel c.in-Rollback.is of))
+    (rollback-is (fetching (fetches_of (g.L.Shelf.files c.args.shelf.now) false)) (model_of c.args.self.now) c.args.event c.in-Rollback.key c.in-Rollback.update c.in-Rollback.is) (ap Ok (sym c.rollback_order.ensures))
     c.obey-in-Rollback.ensures.steps c.obey-in-Rollback.ensures.given c.obey-in-Rollback.ensures.moments
 
 pub returns-in-Drop-clause-turned : goal.returns-in-Drop-clause-turned
 returns-in-Drop-clause-turned g c =
     order-turns _ _ _ c.args.event (model_of c.args.self.now)
-    (within (model_of c.args.self.now).state (model_of c.obey-in-Drop.new.self).state c.args.steps.now c.obey-in-Drop.new.steps) (fetches_of (g.L.Shelf.files c.args.shelf.now) false) _ c.drop_order.result c.obey-in-Drop.result (model_of c.obey-in-Drop.new.self) (are-served g.L.Shelf.tells (g.L.Shelf.files c.args.shelf.now) _ _)
-    (drop-is (fetches_of (g.L.Shelf.files c.args.shelf.now) false) (model_of c.args.self.now) c.args.event c.in-Drop.key c.in-Drop.is) (ap Ok (sym c.drop_order.ensures))
+    (within (model_of c.args.self.now).state (model_of c.obey-in-Drop.new.self).state c.args.steps.now c.obey-in-Drop.new.steps) (fetching (fetches_of (g.L.Shelf.files c.args.shelf.now) false)) _ c.drop_order.result c.obey-in-Drop.result (model_of c.obey-in-Drop.new.self) (are-served g.L.Shelf.tells (g.L.Shelf.files c.args.shelf.now) _ _, none-asked _ _ _ _ _ _ _ (λ of. subst IsOfPanel c.in-Drop.is of))
+    (drop-is (fetching (fetches_of (g.L.Shelf.files c.args.shelf.now) false)) (model_of c.args.self.now) c.args.event c.in-Drop.key c.in-Drop.is) (ap Ok (sym c.drop_order.ensures))
     c.obey-in-Drop.ensures.steps c.obey-in-Drop.ensures.given c.obey-in-Drop.ensures.moments
 
 -- ---- saves
 
 pub returns-in-Save-clause-turned : goal.returns-in-Save-clause-turned
 returns-in-Save-clause-turned g c =
-    let fetches = fetches_of (g.L.Shelf.files c.args.shelf.now) false in
+    let outside = fetching (fetches_of (g.L.Shelf.files c.args.shelf.now) false) in
     let before = model_of c.args.self.now in
     save-turns _ _ _ c.args.event before
-    (within before.state (model_of c.begin_save.new.self).state c.args.steps.now c.args.steps.now) fetches _ c.begin_save.result (model_of c.begin_save.new.self)
-    (are-served g.L.Shelf.tells (g.L.Shelf.files c.args.shelf.now) _ _) (save-is fetches before c.args.event c.in-Save.is)
+    (within before.state (model_of c.begin_save.new.self).state c.args.steps.now c.args.steps.now) outside _ c.begin_save.result (model_of c.begin_save.new.self)
+    (are-served g.L.Shelf.tells (g.L.Shelf.files c.args.shelf.now) _ _, none-asked _ _ _ _ _ _ _ (λ of. subst IsOfPanel c.in-Save.is of)) (save-is outside before c.args.event c.in-Save.is)
     (held-within _ before.state (model_of c.begin_save.new.self).state c.args.steps.now
     (begun-held c.args.self.now c.begin_save.new.self c.begin_save.result c.begin_save.ensures.begun c.begin_save.ensures.err))
     c.begin_save.ensures.given (λ after tells stood.
@@ -153,11 +158,11 @@ write_slices-requires-clause-some g c = subst AreInRange c.in-SaveStep.is c.requ
 
 pub returns-in-SaveStep-clause-turned : goal.returns-in-SaveStep-clause-turned
 returns-in-SaveStep-clause-turned g c =
-    let fetches = fetches_of (g.L.Shelf.files c.args.shelf.now) false in
+    let outside = fetching (fetches_of (g.L.Shelf.files c.args.shelf.now) false) in
     let before = model_of c.args.self.now in
     save-turns _ _ _ c.args.event before
-    (within before.state (model_of c.write_slices.new.self).state c.args.steps.now c.args.steps.now) fetches _ c.write_slices.result (model_of c.write_slices.new.self)
-    (are-served g.L.Shelf.tells (g.L.Shelf.files c.args.shelf.now) _ _) (save-step-is fetches before c.args.event c.in-SaveStep.slices c.in-SaveStep.is)
+    (within before.state (model_of c.write_slices.new.self).state c.args.steps.now c.args.steps.now) outside _ c.write_slices.result (model_of c.write_slices.new.self)
+    (are-served g.L.Shelf.tells (g.L.Shelf.files c.args.shelf.now) _ _, none-asked _ _ _ _ _ _ _ (λ of. subst IsOfPanel c.in-SaveStep.is of)) (save-step-is outside before c.args.event c.in-SaveStep.slices c.in-SaveStep.is)
     (held-within _ before.state (model_of c.write_slices.new.self).state c.args.steps.now c.write_slices.ensures.held)
     c.write_slices.ensures.given (λ after tells stood.
     same-either g.D.Desk.clock g.D.Desk.might c.args.desk.now c.write_slices.new.desk (g.D.Desk.said c.args.desk.now) before.state after
@@ -194,8 +199,8 @@ make_order-requires-clause-update g c = (in-range c.args.event c.in-Make.areas c
 pub returns-in_err-order-in-Make-clause-turned : goal.returns-in_err-order-in-Make-clause-turned
 returns-in_err-order-in-Make-clause-turned g c =
     order-fails _ _ _ c.args.event (model_of c.args.self.now)
-    (within (model_of c.args.self.now).state (model_of c.args.self.now).state c.args.steps.now c.args.steps.now) (fetches_of (g.L.Shelf.files c.args.shelf.now) false) _ c.from_residual-in_err-order-in-Make.result c.in_err-order-in-Make.field-0.0 (are-served g.L.Shelf.tells (g.L.Shelf.files c.args.shelf.now) _ _)
-    (make-is (fetches_of (g.L.Shelf.files c.args.shelf.now) false) (model_of c.args.self.now) c.args.event c.in-Make.areas c.in-Make.update c.in-Make.is) (none-taken _ (model_of c.args.self.now).state c.args.steps.now) c.from_residual-in_err-order-in-Make.ensures.1
+    (within (model_of c.args.self.now).state (model_of c.args.self.now).state c.args.steps.now c.args.steps.now) (fetching (fetches_of (g.L.Shelf.files c.args.shelf.now) false)) _ c.from_residual-in_err-order-in-Make.result c.in_err-order-in-Make.field-0.0 (are-served g.L.Shelf.tells (g.L.Shelf.files c.args.shelf.now) _ _, none-asked _ _ _ _ _ _ _ (λ of. subst IsOfPanel c.in-Make.is of))
+    (make-is (fetching (fetches_of (g.L.Shelf.files c.args.shelf.now) false)) (model_of c.args.self.now) c.args.event c.in-Make.areas c.in-Make.update c.in-Make.is) (none-taken _ (model_of c.args.self.now).state c.args.steps.now) c.from_residual-in_err-order-in-Make.ensures.1
     c.in_err-order-in-Make.ensures.given (λ after tells stood.
     no-call g.D.Desk.clock g.D.Desk.might c.args.desk.now (g.D.Desk.may_leave c.args.desk.now) (g.D.Desk.said c.args.desk.now)
     (model_of c.args.self.now).state after
@@ -205,16 +210,16 @@ returns-in_err-order-in-Make-clause-turned g c =
 pub returns-in_ok-order-in-Make-clause-turned : goal.returns-in_ok-order-in-Make-clause-turned
 returns-in_ok-order-in-Make-clause-turned g c =
     order-turns _ _ _ c.args.event (model_of c.args.self.now)
-    (within (model_of c.args.self.now).state (model_of c.obey-in-Make.new.self).state c.args.steps.now c.obey-in-Make.new.steps) (fetches_of (g.L.Shelf.files c.args.shelf.now) false) _ c.in_ok-order-in-Make.order c.obey-in-Make.result (model_of c.obey-in-Make.new.self) (are-served g.L.Shelf.tells (g.L.Shelf.files c.args.shelf.now) _ _)
-    (make-is (fetches_of (g.L.Shelf.files c.args.shelf.now) false) (model_of c.args.self.now) c.args.event c.in-Make.areas c.in-Make.update c.in-Make.is) c.in_ok-order-in-Make.ensures.given
+    (within (model_of c.args.self.now).state (model_of c.obey-in-Make.new.self).state c.args.steps.now c.obey-in-Make.new.steps) (fetching (fetches_of (g.L.Shelf.files c.args.shelf.now) false)) _ c.in_ok-order-in-Make.order c.obey-in-Make.result (model_of c.obey-in-Make.new.self) (are-served g.L.Shelf.tells (g.L.Shelf.files c.args.shelf.now) _ _, none-asked _ _ _ _ _ _ _ (λ of. subst IsOfPanel c.in-Make.is of))
+    (make-is (fetching (fetches_of (g.L.Shelf.files c.args.shelf.now) false)) (model_of c.args.self.now) c.args.event c.in-Make.areas c.in-Make.update c.in-Make.is) c.in_ok-order-in-Make.ensures.given
     c.obey-in-Make.ensures.steps c.obey-in-Make.ensures.given c.obey-in-Make.ensures.moments
 
 pub returns-in_err-order-in-Reissue-clause-turned : goal.returns-in_err-order-in-Reissue-clause-turned
 returns-in_err-order-in-Reissue-clause-turned g c =
     let same = c.cells_of-in-Reissue.ensures.cells in
     order-fails _ _ _ c.args.event (model_of c.args.self.now)
-    (within (model_of c.args.self.now).state (model_of c.args.self.now).state c.args.steps.now c.args.steps.now) (fetches_of (g.L.Shelf.files c.args.shelf.now) false) _ c.from_residual-in_err-order-in-Reissue.result c.in_err-order-in-Reissue.field-0.0 (are-served g.L.Shelf.tells (g.L.Shelf.files c.args.shelf.now) _ _)
-    (reissue-is (fetches_of (g.L.Shelf.files c.args.shelf.now) false) (model_of c.args.self.now) c.args.event c.in-Reissue.key c.in-Reissue.is) (none-taken _ (model_of c.args.self.now).state c.args.steps.now) c.from_residual-in_err-order-in-Reissue.ensures.1
+    (within (model_of c.args.self.now).state (model_of c.args.self.now).state c.args.steps.now c.args.steps.now) (fetching (fetches_of (g.L.Shelf.files c.args.shelf.now) false)) _ c.from_residual-in_err-order-in-Reissue.result c.in_err-order-in-Reissue.field-0.0 (are-served g.L.Shelf.tells (g.L.Shelf.files c.args.shelf.now) _ _, none-asked _ _ _ _ _ _ _ (λ of. subst IsOfPanel c.in-Reissue.is of))
+    (reissue-is (fetching (fetches_of (g.L.Shelf.files c.args.shelf.now) false)) (model_of c.args.self.now) c.args.event c.in-Reissue.key c.in-Reissue.is) (none-taken _ (model_of c.args.self.now).state c.args.steps.now) c.from_residual-in_err-order-in-Reissue.ensures.1
     (subst (λ (held : HoldingsByKey). Gives {A = Order} (Err c.in_err-order-in-Reissue.field-0.0) (reissue_order held c.in-Reissue.key)) same c.in_err-order-in-Reissue.ensures.given) (λ after tells stood.
     no-call g.D.Desk.clock g.D.Desk.might c.args.desk.now (g.D.Desk.may_leave c.args.desk.now) (g.D.Desk.said c.args.desk.now)
     (model_of c.args.self.now).state after
@@ -225,8 +230,8 @@ pub returns-in_ok-order-in-Reissue-clause-turned : goal.returns-in_ok-order-in-R
 returns-in_ok-order-in-Reissue-clause-turned g c =
     let same = c.cells_of-in-Reissue.ensures.cells in
     order-turns _ _ _ c.args.event (model_of c.args.self.now)
-    (within (model_of c.args.self.now).state (model_of c.obey-in-Reissue.new.self).state c.args.steps.now c.obey-in-Reissue.new.steps) (fetches_of (g.L.Shelf.files c.args.shelf.now) false) _ c.in_ok-order-in-Reissue.order c.obey-in-Reissue.result (model_of c.obey-in-Reissue.new.self) (are-served g.L.Shelf.tells (g.L.Shelf.files c.args.shelf.now) _ _)
-    (reissue-is (fetches_of (g.L.Shelf.files c.args.shelf.now) false) (model_of c.args.self.now) c.args.event c.in-Reissue.key c.in-Reissue.is)
+    (within (model_of c.args.self.now).state (model_of c.obey-in-Reissue.new.self).state c.args.steps.now c.obey-in-Reissue.new.steps) (fetching (fetches_of (g.L.Shelf.files c.args.shelf.now) false)) _ c.in_ok-order-in-Reissue.order c.obey-in-Reissue.result (model_of c.obey-in-Reissue.new.self) (are-served g.L.Shelf.tells (g.L.Shelf.files c.args.shelf.now) _ _, none-asked _ _ _ _ _ _ _ (λ of. subst IsOfPanel c.in-Reissue.is of))
+    (reissue-is (fetching (fetches_of (g.L.Shelf.files c.args.shelf.now) false)) (model_of c.args.self.now) c.args.event c.in-Reissue.key c.in-Reissue.is)
     (ap (λ (held : HoldingsByKey). reissue_order held c.in-Reissue.key) (sym same) ∙ c.in_ok-order-in-Reissue.ensures.given)
     c.obey-in-Reissue.ensures.steps c.obey-in-Reissue.ensures.given c.obey-in-Reissue.ensures.moments
 
@@ -258,3 +263,164 @@ pub returns-in_ok-order-in-Reissue-clause-reissue : goal.returns-in_ok-order-in-
 returns-in_ok-order-in-Reissue-clause-reissue g c = λ other key is.
     let same = c.cells_of-in-Reissue.ensures.cells in
     event-keeps (model_of c.args.self.now) _ c.in-Reissue.key key c.args.event (c.in_ok-order-in-Reissue.ensures.keeps (λ e. cc)) (sym same) c.in-Reissue.is is
+
+-- ---- panels
+
+pub returns-in-Info-clause-panels : goal.returns-in-Info-clause-panels
+returns-in-Info-clause-panels g c =
+    let turned = returns-in-Info-clause-turned g c in
+    panels-stay _ _ _ _ _ turned.outside c.args.event c.inform.result (model_of c.args.self.now) (model_of c.args.self.now) c.args.panels.now.items
+    (λ of. subst IsOfPanel c.in-Info.is of) refl turned.gives
+
+pub returns-in-Cells-clause-panels : goal.returns-in-Cells-clause-panels
+returns-in-Cells-clause-panels g c =
+    let turned = returns-in-Cells-clause-turned g c in
+    panels-stay _ _ _ _ _ turned.outside c.args.event c.list_cells.result (model_of c.args.self.now) (model_of c.args.self.now) c.args.panels.now.items
+    (λ of. subst IsOfPanel c.in-Cells.is of) refl turned.gives
+
+pub returns-in-Draw-clause-panels : goal.returns-in-Draw-clause-panels
+returns-in-Draw-clause-panels g c =
+    let turned = returns-in-Draw-clause-turned g c in
+    panels-stay _ _ _ _ _ turned.outside c.args.event c.draw_chart.result (model_of c.args.self.now) (model_of c.args.self.now) c.args.panels.now.items
+    (λ of. subst IsOfPanel c.in-Draw.is of) refl turned.gives
+
+pub returns-in-Route-clause-panels : goal.returns-in-Route-clause-panels
+returns-in-Route-clause-panels g c =
+    let turned = returns-in-Route-clause-turned g c in
+    panels-stay _ _ _ _ _ turned.outside c.args.event c.check_route.result (model_of c.args.self.now) (model_of c.args.self.now) c.args.panels.now.items
+    (λ of. subst IsOfPanel c.in-Route.is of) refl turned.gives
+
+pub returns-in_err-order-in-Load-clause-panels : goal.returns-in_err-order-in-Load-clause-panels
+returns-in_err-order-in-Load-clause-panels g c =
+    let turned = returns-in_err-order-in-Load-clause-turned g c in
+    panels-stay _ _ _ _ _ turned.outside c.args.event c.from_residual.result (model_of c.args.self.now) (model_of c.args.self.now) c.args.panels.now.items
+    (λ of. subst IsOfPanel c.in-Load.is of) refl turned.gives
+
+pub returns-in_ok-order-in-Load-clause-panels : goal.returns-in_ok-order-in-Load-clause-panels
+returns-in_ok-order-in-Load-clause-panels g c =
+    let turned = returns-in_ok-order-in-Load-clause-turned g c in
+    panels-stay _ _ _ _ _ turned.outside c.args.event c.obey.result (model_of c.args.self.now) (model_of c.obey.new.self) c.args.panels.now.items
+    (λ of. subst IsOfPanel c.in-Load.is of) c.obey.ensures.scenes turned.gives
+
+pub returns-in-Rollback-clause-panels : goal.returns-in-Rollback-clause-panels
+returns-in-Rollback-clause-panels g c =
+    let turned = returns-in-Rollback-clause-turned g c in
+    panels-stay _ _ _ _ _ turned.outside c.args.event c.obey-in-Rollback.result (model_of c.args.self.now) (model_of c.obey-in-Rollback.new.self) c.args.panels.now.items
+    (λ of. subst IsOfPanel c.in-Rollback.is of) c.obey-in-Rollback.ensures.scenes turned.gives
+
+pub returns-in-Drop-clause-panels : goal.returns-in-Drop-clause-panels
+returns-in-Drop-clause-panels g c =
+    let turned = returns-in-Drop-clause-turned g c in
+    panels-stay _ _ _ _ _ turned.outside c.args.event c.obey-in-Drop.result (model_of c.args.self.now) (model_of c.obey-in-Drop.new.self) c.args.panels.now.items
+    (λ of. subst IsOfPanel c.in-Drop.is of) c.obey-in-Drop.ensures.scenes turned.gives
+
+pub returns-in-Save-clause-panels : goal.returns-in-Save-clause-panels
+returns-in-Save-clause-panels g c =
+    let turned = returns-in-Save-clause-turned g c in
+    panels-stay _ _ _ _ _ turned.outside c.args.event c.begin_save.result (model_of c.args.self.now) (model_of c.begin_save.new.self) c.args.panels.now.items
+    (λ of. subst IsOfPanel c.in-Save.is of) c.begin_save.ensures.scenes turned.gives
+
+pub returns-in-SaveStep-clause-panels : goal.returns-in-SaveStep-clause-panels
+returns-in-SaveStep-clause-panels g c =
+    let turned = returns-in-SaveStep-clause-turned g c in
+    panels-stay _ _ _ _ _ turned.outside c.args.event c.write_slices.result (model_of c.args.self.now) (model_of c.write_slices.new.self) c.args.panels.now.items
+    (λ of. subst IsOfPanel c.in-SaveStep.is of) c.write_slices.ensures.scenes turned.gives
+
+pub returns-in_err-order-in-Make-clause-panels : goal.returns-in_err-order-in-Make-clause-panels
+returns-in_err-order-in-Make-clause-panels g c =
+    let turned = returns-in_err-order-in-Make-clause-turned g c in
+    panels-stay _ _ _ _ _ turned.outside c.args.event c.from_residual-in_err-order-in-Make.result (model_of c.args.self.now) (model_of c.args.self.now) c.args.panels.now.items
+    (λ of. subst IsOfPanel c.in-Make.is of) refl turned.gives
+
+pub returns-in_ok-order-in-Make-clause-panels : goal.returns-in_ok-order-in-Make-clause-panels
+returns-in_ok-order-in-Make-clause-panels g c =
+    let turned = returns-in_ok-order-in-Make-clause-turned g c in
+    panels-stay _ _ _ _ _ turned.outside c.args.event c.obey-in-Make.result (model_of c.args.self.now) (model_of c.obey-in-Make.new.self) c.args.panels.now.items
+    (λ of. subst IsOfPanel c.in-Make.is of) c.obey-in-Make.ensures.scenes turned.gives
+
+pub returns-in_err-order-in-Reissue-clause-panels : goal.returns-in_err-order-in-Reissue-clause-panels
+returns-in_err-order-in-Reissue-clause-panels g c =
+    let turned = returns-in_err-order-in-Reissue-clause-turned g c in
+    panels-stay _ _ _ _ _ turned.outside c.args.event c.from_residual-in_err-order-in-Reissue.result (model_of c.args.self.now) (model_of c.args.self.now) c.args.panels.now.items
+    (λ of. subst IsOfPanel c.in-Reissue.is of) refl turned.gives
+
+pub returns-in_ok-order-in-Reissue-clause-panels : goal.returns-in_ok-order-in-Reissue-clause-panels
+returns-in_ok-order-in-Reissue-clause-panels g c =
+    let turned = returns-in_ok-order-in-Reissue-clause-turned g c in
+    panels-stay _ _ _ _ _ turned.outside c.args.event c.obey-in-Reissue.result (model_of c.args.self.now) (model_of c.obey-in-Reissue.new.self) c.args.panels.now.items
+    (λ of. subst IsOfPanel c.in-Reissue.is of) c.obey-in-Reissue.ensures.scenes turned.gives
+
+-- ---- lines about panels
+
+pub returns-in-Refresh-clause-turned : goal.returns-in-Refresh-clause-turned
+returns-in-Refresh-clause-turned g c =
+    let fetches = (fetches_of (g.L.Shelf.files c.args.shelf.now) false) in
+    let before = model_of c.args.self.now in
+    save-turns _ _ _ c.args.event before (within before.state before.state c.args.steps.now c.args.steps.now) (fetching fetches) _ c.refresh.result
+    (with_scenes before c.refresh.new.scenes)
+    (are-served g.L.Shelf.tells (g.L.Shelf.files c.args.shelf.now) _ _, unasked-panel _ _ _ _ _ _ _ (λ k is. let f : asks.Refresh c.in-Refresh.k ≡ asks.Panel k = sym c.in-Refresh.is ∙ is in cc))
+    (refresh-is (fetching fetches) before c.args.event c.in-Refresh.k c.in-Refresh.is) (none-taken _ before.state c.args.steps.now)
+    (c.refresh.ensures.given before (sym c.cells_of-in-Refresh.ensures.cells) refl refl) (λ after tells stood.
+    no-call g.D.Desk.clock g.D.Desk.might c.args.desk.now (g.D.Desk.may_leave c.args.desk.now) (g.D.Desk.said c.args.desk.now)
+    before.state after
+    (λ images bytes left. g.met.D.Desk.only_now c.args.desk.now images bytes tells left)
+    (λ images left. c.kept_stores_are_read.ensures.stands c.args.desk.now (store_of c.args.self.now) images (c.requires.ready.kept tells) stood left))
+
+pub returns-in-Refresh-clause-panels : goal.returns-in-Refresh-clause-panels
+returns-in-Refresh-clause-panels g c =
+    slice-panels _ _ _ _ _ c.args.event (asks.Refresh c.in-Refresh.k) c.refresh.result c.args.panels.now.items c.as_slice.result.now _ _
+    c.in-Refresh.is c.as_slice.ensures.value c.refresh.ensures.panels
+
+pub returns-in-Paint-clause-turned : goal.returns-in-Paint-clause-turned
+returns-in-Paint-clause-turned g c =
+    let fetches = (fetches_of (g.L.Shelf.files c.args.shelf.now) false) in
+    let before = model_of c.args.self.now in
+    let found = c.paint.ensures.given in
+    save-turns _ _ _ c.args.event before (within before.state before.state c.args.steps.now c.args.steps.now) (painting fetches found.0) _ c.paint.result
+    (with_scenes before c.paint.new.scenes)
+    (are-served g.L.Shelf.tells (g.L.Shelf.files c.args.shelf.now) _ _, painted-panel _ _ _ _ _ _ _ c.in-Paint.k c.in-Paint.n found.0 c.in-Paint.is found.2)
+    (paint-is (painting fetches found.0) before c.args.event c.in-Paint.k c.in-Paint.n c.in-Paint.is) (none-taken _ before.state c.args.steps.now)
+    (found.1 before refl) (λ after tells stood.
+    no-call g.D.Desk.clock g.D.Desk.might c.args.desk.now (g.D.Desk.may_leave c.args.desk.now) (g.D.Desk.said c.args.desk.now)
+    before.state after
+    (λ images bytes left. g.met.D.Desk.only_now c.args.desk.now images bytes tells left)
+    (λ images left. c.kept_stores_are_read.ensures.stands c.args.desk.now (store_of c.args.self.now) images (c.requires.ready.kept tells) stood left))
+
+pub returns-in-Panel-clause-turned : goal.returns-in-Panel-clause-turned
+returns-in-Panel-clause-turned g c =
+    let fetches = (fetches_of (g.L.Shelf.files c.args.shelf.now) false) in
+    let before = model_of c.args.self.now in
+    let found = c.sum_up.ensures.given in
+    let same = c.as_slice-in-Panel.ensures.value in
+    save-turns _ _ _ c.args.event before (within before.state before.state c.args.steps.now c.args.steps.now) (telling fetches found.0) _ c.sum_up.result before (
+      are-served g.L.Shelf.tells (g.L.Shelf.files c.args.shelf.now) _ _,
+      slice-asked _ _ _ c.args.event c.args.panels.now.items c.as_slice-in-Panel.result.now fetches c.in-Panel.k found.0 c.in-Panel.is same found.2 found.3,
+    )
+    (panel-is (telling fetches found.0) before c.args.event c.in-Panel.k c.in-Panel.is) (none-taken _ before.state c.args.steps.now)
+    (found.1 before refl) (λ after tells stood.
+    no-call g.D.Desk.clock g.D.Desk.might c.args.desk.now (g.D.Desk.may_leave c.args.desk.now) (g.D.Desk.said c.args.desk.now)
+    before.state after
+    (λ images bytes left. g.met.D.Desk.only_now c.args.desk.now images bytes tells left)
+    (λ images left. c.kept_stores_are_read.ensures.stands c.args.desk.now (store_of c.args.self.now) images (c.requires.ready.kept tells) stood left))
+
+pub returns-in-Panel-clause-panels : goal.returns-in-Panel-clause-panels
+returns-in-Panel-clause-panels g c =
+    let before = model_of c.args.self.now in
+    slice-panels _ _ _ _ _ c.args.event (asks.Panel c.in-Panel.k) c.sum_up.result c.args.panels.now.items c.args.panels.now.items _ _
+    c.in-Panel.is refl
+    (summed-panels _ _ _ _ _ c.in-Panel.k c.sum_up.result c.args.panels.now.items before.scenes before c.sum_up.ensures.given.0 _
+    (c.sum_up.ensures.given.1 before refl))
+
+pub returns-in-ClosePanel-clause-turned : goal.returns-in-ClosePanel-clause-turned
+returns-in-ClosePanel-clause-turned g c =
+    let fetches = (fetches_of (g.L.Shelf.files c.args.shelf.now) false) in
+    let before = model_of c.args.self.now in
+    save-turns _ _ _ c.args.event before (within before.state before.state c.args.steps.now c.args.steps.now) (fetching fetches) _ c.close.result
+    (with_scenes before c.close.new.scenes)
+    (are-served g.L.Shelf.tells (g.L.Shelf.files c.args.shelf.now) _ _, unasked-panel _ _ _ _ _ _ _ (λ k is. let f : asks.ClosePanel c.in-ClosePanel.k ≡ asks.Panel k = sym c.in-ClosePanel.is ∙ is in cc))
+    (close-panel-is (fetching fetches) before c.args.event c.in-ClosePanel.k c.in-ClosePanel.is) (none-taken _ before.state c.args.steps.now)
+    (c.close.ensures.given before refl) (λ after tells stood.
+    no-call g.D.Desk.clock g.D.Desk.might c.args.desk.now (g.D.Desk.may_leave c.args.desk.now) (g.D.Desk.said c.args.desk.now)
+    before.state after
+    (λ images bytes left. g.met.D.Desk.only_now c.args.desk.now images bytes tells left)
+    (λ images left. c.kept_stores_are_read.ensures.stands c.args.desk.now (store_of c.args.self.now) images (c.requires.ready.kept tells) stood left))

@@ -53,7 +53,7 @@ returns-clause-ready g c = λ no_fault no_want.
 pub returns-in_err-done-clause-given : goal.returns-in_err-done-clause-given
 returns-in_err-done-clause-given g c =
     refused-given c.args.self.now (record c.args.self.now { store = c.submit.new.self }) c.args.order c.in_err-done.field-0.0 c.from_residual.result c.from_residual.ensures.1
-    c.in_err-done.ensures.outcome (λ apart. (c.in_err-done.ensures.unchanged apart).0) c.in_err-done.ensures.held.0 refl
+    c.in_err-done.ensures.outcome (λ apart. (c.in_err-done.ensures.unchanged apart).0) c.in_err-done.ensures.held.0 refl refl
 
 -- ---- what a read gives
 
