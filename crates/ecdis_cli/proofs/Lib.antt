@@ -1,4 +1,5 @@
 mod Lists
+mod Panels
 mod Devices
 mod Counting
 mod Crashes

@@ -10,8 +10,8 @@ use Rattle.std.proofs.lemmas.List.Splits.{slice_split_at, slice_split_none, leng
 use Rattle.script_reader.specs.Reading.{event_in}
 use Rattle.script_reader.specs.declared.event.Event.{Event}
 use Rattle.script_reader.specs.declared.fault.LineFault.{LineFault}
-use Rattle.session_core.specs.Fetch.{Fetches}
 use Rattle.session_core.specs.Model.{Model}
+use Rattle.session_core.specs.Outside.{FromOutside}
 use Rattle.ecdis_cli.specs.WholeLines.{whole_lines, onto_whole_lines}
 use Rattle.ecdis_cli.specs.Progress.{HasNoLineFeed}
 use Rattle.ecdis_cli.specs.Script.{first_answer, other_answers, steps_from}
@@ -67,28 +67,28 @@ All-behind (x ∷ xs) ys h = All-behind xs ys (All-tail (λ b. eqb b 10 ≡ fals
 
 -- ---- their steps
 
-abbrev pub step_first : Model → ℕ → List ℕ → List Fetches → Step
+abbrev pub step_first : Model → ℕ → List ℕ → List FromOutside → Step
 step_first model number line answers = step_to (first_answer answers) model number line
 
 -- the steps of the lines behind a first step
-abbrev pub steps_behind : Step → ℕ → List ℕ → List Fetches → List Step
+abbrev pub steps_behind : Step → ℕ → List ℕ → List FromOutside → List Step
 steps_behind step number rest answers = step ∷ steps_from step.model (number + 1) (lines rest) (other_answers answers)
 
-pub steps-feed : (model : Model) (number : ℕ) (line rest : List ℕ) (answers : List Fetches) → HasNoLineFeed line
+pub steps-feed : (model : Model) (number : ℕ) (line rest : List ℕ) (answers : List FromOutside) → HasNoLineFeed line
     → steps_from model number (lines (line ++ 10 ∷ rest)) answers
     ≡ steps_behind (step_first model number (strip_carriage_return line) answers) number rest answers
 steps-feed model number line rest answers h =
     ap (λ (ls : List (List ℕ)). steps_from model number ls answers) (lines-feed line rest h)
 
 -- the last line has no line feed
-pub steps-last : (model : Model) (number : ℕ) (line : List ℕ) (answers : List Fetches) → HasNoLineFeed line → 0 < length line
+pub steps-last : (model : Model) (number : ℕ) (line : List ℕ) (answers : List FromOutside) → HasNoLineFeed line → 0 < length line
     → steps_from model number (lines line) answers ≡ step_first model number line answers ∷ []
 steps-last model number line answers h some =
     let nonempty : eqb (length line) 0 ≡ false = grind (arith, nat_tests) in
     ap (λ (ls : List (List ℕ)). steps_from model number ls answers)
     (lines-last line h ∙ ap (λ (b : Bool). cond b [] (line ∷ [])) nonempty)
 
-pub steps-empty : (model : Model) (number : ℕ) (answers : List Fetches) → steps_from model number (lines []) answers ≡ []
+pub steps-empty : (model : Model) (number : ℕ) (answers : List FromOutside) → steps_from model number (lines []) answers ≡ []
 steps-empty model number answers = refl
 
 -- ---- long lines
@@ -102,11 +102,11 @@ event-front law number line h =
     let long : 1024 < length (take 1025 line) = omega (arith, h, length-take-le 1025 line (omega (arith, h))) in
     sym (law number (take 1025 line) (drop 1025 line) long) ∙ ap (event_in number) (take-append-drop 1025 line)
 
-pub step-front : ReadByFront → (fetches : Fetches) (model : Model) (number : ℕ) (line : List ℕ) → 1024 < length line
-    → step_to fetches model number line ≡ step_to fetches model number (take 1025 line)
+pub step-front : ReadByFront → (outside : FromOutside) (model : Model) (number : ℕ) (line : List ℕ) → 1024 < length line
+    → step_to outside model number line ≡ step_to outside model number (take 1025 line)
 unfolding step_to
-step-front law fetches model number line h =
-    ap (step_by fetches model number) (sym (event-front law number line h))
+step-front law outside model number line h =
+    ap (step_by outside model number) (sym (event-front law number line h))
 
 -- bytes that are looked at whole
 pub take_short : (n : ℕ) (bytes : List ℕ) → length bytes ≤ n → bytes ≡ take n bytes
@@ -127,22 +127,22 @@ take-strip line h =
     ]
 
 -- a line that has begun with so many bytes, however it goes on
-step-begun : ReadByFront → (fetches : Fetches) (model : Model) (number : ℕ) (line more : List ℕ) → 1026 ≤ length line
-    → step_to fetches model number (line ++ more) ≡ step_to fetches model number (take 1025 line)
-step-begun law fetches model number line more h =
-    step-front law fetches model number (line ++ more) (omega (arith, h, length-append line more))
-    ∙ ap (step_to fetches model number) (take-append-le 1025 line more (omega (arith, h)))
+step-begun : ReadByFront → (outside : FromOutside) (model : Model) (number : ℕ) (line more : List ℕ) → 1026 ≤ length line
+    → step_to outside model number (line ++ more) ≡ step_to outside model number (take 1025 line)
+step-begun law outside model number line more h =
+    step-front law outside model number (line ++ more) (omega (arith, h, length-append line more))
+    ∙ ap (step_to outside model number) (take-append-le 1025 line more (omega (arith, h)))
 
-step-begun_strip : ReadByFront → (fetches : Fetches) (model : Model) (number : ℕ) (line more : List ℕ) → 1026 ≤ length line
-    → step_to fetches model number (strip_carriage_return (line ++ more)) ≡ step_to fetches model number (take 1025 line)
-step-begun_strip law fetches model number line more h =
-    step-front law fetches model number (strip_carriage_return (line ++ more))
+step-begun_strip : ReadByFront → (outside : FromOutside) (model : Model) (number : ℕ) (line more : List ℕ) → 1026 ≤ length line
+    → step_to outside model number (strip_carriage_return (line ++ more)) ≡ step_to outside model number (take 1025 line)
+step-begun_strip law outside model number line more h =
+    step-front law outside model number (strip_carriage_return (line ++ more))
     (omega (arith, h, length-append line more, length-strip (line ++ more)))
-    ∙ ap (step_to fetches model number) (take-strip (line ++ more) (omega (arith, h, length-append line more))
+    ∙ ap (step_to outside model number) (take-strip (line ++ more) (omega (arith, h, length-append line more))
     ∙ take-append-le 1025 line more (omega (arith, h)))
 
 -- a long line, however it goes on, and the lines behind it
-steps-begun : ReadByFront → (model : Model) (number : ℕ) (line more rest : List ℕ) (answers : List Fetches) → 1026 ≤ length line
+steps-begun : ReadByFront → (model : Model) (number : ℕ) (line more rest : List ℕ) (answers : List FromOutside) → 1026 ≤ length line
     → HasNoLineFeed line → HasNoLineFeed more
     → steps_from model number (lines (line ++ (more ++ 10 ∷ rest))) answers
     ≡ steps_behind (step_first model number (take 1025 line) answers) number rest answers
@@ -151,7 +151,7 @@ steps-begun law model number line more rest answers long h u =
     ∙ steps-feed model number (line ++ more) rest answers (All-append (λ b. eqb b 10 ≡ false) line more h u)
     ∙ ap (λ (s : Step). steps_behind s number rest answers) (step-begun_strip law (first_answer answers) model number line more long)
 
-steps-begun_last : ReadByFront → (model : Model) (number : ℕ) (line more : List ℕ) (answers : List Fetches) → 1026 ≤ length line
+steps-begun_last : ReadByFront → (model : Model) (number : ℕ) (line more : List ℕ) (answers : List FromOutside) → 1026 ≤ length line
     → HasNoLineFeed line → HasNoLineFeed more
     → steps_from model number (lines (line ++ more)) answers ≡ step_first model number (take 1025 line) answers ∷ []
 steps-begun_last law model number line more answers long h u =
@@ -160,7 +160,7 @@ steps-begun_last law model number line more answers long h u =
     ∙ ap (λ (s : Step). s ∷ []) (step-begun law (first_answer answers) model number line more long)
 
 -- the rest of a long line changes nothing
-pub steps-long : ReadByFront → (model : Model) (number : ℕ) (line : List ℕ) (byte : ℕ) (rest : List ℕ) (answers : List Fetches)
+pub steps-long : ReadByFront → (model : Model) (number : ℕ) (line : List ℕ) (byte : ℕ) (rest : List ℕ) (answers : List FromOutside)
     → 1026 ≤ length line → HasNoLineFeed line → eqb byte 10 ≡ false
     → steps_from model number (lines (line ++ byte ∷ rest)) answers ≡ steps_from model number (lines (line ++ rest)) answers
 steps-long law model number line byte rest answers long h ne =
@@ -221,7 +221,7 @@ ended-fed bytes f = subst (λ (l : List ℕ). IsCons (whole_lines l)) (sym f.who
 pub ended-line : (line : List ℕ) → whole_lines (line ++ 10 ∷ []) ≡ line ++ 10 ∷ []
 ended-line line = ended-append line (10 ∷ []) (onto_ten [])
 
-pub steps-ended_none : (model : Model) (number : ℕ) (bytes : List ℕ) (answers : List Fetches) → HasNoLineFeed bytes
+pub steps-ended_none : (model : Model) (number : ℕ) (bytes : List ℕ) (answers : List FromOutside) → HasNoLineFeed bytes
     → steps_from model number (lines (whole_lines bytes)) answers ≡ []
 steps-ended_none model number bytes answers h =
     ap (λ (l : List ℕ). steps_from model number (lines l) answers) (ended-unbroken bytes h)
@@ -237,8 +237,8 @@ event-looked_at law number line front e =
     ] refl
 
 -- so its step is that of what it asks for
-pub step-asked : ReadByFront → (fetches : Fetches) (model : Model) (number : ℕ) (line front : List ℕ) (asked : Result (Option Event) LineFault)
-    → front ≡ take 1025 line → asked ≡ event_in number front → step_to fetches model number line ≡ step_by fetches model number asked
+pub step-asked : ReadByFront → (outside : FromOutside) (model : Model) (number : ℕ) (line front : List ℕ) (asked : Result (Option Event) LineFault)
+    → front ≡ take 1025 line → asked ≡ event_in number front → step_to outside model number line ≡ step_by outside model number asked
 unfolding step_to
-step-asked law fetches model number line front asked e is =
-    ap (step_by fetches model number) (sym (is ∙ event-looked_at law number line front e))
+step-asked law outside model number line front asked e is =
+    ap (step_by outside model number) (sym (is ∙ event-looked_at law number line front e))

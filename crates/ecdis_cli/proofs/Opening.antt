@@ -14,30 +14,33 @@ use Rattle.chart_store.specs.Opened.{ForeignHas}
 use Rattle.bank_pair.specs.Saving.{SaveValue, gate_of_save}
 use Rattle.chart_store.specs.Store.{LeavesBefore, LeavesReading, SaysAs, save_of, state_of, used_of}
 use Rattle.chart_store.specs.declared.store.Store.{Store}
-use Rattle.session_core.specs.Fetch.{Files, fetches_of}
+use Rattle.panel_scenes.specs.Scene.{SceneValue, new_scenes}
+use Rattle.session_core.specs.Fetch.{Files}
 use Rattle.session_core.specs.Kept.{feature_count}
 use Rattle.session_core.specs.Model.{Model, Portrayal}
-use Rattle.session_core.specs.Session.{model_of, portrayal_of, progress_of, store_of}
+use Rattle.session_core.specs.Session.{model_of, portrayal_of, progress_of, scenes_of, store_of}
 use Rattle.session_core.specs.declared.session.Session.{Session}
 use Rattle.chart_store.specs.declared.open_fault.OpenFault.{OpenFault}
 use Rattle.chart_store.specs.declared.open_fault.OpenFault.TheVariants as of_opening
 use Rattle.ecdis_cli.specs.declared.run.status.Status.{Status}
 use Rattle.ecdis_cli.specs.declared.run.status.Status.TheVariants as status
 use Rattle.command_words.specs.Reading.{WordsValue}
+use Rattle.ecdis_cli.specs.Panels.{PanelValue, starts_at}
 use Rattle.ecdis_cli.specs.Portrayal.{IsPortrayal}
 use Rattle.ecdis_cli.specs.Progress.{Moments}
 use Rattle.ecdis_cli.specs.Status.{is_early}
 use Rattle.ecdis_cli.specs.Stop.{status_of_opening}
 use Rattle.ecdis_cli.specs.Crash.{LeavesPrefix}
-use Rattle.ecdis_cli.specs.Run.{Outside, Ran, Says, TakenAreCounted, model_at, outside_of}
+use Rattle.ecdis_cli.specs.Run.{Outside, PanelsGoAlong, Ran, Says, TakenAreCounted, model_at, outside_of}
 use Rattle.ecdis_cli.specs.Script.{failures_in, steps_of}
 use Rattle.ecdis_cli.specs.Step.{Step}
 use Rattle.ecdis_cli.proofs.Counting.{counted-from}
 use Rattle.ecdis_cli.proofs.Crashes.{prefix-extended, prefix-none}
 use Rattle.ecdis_cli.proofs.Early.{any-is, any_portrayal}
 use Rattle.ecdis_cli.proofs.Failures.{TellsFailure}
-use Rattle.ecdis_cli.proofs.Runs.{Covers, IsOther, covers-none, other-says, padding, padding-told}
-use Rattle.ecdis_cli.proofs.Taking.{answers-same, front-none, rose-none, upto-whole}
+use Rattle.ecdis_cli.proofs.Panels.{known-new}
+use Rattle.ecdis_cli.proofs.Runs.{Covers, IsOther, along-none, covers-none, other-says, padding, padding-told}
+use Rattle.ecdis_cli.proofs.Taking.{answers-same, front-none, rose-none, unfailing, upto-whole}
 
 pub ok-same : (a b : Reading) → ◌≡◌ {A = Result Reading Place} (Ok a) (Ok b) → a ≡ b
 ok-same a b e = cc
@@ -75,10 +78,17 @@ or_early ended bank at (inr (inl e)) = inr (inl e)
 or_early ended bank at (inr (inr e)) = inr (inr (inl e))
 
 -- what is read at the opening, as the model of what was opened
-pub opened-model : (portrayal : Portrayal) (found : Result Reading Place) (opening : Reading) (state : StateValue) (used : ℕ) → found ≡ Ok opening
-    → found ≡ Ok (record { state = state; used = used })
-    → record { state = state; room = record { used = used; other = None }; save = None; portrayal = portrayal } ≡ model_at portrayal opening
-opened-model portrayal found opening state used e f = ap (model_at portrayal) (ok-same (record { state = state; used = used }) opening (sym f ∙ e))
+pub opened-model : (portrayal : Portrayal) (panels : ℕ) (found : Result Reading Place) (opening : Reading) (state : StateValue)
+    (used : ℕ) → found ≡ Ok opening → found ≡ Ok (record { state = state; used = used })
+    → record {
+      state = state;
+      room = record { used = used; other = None };
+      save = None;
+      portrayal = portrayal;
+      scenes = new_scenes panels;
+    }
+    ≡ model_at portrayal panels opening
+opened-model portrayal panels found opening state used e f = ap (model_at portrayal panels) (ok-same (record { state = state; used = used }) opening (sym f ∙ e))
 
 -- an opening that fails counts no more than its bank has
 pub unopened-within : (bank features a b : ℕ) → b ≤ a + bank → b ≤ a + (bank + features)
@@ -96,28 +106,36 @@ opened-within found opening state used bank a b c e f h k =
     subst (λ (n : ℕ). c ≤ a + (bank + n)) same (omega (arith, h, k))
 
 -- the model of a session over a store with no save under way
-pub session-model : (session : Session) (store : Store) (portrayal : Portrayal) → store_of session ≡ store
-    → portrayal_of session ≡ portrayal → save_of store ≡ None
+pub session-model : (session : Session) (store : Store) (portrayal : Portrayal) (scenes : List SceneValue)
+    → store_of session ≡ store → portrayal_of session ≡ portrayal → scenes_of session ≡ scenes → save_of store ≡ None
     → model_of session
-    ≡ record { state = state_of store; room = record { used = used_of store; other = None }; save = None; portrayal = portrayal }
-session-model session store portrayal same drawn idle =
-    ap (λ (s : Store). model_by s (save_of s) (portrayal_of session)) same
-    ∙ ap (λ (p : Portrayal). model_by store (save_of store) p) drawn
-    ∙ ap (λ (s : Option SaveValue). model_by store s portrayal) idle
+    ≡ record {
+      state = state_of store;
+      room = record { used = used_of store; other = None };
+      save = None;
+      portrayal = portrayal;
+      scenes = scenes;
+    }
+session-model session store portrayal scenes same drawn known idle =
+    ap (λ (s : Store). model_by s (save_of s) (portrayal_of session) (scenes_of session)) same
+    ∙ ap (λ (p : Portrayal). model_by store (save_of store) p (scenes_of session)) drawn
+    ∙ ap (λ (l : List SceneValue). model_by store (save_of store) portrayal l) known
+    ∙ ap (λ (s : Option SaveValue). model_by store s portrayal scenes) idle
   where
-    model_by : Store → Option SaveValue → Portrayal → Model
-    model_by store save portrayal = record {
+    model_by : Store → Option SaveValue → Portrayal → List SceneValue → Model
+    model_by store save portrayal scenes = record {
       state = state_of store;
       room = record { used = used_of store; other = option_map (λ (s : SaveValue). gate_of_save s + 1) save };
       save = option_map progress_of save;
       portrayal = portrayal;
+      scenes = scenes;
     }
 
 -- what a run says is the same, however often the shelf had failed before it, and whatever the count was
 says-later : (status : Status) (steps : List ℕ → List Step) (left said : List ℕ) (faults faults' count count' : ℕ)
-    (now : Outside) → Says status steps (outside_of left said faults' count') now
-    → Says status steps (outside_of left said faults count) now
-says-later status steps left said faults faults' count count' now x = record {
+    (panels : List PanelValue) (now : Outside) → Says status steps (outside_of left said faults' count' panels) now
+    → Says status steps (outside_of left said faults count panels) now
+says-later status steps left said faults faults' count count' panels now x = record {
   all = x.all;
   front = x.front;
   at_fault = λ e. let y = x.at_fault e in record { taken = y.taken; split = y.split; said = y.said };
@@ -126,10 +144,10 @@ says-later status steps left said faults faults' count count' now x = record {
 
 -- the same steps are counted from a count that is no less
 counted-later : (model : Model) (steps : List Step) (left said : List ℕ) (faults faults' count count' : ℕ)
-    (now : Outside) → count' ≤ count
-    → TakenAreCounted model steps (outside_of left said faults' count') now
-    → TakenAreCounted model steps (outside_of left said faults count) now
-counted-later model steps left said faults faults' count count' now within x = record {
+    (panels : List PanelValue) (now : Outside) → count' ≤ count
+    → TakenAreCounted model steps (outside_of left said faults' count' panels) now
+    → TakenAreCounted model steps (outside_of left said faults count panels) now
+counted-later model steps left said faults faults' count count' panels now within x = record {
   taken = x.taken;
   rest = x.rest;
   split = x.split;
@@ -137,8 +155,25 @@ counted-later model steps left said faults faults' count count' now within x = r
   counted = counted-from model x.taken count count' now.count within x.counted;
 }
 
+-- and panels go along with the same steps
+along-later : (status : Status) (model : Model) (steps : List Step) (left said : List ℕ) (faults faults' count count' : ℕ)
+    (panels : List PanelValue) (now : Outside)
+    → PanelsGoAlong status (starts_at panels) model steps (outside_of left said faults' count' panels) now
+    → PanelsGoAlong status (starts_at panels) model steps (outside_of left said faults count panels) now
+along-later status model steps left said faults faults' count count' panels now x = record {
+  answered = x.answered;
+  others = x.others;
+  split = x.split;
+  begun = x.begun;
+  all = x.all;
+  told = x.told;
+  counted = x.counted;
+  known = x.known;
+}
+
 module _ {D : Type 0} (clock : D → ℕ) (might : D → ℕ → Images → List ℕ → Type 0)
-    (contents : ℕ → List ℕ) (may_leave : ℕ → List ℕ → Type 0) (said : List ℕ) (portrayal : Portrayal) (opening : Reading) where
+    (contents : ℕ → List ℕ) (may_leave : ℕ → List ℕ → Type 0) (said : List ℕ) (portrayal : Portrayal) (panels_count : ℕ)
+    (opening : Reading) where
   -- the moments of an opening
   opening-crash : (d0 d1 : D) (steps : List Step) → StandFor (images_of contents) opening.state
       → LeavesOnly clock might d0 d1 (LeavesReading contents may_leave said)
@@ -153,61 +188,65 @@ module _ {D : Type 0} (clock : D → ℕ) (might : D → ℕ → Images → List
 
   -- a run that ends there
   pub ran-unopened : TellsFailure → (tells : Bool) (files : Files) (d0 d1 : D) (status : Status)
-      (Left : Images → Type 0) (left said' : List ℕ) (faults faults' count count' : ℕ)
+      (Left : Images → Type 0) (left said' : List ℕ) (faults faults' count count' : ℕ) (panels panels' : List PanelValue)
+      → panels_count ≡ length panels → panels' ≡ panels
       → IsOther status → said' ≡ said → faults ≤ faults' → count' ≤ count
       → LeavesOnly clock might d0 d1 (LeavesReading contents may_leave said)
-      → Ran tells files (model_at portrayal opening) status (StandFor (images_of contents) opening.state)
+      → Ran tells files (model_at portrayal panels_count opening) status (StandFor (images_of contents) opening.state)
       (LeavesOnly clock might d0 d1) (LeavesBefore may_leave said) Left
-      (outside_of left said faults count) (outside_of left said' faults' count')
-  ran-unopened law tells files d0 d1 status Left left said' faults faults' count count' other silent later within run =
-      let before : Outside = outside_of left said faults count in
-      let covers : Covers files (model_at portrayal opening) left [] [] = covers-none law files (model_at portrayal opening) left in
+      (outside_of left said faults count panels) (outside_of left said' faults' count' panels')
+  ran-unopened law tells files d0 d1 status Left left said' faults faults' count count' panels panels' many same other silent later within run =
+      let before : Outside = outside_of left said faults count panels in
+      let now : Outside = outside_of left said' faults' count' panels' in
+      let covers : Covers files (model_at portrayal panels_count opening) left [] [] = covers-none law files (model_at portrayal panels_count opening) left in
       record {
         answers = padding files left;
         told = padding-told tells files left;
-        enough = omega (arith, length-replicate (length (lines left)) (fetches_of files false));
-        says = other-says files (model_at portrayal opening) status before left said' faults' count' [] [] other covers
+        enough = omega (arith, length-replicate (length (lines left)) (unfailing files));
+        says = other-says files (model_at portrayal panels_count opening) status before left said' faults' count' panels' [] [] other covers
             (front-none said [] said' silent);
         failed = subst (λ (k : ℕ). RoseBy k faults faults') (sym (ap failures_in covers.whole ∙ covers.mild)) (rose-none faults faults' later);
         counted = record {
           taken = [];
-          rest = steps_of (model_at portrayal opening) left (padding files left);
+          rest = steps_of (model_at portrayal panels_count opening) left (padding files left);
           split = refl;
           said = upto-whole said [] said' (silent ∙ sym (append-nil said));
           counted = within;
         };
-        crash = λ stood. opening-crash d0 d1 (steps_of (model_at portrayal opening) left (padding files left)) stood run;
+        panels = along-none status (model_at portrayal panels_count opening) before now (steps_of (model_at portrayal panels_count opening) left (padding files left))
+            (known-new panels panels_count many) silent same other.not_done;
+        crash = λ stood. opening-crash d0 d1 (steps_of (model_at portrayal panels_count opening) left (padding files left)) stood run;
         end = λ e. absurd (other.not_done e);
         stands = λ stood e. absurd (other.not_done e);
       }
 
   -- a run of the script behind it
   pub ran-opened : (Then : Type 0) → (StandFor (images_of contents) opening.state → Then) → (tells : Bool) (files : Files) (d0 d1 d2 : D) (status : Status) (Left : Images → Type 0)
-      (left said' : List ℕ) (faults count count' : ℕ) (now : Outside) (model : Model)
-      → said' ≡ said → model ≡ model_at portrayal opening → count' ≤ count
+      (left said' : List ℕ) (faults count count' : ℕ) (panels : List PanelValue) (now : Outside) (begun : Model)
+      → said' ≡ said → begun ≡ model_at portrayal panels_count opening → count' ≤ count
       → LeavesOnly clock might d0 d1 (LeavesReading contents may_leave said)
-      → Ran tells files model status Then (LeavesOnly clock might d1 d2) (λ images so_far. ⊥) Left
-      (outside_of left said' faults count') now
-      → Ran tells files (model_at portrayal opening) status (StandFor (images_of contents) opening.state) (LeavesOnly clock might d0 d2)
-      (LeavesBefore may_leave said) Left (outside_of left said faults count) now
-  ran-opened Then on tells files d0 d1 d2 status Left left said' faults count count' now model silent is within run ran =
-      let x : Ran tells files (model_at portrayal opening) status Then (LeavesOnly clock might d1 d2)
-      (λ images so_far. ⊥) Left (outside_of left said faults count') now
+      → Ran tells files begun status Then (LeavesOnly clock might d1 d2) (λ images so_far. ⊥) Left
+      (outside_of left said' faults count' panels) now
+      → Ran tells files (model_at portrayal panels_count opening) status (StandFor (images_of contents) opening.state) (LeavesOnly clock might d0 d2)
+      (LeavesBefore may_leave said) Left (outside_of left said faults count panels) now
+  ran-opened Then on tells files d0 d1 d2 status Left left said' faults count count' panels now begun silent is within run ran =
+      let x : Ran tells files (model_at portrayal panels_count opening) status Then (LeavesOnly clock might d1 d2)
+      (λ images so_far. ⊥) Left (outside_of left said faults count' panels) now
       = subst (λ (m : Model). Ran tells files m status Then (LeavesOnly clock might d1 d2) (λ images so_far. ⊥) Left
-      (outside_of left said faults count') now) is
-      (subst (λ (l : List ℕ). Ran tells files model status Then (LeavesOnly clock might d1 d2) (λ images so_far. ⊥) Left
-      (outside_of left l faults count') now) silent ran) in
-      let steps : List Step = steps_of (model_at portrayal opening) left x.answers in
+      (outside_of left said faults count' panels) now) is
+      (subst (λ (l : List ℕ). Ran tells files begun status Then (LeavesOnly clock might d1 d2) (λ images so_far. ⊥) Left
+      (outside_of left l faults count' panels) now) silent ran) in
+      let steps : List Step = steps_of (model_at portrayal panels_count opening) left x.answers in
       let P : Images → List ℕ → Type 0 = λ images so_far. LeavesBefore may_leave said images so_far ⊎ LeavesPrefix opening.state steps said images so_far in
       record {
         answers = x.answers;
         told = x.told;
         enough = x.enough;
-        says = says-later status (λ script. steps_of (model_at portrayal opening) script x.answers) left said faults
-            faults count count' now x.says;
+        says = says-later status (λ script. steps_of (model_at portrayal panels_count opening) script x.answers) left said faults
+            faults count count' panels now x.says;
         failed = x.failed;
-        counted = counted-later (model_at portrayal opening) steps left said faults faults count count' now within
-            x.counted;
+        counted = counted-later (model_at portrayal panels_count opening) steps left said faults faults count count' panels now within x.counted;
+        panels = along-later status (model_at portrayal panels_count opening) steps left said faults faults count count' panels now x.panels;
         crash = λ stood. and_then clock might d0 d1 d2 P (opening-crash d0 d1 steps stood run)
             (weaker clock might d1 d2 (λ images so_far. ⊥ ⊎ LeavesPrefix opening.state steps said images so_far) P
             (λ images so_far y. ⊎_elim (λ none. absurd none) (λ left. inr left) y) (x.crash (on stood)));
@@ -230,19 +269,21 @@ rose-later much a b c h (inr x) = inr x
 
 -- a run behind fetches that were made before
 pub ran-later : (tells : Bool) (files files' : Files) (model : Model) (status : Status) (Stood : Type 0) (Leaves : Moments) (LeavesElse : Images → List ℕ → Type 0)
-    (Left : Images → Type 0) (left said : List ℕ) (faults faults' count : ℕ) (now : Outside)
+    (Left : Images → Type 0) (left said : List ℕ) (faults faults' count : ℕ) (panels : List PanelValue) (now : Outside)
     → (IsTrue tells → files' ≡ files) → faults ≤ faults'
-    → Ran tells files' model status Stood Leaves LeavesElse Left (outside_of left said faults' count) now
-    → Ran tells files model status Stood Leaves LeavesElse Left (outside_of left said faults count) now
-ran-later tells files files' model status Stood Leaves LeavesElse Left left said faults faults' count now same later
-    x = record {
+    → Ran tells files' model status Stood Leaves LeavesElse Left (outside_of left said faults' count panels) now
+    → Ran tells files model status Stood Leaves LeavesElse Left (outside_of left said faults count panels) now
+ran-later tells files files' model status Stood Leaves LeavesElse Left left said faults faults' count panels now same
+    later x = record {
       answers = x.answers;
       told = answers-same tells files files' x.answers same x.told;
       enough = x.enough;
-      says = says-later status (λ script. steps_of model script x.answers) left said faults faults' count count now x.says;
+      says = says-later status (λ script. steps_of model script x.answers) left said faults faults' count count panels now x.says;
       failed = rose-later (failures_in (steps_of model left x.answers)) faults faults' now.faults later x.failed;
-      counted = counted-later model (steps_of model left x.answers) left said faults faults' count count now
+      counted = counted-later model (steps_of model left x.answers) left said faults faults' count count panels now
           (omega arith) x.counted;
+      panels = along-later status model (steps_of model left x.answers) left said faults faults' count count panels now
+          x.panels;
       crash = x.crash;
       end = x.end;
       stands = x.stands;
@@ -252,20 +293,23 @@ ran-later tells files files' model status Stood Leaves LeavesElse Left left said
 pub ran-lent : {L D : Type 0} (shelf_faults : L → ℕ) (said : D → List ℕ) (may_leave : D → ℕ → List ℕ → Type 0) (clock : D → ℕ)
     (might : D → ℕ → Images → List ℕ → Type 0) (tells : Bool) (files : Files) (model : Model) (status : Status) (Stood : Type 0)
     (LeavesElse : Images → List ℕ → Type 0) (before : Outside) (left : List ℕ) (desk lent now : D) (lent' now' : L)
-    (count count' : ℕ) → lent ≡ now → lent' ≡ now' → count ≡ count'
+    (count count' : ℕ) (panels panels' : List PanelValue) → lent ≡ now → lent' ≡ now' → count ≡ count' → panels ≡ panels'
     → Ran tells files model status Stood (LeavesOnly clock might desk lent) LeavesElse (MayBeLeft (may_leave lent)) before
-    (outside_of left (said lent) (shelf_faults lent') count)
+    (outside_of left (said lent) (shelf_faults lent') count panels)
     → Ran tells files model status Stood (LeavesOnly clock might desk now) LeavesElse (MayBeLeft (may_leave now)) before
-    (outside_of left (said now) (shelf_faults now') count')
+    (outside_of left (said now) (shelf_faults now') count' panels')
 ran-lent {L = L} {D = D} shelf_faults said may_leave clock might tells files model status Stood LeavesElse before left desk
-    lent now lent' now' count count' same same' counted x =
+    lent now lent' now' count count' panels panels' same same' counted shown x =
     subst (λ (d : D). Ran tells files model status Stood (LeavesOnly clock might desk d) LeavesElse (MayBeLeft (may_leave d)) before
-    (outside_of left (said d) (shelf_faults now') count')) same
+    (outside_of left (said d) (shelf_faults now') count' panels')) same
     (subst (λ (l : L). Ran tells files model status Stood (LeavesOnly clock might desk lent) LeavesElse (MayBeLeft (may_leave lent)) before
-    (outside_of left (said lent) (shelf_faults l) count')) same'
+    (outside_of left (said lent) (shelf_faults l) count' panels')) same'
     (subst (λ (n : ℕ). Ran tells files model status Stood (LeavesOnly clock might desk lent) LeavesElse
     (MayBeLeft (may_leave lent)) before
-    (outside_of left (said lent) (shelf_faults lent') n)) counted x))
+    (outside_of left (said lent) (shelf_faults lent') n panels')) counted
+    (subst (λ (l : List PanelValue). Ran tells files model status Stood (LeavesOnly clock might desk lent) LeavesElse
+    (MayBeLeft (may_leave lent)) before
+    (outside_of left (said lent) (shelf_faults lent') count l)) shown x)))
 
 -- the same of a count that is steady
 pub steady-lent : {D : Type 0} (faults : D → ℕ) (before : ℕ) (now lent : D) → lent ≡ now → IsSteady before (faults now) → IsSteady before (faults lent)
@@ -333,17 +377,17 @@ pub ran-untouched : {D : Type 0} (clock : D → ℕ) (might : D → ℕ → Imag
     (contents : ℕ → List ℕ) (may_leave : ℕ → List ℕ → Type 0) (said : List ℕ) (opening : Reading)
     → TellsFailure → ((images : Images) (so_far : List ℕ) → might desk (clock desk) images so_far → MayBeLeft may_leave images × (so_far ≡ said))
     → (tells : Bool) (files : Files) (words : Option WordsValue) (status : Status) (left : List ℕ)
-    (faults faults' count count' : ℕ)
-    → IsOther status → faults ≤ faults' → count' ≤ count
+    (faults faults' count count' : ℕ) (panels : List PanelValue) (panels_count : ℕ)
+    → panels_count ≡ length panels → IsOther status → faults ≤ faults' → count' ≤ count
     → (portrayal : Portrayal) × IsPortrayal tells files words portrayal
-    × Ran tells files (model_at portrayal opening) status (StandFor (images_of contents) opening.state)
+    × Ran tells files (model_at portrayal panels_count opening) status (StandFor (images_of contents) opening.state)
     (LeavesOnly clock might desk desk) (LeavesBefore may_leave said) (MayBeLeft may_leave)
-    (outside_of left said faults count) (outside_of left said faults' count')
+    (outside_of left said faults count panels) (outside_of left said faults' count' panels)
 ran-untouched clock might desk contents may_leave said opening law only_now tells files words status left
-    faults faults' count count' other later within = (
+    faults faults' count count' panels panels_count many other later within = (
       any_portrayal files words,
       any-is tells files words,
-      ran-unopened clock might contents may_leave said (any_portrayal files words) opening law tells files desk desk status
-          (MayBeLeft may_leave) left said faults faults' count count' other refl later within
+      ran-unopened clock might contents may_leave said (any_portrayal files words) panels_count opening law tells files desk
+          desk status (MayBeLeft may_leave) left said faults faults' count count' panels panels many refl other refl later within
           (reading-none clock might desk contents may_leave said only_now),
     )

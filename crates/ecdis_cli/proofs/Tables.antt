@@ -3,6 +3,7 @@ use Rattle.std.proofs.Common.{◌≡◌, ℕ, Bool, List, Option, Some, None, Re
 use Rattle.std.specs.Prelude.{IsErrAnd, IsErrOf, IsTrue, unwrap_or}
 use Rattle.std.proofs.lemmas.Result.{err_from_is_err_and}
 use Rattle.chart_model.specs.Answers.{◌>>=◌}
+use Rattle.chart_model.specs.Memory as memory
 use Rattle.chart_ports.specs.Fetched.{fetched_of}
 use Rattle.chart_ports.specs.declared.shelf.Fetched.{Fetched}
 use Rattle.chart_ports.specs.declared.shelf.ShelfError.{ShelfError}
@@ -71,17 +72,14 @@ stopped {A = A} (Fault fault) bytes next h = ap (λ (b : Result A TablesFault). 
 stopped ShelfFault bytes next h = tt
 stopped NoMemory bytes next h = tt
 
-row-gives : (A : Type 0) {E : Type 0} (told : E → Option TablesFault) (fault : E) (row : Option TablesFault) → told fault ≡ row
-    → Gives {X = A} (Err (stop_of row)) (Err (unwrap_or (told fault) Absent))
-row-gives A told fault (Some x) e = ap (λ (o : Option TablesFault). Err (unwrap_or o Absent)) e
-row-gives A told fault None e = tt
-
 -- a fault below is the stop of its row
-faulty-gives : {A E : Type 0} (told : E → Option TablesFault) (fault : E) (wanted : Result A E) → wanted ≡ Err fault
-    → Gives {X = A} (Err (stop_of (told fault))) (or_faulty told wanted)
-faulty-gives {A = A} {E = E} told fault wanted h =
-    subst (λ (w : Result A E). Gives {X = A} (Err (stop_of (told fault))) (or_faulty told w)) (sym h)
-    (row-gives A told fault (told fault) refl)
+row-gives : {A E : Type 0} (told : E → Option TablesFault) (silent fault : E) (wanted : Result A E) (row : Option TablesFault)
+    → told silent ≡ None → memory.Fails silent fault wanted → told fault ≡ row
+    → Gives {X = A} (Err (stop_of row)) (or_faulty told wanted)
+row-gives told silent fault wanted None none h e = tt
+row-gives told silent fault wanted (Some x) none h e =
+    ap (or_faulty told) (h (λ same. let f : ◌≡◌ {A = Option TablesFault} (Some x) None = sym e ∙ ap told same ∙ none in cc))
+    ∙ ap (λ (o : Option TablesFault). Err (unwrap_or o Absent)) e
 
 -- what is read is no fault of the shelf
 row-failed : {A X : Type 0} (r : Result A FileStop) (row : Option TablesFault) → r ≡ Err (stop_of row) → IsErrOf r ShelfFault → X
@@ -96,9 +94,8 @@ reading-failed r row passed failed = row-failed r row (passed-is r (stop_of row)
 
 catalogue-fails : (fault : CatalogueFault) (wanted : Result CatalogueValue CatalogueFault) → of_objects.Answers (Err fault) wanted
     → Gives {X = CatalogueValue} (Err (stop_of (fault_of_catalogue fault))) (or_faulty fault_of_catalogue wanted)
-catalogue-fails (of_catalogue.BadLine line) wanted h = faulty-gives fault_of_catalogue (of_catalogue.BadLine line) wanted h
-catalogue-fails (of_catalogue.Twice line) wanted h = faulty-gives fault_of_catalogue (of_catalogue.Twice line) wanted h
-catalogue-fails of_catalogue.NoMemory wanted h = tt
+catalogue-fails fault wanted h =
+    row-gives fault_of_catalogue of_catalogue.NoMemory fault wanted (fault_of_catalogue fault) refl h refl
 
 catalogue-is : (fetched : Fetched) → catalogue_by fetched ≡ (bytes_in fetched >>= λ bytes. or_faulty fault_of_catalogue (catalogue_in bytes))
 unfolding catalogue_by
@@ -136,10 +133,7 @@ catalogue-done fetched bytes shown value found same h =
 
 lines-fails : (fault : TableFault) (wanted : Result (List TableLine) TableFault) → of_lines.Answers (Err fault) wanted
     → Gives {X = List TableLine} (Err (stop_of (fault_of_table fault))) (or_faulty fault_of_table wanted)
-lines-fails (of_table.BadLine line) wanted h = faulty-gives fault_of_table (of_table.BadLine line) wanted h
-lines-fails (of_table.UnknownName line) wanted h = faulty-gives fault_of_table (of_table.UnknownName line) wanted h
-lines-fails (of_table.UnknownProcedure line) wanted h = faulty-gives fault_of_table (of_table.UnknownProcedure line) wanted h
-lines-fails of_table.NoMemory wanted h = tt
+lines-fails fault wanted h = row-gives fault_of_table of_table.NoMemory fault wanted (fault_of_table fault) refl h refl
 
 lines-is : (catalogue : CatalogueValue) (fetched : Fetched)
     → lines_by catalogue fetched ≡ (bytes_in fetched >>= λ bytes. or_faulty fault_of_table (lookup.table_in catalogue bytes))

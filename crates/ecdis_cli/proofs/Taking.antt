@@ -1,5 +1,5 @@
 -- Steps that are taken one after another.
-use Rattle.std.proofs.Common.{◌≡◌, ℕ, ◌+◌, ◌≤◌, Bool, List, [], ◌∷◌, ◌++◌, length, take, drop, refl, sym, ◌∙◌, ap}
+use Rattle.std.proofs.Common.{◌≡◌, ℕ, ◌+◌, ◌≤◌, Bool, false, List, [], ◌∷◌, ◌++◌, length, take, drop, refl, sym, ◌∙◌, ap}
 use Rattle.std.proofs.Common.{subst, arith, inl, inr, append_assoc}
 use Rattle.std.specs.Prelude.{IsTrue}
 use Rattle.std.specs.List.{All}
@@ -14,16 +14,20 @@ use Rattle.chart_ports.specs.declared.images.Images.{Images}
 use Rattle.chart_ports.proofs.Moments.{started, and_then, weaker}
 use Rattle.chart_store.specs.Images.{StandFor}
 use Rattle.chart_store.specs.Outcome.{after}
-use Rattle.session_core.specs.Fetch.{Files, Fetches, fetches_of}
+use Rattle.panel_scenes.specs.InStep.{Start}
+use Rattle.session_core.specs.Fetch.{Files, fetches_of}
 use Rattle.session_core.specs.Model.{Model}
+use Rattle.session_core.specs.Outside.{FromOutside}
 use Rattle.ecdis_cli.specs.Crash.{LeavesPrefix}
 use Rattle.ecdis_cli.specs.Counted.{StepsAreCounted}
-use Rattle.ecdis_cli.specs.Progress.{IsAfter, IsSpoken, Moments, SaysUpToLast, StepsAreTaken}
+use Rattle.ecdis_cli.specs.Panels.{AreAsKnown, HaveCountedFailures, NumbersAreTold, PanelValue, starts_left}
+use Rattle.ecdis_cli.specs.Progress.{IsAfter, IsSpoken, Moments, PanelsAreLeft, SaysUpToLast, StepsAreTaken}
 use Rattle.ecdis_cli.specs.Script.{IsAnswer, commands_in, failures_in, model_after, output_of}
 use Rattle.ecdis_cli.specs.Step.{Step}
 use Rattle.ecdis_cli.specs.Standing.{Standing}
 use Rattle.ecdis_cli.proofs.Counting.{counted-then}
 use Rattle.ecdis_cli.proofs.Crashes.{prefix-behind, prefix-extended, prefix-none}
+use Rattle.ecdis_cli.proofs.Panels.{follow-then, known-counted, starts-append, told-append}
 use Rattle.ecdis_cli.proofs.Lists.{after-append, after-none, commands-append, failures-append, model_after-append, output-append}
 
 -- what a crash leaves, where this held before
@@ -115,14 +119,22 @@ pub rose-fewer : (m n a b : ℕ) → m ≤ n → RoseBy n a b → RoseBy m a b
 rose-fewer m n a b h (inl x) = inl (omega arith)
 rose-fewer m n a b h (inr x) = inr x
 
--- ---- answers of the shelf
+-- ---- answers from outside
+
+-- what lines get of which nothing else is known: the files of the shelf
+abbrev pub unfailing : Files → FromOutside
+unfailing files = record {
+  fetches = fetches_of files false;
+  painting_failed = false;
+  numbers = record { blocks = 0; items = 0 };
+}
 
 -- the same shelf, later
-pub answers-same : (tells : Bool) (files files' : Files) (answers : List Fetches) → (IsTrue tells → files' ≡ files)
+pub answers-same : (tells : Bool) (files files' : Files) (answers : List FromOutside) → (IsTrue tells → files' ≡ files)
     → All (IsAnswer tells files') answers → All (IsAnswer tells files) answers
 answers-same tells files files' answers same told =
     All-weaker (IsAnswer tells files') (IsAnswer tells files)
-    (λ fetches is. λ t. subst (λ (fs : Files). (failed : Bool) × (fetches ≡ fetches_of fs failed)) (same t) (is t))
+    (λ outside is. λ t. subst (λ (fs : Files). (failed : Bool) × (outside.fetches ≡ fetches_of fs failed)) (same t) (is t))
     answers told
 
 -- ---- steps
@@ -153,7 +165,7 @@ module _ {D : Type 0} (clock : D → ℕ) (might : D → ℕ → Images → List
 
   -- steps after steps
   pub Taken-then : (Held Then : Type 0) → (Held → Then) → (tells : Bool) (files files' : Files) (d0 d1 d2 : D) (before mid : Standing) (faults count : ℕ)
-      (answers more : List Fetches) (steps others : List Step) → (IsTrue tells → files' ≡ files)
+      (answers more : List FromOutside) (steps others : List Step) → (IsTrue tells → files' ≡ files)
       → IsAfter before steps mid
       → StepsAreTaken tells files (Where Held (LeavesOnly clock might d0 d1)) before mid.faults mid.count answers steps
       → StepsAreTaken tells files' (Where Then (LeavesOnly clock might d1 d2)) mid faults count more others
@@ -190,4 +202,60 @@ IsAfter-then before mid now steps others x y = record {
   said = y.said ∙ ap (λ (l : List ℕ). l ++ output_of others) x.said ∙ append_assoc before.said (output_of steps) (output_of others)
       ∙ ap (λ (l : List ℕ). before.said ++ l) (sym (output-append steps others));
   reached = y.reached ∙ ap (λ (m : Model). model_after m others) x.reached ∙ sym (model_after-append before.model steps others);
+  panels = follow-then before.model mid.model before.panels mid.panels now.panels steps others x.reached x.panels y.panels;
+}
+
+-- ---- panels where a run stops
+
+-- what is known behind steps that were answered
+known-then : (before mid : Standing) (steps : List Step) → IsAfter before steps mid → (starts : List Start)
+    → AreAsKnown starts before.panels before.model.scenes → AreAsKnown (starts_left starts steps) mid.panels mid.model.scenes
+known-then before mid steps x starts known =
+    subst (λ (m : Model). AreAsKnown (starts_left starts steps) mid.panels m.scenes) (sym x.reached)
+    (x.panels.known starts known)
+
+-- behind them
+pub left-then : (before mid now : Standing) (steps others : List Step) → IsAfter before steps mid
+    → PanelsAreLeft mid others now → PanelsAreLeft before (steps ++ others) now
+left-then before mid now steps others x y =
+    record {
+      answered = steps ++ y.answered;
+      others = y.others;
+      whole = ap (λ (l : List Step). steps ++ l) y.whole ∙ sym (append_assoc steps y.answered y.others);
+      begun = front-same before.said (output_of steps ++ output_of y.answered) (output_of (steps ++ y.answered)) now.said
+          (sym (output-append steps y.answered))
+          (front-after before.said (output_of steps) (output_of y.answered) mid.said now.said x.said y.begun);
+      told = λ starts known. told-append starts before.model steps y.answered (x.panels.told starts known)
+          (subst (λ (m : Model). NumbersAreTold (starts_left starts steps) m y.answered) x.reached
+          (y.told (starts_left starts steps) (known-then before mid steps x starts known)));
+      counted = λ starts known.
+          subst (λ (s : List Start). HaveCountedFailures s now.panels (model_after before.model (steps ++ y.answered)).scenes)
+          (sym (starts-append starts steps y.answered))
+          (subst (λ (m : Model). HaveCountedFailures (starts_left (starts_left starts steps) y.answered) now.panels m.scenes)
+          (ap (λ (m : Model). model_after m y.answered) x.reached ∙ sym (model_after-append before.model steps y.answered))
+          (y.counted (starts_left starts steps) (known-then before mid steps x starts known)));
+    }
+
+-- all steps were answered
+pub left-after : (before now : Standing) (steps : List Step) → IsAfter before steps now → PanelsAreLeft before steps now
+left-after before now steps x = record {
+  answered = steps;
+  others = [];
+  whole = sym (append-nil steps);
+  begun = front-whole before.said (output_of steps) now.said x.said;
+  told = λ starts known. x.panels.told starts known;
+  counted = λ starts known. known-counted (starts_left starts steps) now.panels (model_after before.model steps).scenes
+      (x.panels.known starts known);
+}
+
+-- no step was taken
+pub left-none : (before now : Standing) → now.said ≡ before.said → now.panels ≡ before.panels → PanelsAreLeft before [] now
+left-none before now silent same = record {
+  answered = [];
+  others = [];
+  whole = refl;
+  begun = front-none before.said [] now.said silent;
+  told = λ starts known. tt;
+  counted = λ starts known. subst (λ (panels : List PanelValue). HaveCountedFailures starts panels before.model.scenes)
+      (sym same) (known-counted starts before.panels before.model.scenes known);
 }

@@ -4,6 +4,7 @@ pub mod Step
 pub mod Script
 pub mod Counted
 pub mod Crash
+pub mod Panels
 pub mod Devices
 pub mod Standing
 pub mod Progress

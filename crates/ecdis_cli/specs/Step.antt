@@ -7,10 +7,11 @@ use Rattle.script_reader.specs.declared.event.Event.{Event}
 use Rattle.script_reader.specs.declared.fault.LineFault.{LineFault}
 use Rattle.script_reader.specs.declared.reply.Reply.{Reply}
 use Rattle.script_reader.specs.declared.reply.Reply.TheVariants as replies
-use Rattle.session_core.specs.Fetch.{Fetches}
 use Rattle.session_core.specs.Model.{Model}
+use Rattle.session_core.specs.Outside.{FromOutside}
+use Rattle.session_core.specs.Replied.{Turn, refusal_turn}
 use Rattle.session_core.specs.Steps.{most_steps_at}
-use Rattle.session_core.specs.Turn.{Turn, refusal_turn, turn_of}
+use Rattle.session_core.specs.Turn.{turn_of}
 use Rattle.session_core.specs.declared.refusal.LineRefusal.TheVariants.{BadLine}
 
 -- what is replied, and the command that is accepted, where there are such; the model after it, and how many data
@@ -30,15 +31,15 @@ abbrev pub step_of : ℕ → Turn → Step
 step_of most turn = record { reply = Some turn.reply; command = turn.command; model = turn.model; most = most }
 
 -- an empty line and a remark are silent, an event takes its turn, and a bad line is refused by its number
-abbrev pub step_by : Fetches → Model → ℕ → Result (Option Event) LineFault → Step
-step_by fetches model number (Ok None) = silent_step model
-step_by fetches model number (Ok (Some event)) =
-    step_of (most_steps_at fetches model event) (turn_of fetches model event)
-step_by fetches model number (Err fault) = step_of 0 (refusal_turn model (BadLine number))
+abbrev pub step_by : FromOutside → Model → ℕ → Result (Option Event) LineFault → Step
+step_by outside model number (Ok None) = silent_step model
+step_by outside model number (Ok (Some event)) =
+    step_of (most_steps_at outside.fetches model event) (turn_of outside model event)
+step_by outside model number (Err fault) = step_of 0 (refusal_turn model (BadLine number))
 
--- the step of the line of this number, by what the shelf answers
-unfoldable pub step_to : Fetches → Model → ℕ → List ℕ → Step
-step_to fetches model number line = step_by fetches model number (event_in number line)
+-- the step of the line of this number, by what it gets from outside
+unfoldable pub step_to : FromOutside → Model → ℕ → List ℕ → Step
+step_to outside model number line = step_by outside model number (event_in number line)
 
 abbrev pub said_of : Option Reply → List ℕ
 said_of None = []

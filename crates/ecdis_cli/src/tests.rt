@@ -15,6 +15,7 @@ use crate::run::run_ecdis;
 use crate::run::status::Status;
 use crate::run::tables_fault::TablesFault;
 use chart_ports::{FailingCalls, FileBytes, MemoryDesk, MemoryShelf, MemorySource, Steps};
+use panel_port::{MemoryPanel, Panel};
 use std::alloc::{AllocError, Global};
 use std::marker::Brand;
 use std::sync::ledger::{Blank, Ledger};
@@ -138,8 +139,19 @@ fn outcome_of<C: Ledger>(
     let mut script = MemorySource::with_pace(bytes, failing(alloc, case.pull)?, pace);
     let mut shelf = shelf(alloc, case)?;
     let mut desk = MemoryDesk::new(alloc, failing(alloc, case.desk)?);
+    let mut panels: Vec<Box<dyn Panel>> = Vec::new(alloc);
+    panels.push(Box::new(alloc, MemoryPanel::new(alloc))?)?;
+    panels.push(Box::new(alloc, MemoryPanel::new(alloc))?)?;
     let mut steps = Steps::<C>::new(blank);
-    let status = run_ecdis(alloc, words, &mut script, &mut shelf, &mut desk, &mut steps);
+    let status = run_ecdis(
+        alloc,
+        words,
+        &mut script,
+        &mut shelf,
+        &mut desk,
+        &mut panels,
+        &mut steps,
+    );
     Ok((status, desk.said().to_vec(alloc)?))
 }
 
@@ -223,6 +235,30 @@ static LINES: [Answer; 9] = [
 fn answers_lines(rt: HostRuntime) -> Result<(), Fail> {
     assert_eq!(rt; first_wrong(rt.alloc(), &LINES, false)?, None);
     assert_eq!(rt; first_wrong(rt.alloc(), &LINES, true)?, None);
+    Ok(())
+}
+
+/// What two panels show. A refresh goes on under its panel's new number.
+static PANELS: [Answer; 3] = [
+    (
+        b"refresh 1\npaint 1 9\npanel 1\nload T\npanel 1\nrefresh 1\npaint 1 9\npanel 1\n",
+        b"ok refresh 1 1\nok paint 1 1 1\nok panel 1 0 0\nok load AA5TEST1 1 0\nok panel 1 0 0\n\
+ok refresh 1 1\nok paint 1 1 1\nok panel 1 1 1\n",
+    ),
+    (
+        b"load T\nrefresh 2\npaint 2 1\nrefresh 2\nclose-panel 1\npaint 1 1\npanel 1\npaint 1 1\npanel 2\n",
+        b"ok load AA5TEST1 1 0\nok refresh 2 2\nok paint 2 1 2\nno 79\nok close-panel 1\nok paint 1 2 2\n\
+ok panel 1 1 1\nno 76\nno 77 2\n",
+    ),
+    (
+        b"close-panel 2\nclose-panel 1\nclose-panel 1\nrefresh 1\npaint 1 1\n",
+        b"ok close-panel 2\nok close-panel 1\nno 77 1\nno 77 1\nno 77 1\n",
+    ),
+];
+
+#[test]
+fn panels_show_charts(rt: HostRuntime) -> Result<(), Fail> {
+    assert_eq!(rt; first_wrong(rt.alloc(), &PANELS, false)?, None);
     Ok(())
 }
 

@@ -11,7 +11,7 @@ ghost use Rattle.chart_ports.specs.Moments.{Elapses, LeavesOnly};
 ghost use Rattle.chart_ports.specs.Said.{SaysFront};
 ghost use Rattle.script_reader.specs.Reply.{bytes_of_reply};
 ghost use Rattle.session_core.specs.Session.{model_of};
-ghost use Rattle.ecdis_cli.specs.Devices.{KeepsDevices, LeavesWhere};
+ghost use Rattle.ecdis_cli.specs.Devices.{KeepsDevices, LeavesWhere, panels_in};
 ghost use Rattle.ecdis_cli.specs.Progress.{LineIsAnswered, ReplyIsInterrupted};
 ghost use Rattle.ecdis_cli.specs.Replied.{GivesStep, LeavesSaying, ReplyIsFound};
 ghost use Rattle.ecdis_cli.specs.Standing.{IsReadyFor, Stands, standing_at};
@@ -62,13 +62,15 @@ fn reply_to<L: Shelf, D: Desk, C: Ledger>(
     requires number { number < 2 ^ 63 }
     requires ready { IsReadyFor D.tells D.contents D.may_leave devices.old number session.old }
 
-    // The line's step is taken and counted, and nothing is said. What a read of the files gives stands for what is
-    // held, where it did before.
+    // The line's step is taken and counted, panels go along with it, and nothing is said. What a read of the files gives
+    // stands for what is held, where it did before.
     ensures replied { ReplyIsFound L.tells (L.files devices.old.shelf.now)
         (λ P. IsTrue D.tells →
         LeavesWhere (Stands D.contents devices.old session.old) D.clock D.might devices.old devices.new P)
-        (standing_at L.faults D.said session.old devices.old number line.now) (L.faults devices.new.shelf.now)
-        devices.new.steps.now (GivesStep result (model_of session.new)) }
+        (standing_at L.faults D.said Panel-box session.old devices.old number line.now)
+        (L.faults devices.new.shelf.now) devices.new.steps.now
+        (GivesStep result (model_of session.old) (panels_in Panel-box devices.old)
+        (model_of session.new) (panels_in Panel-box devices.new)) }
     ensures said { IsTrue D.tells → D.said devices.new.desk.now ≡ D.said devices.old.desk.now }
     ensures stood { IsTrue D.tells → Stands D.contents devices.old session.old →
         OnOk result (Stands D.contents devices.new session.new) }
@@ -81,6 +83,7 @@ fn reply_to<L: Shelf, D: Desk, C: Ledger>(
 {
     long_lines_are_read_by_their_front();
     kept_stores_are_read::<D>();
+    turns_follow_their_commands();
     match read_line(alloc, front_of(line), number) {
         Ok(None) => Ok(None),
         Ok(Some(event)) => Ok(Some(session.turn(
@@ -88,6 +91,7 @@ fn reply_to<L: Shelf, D: Desk, C: Ledger>(
             event,
             devices.shelf,
             devices.desk,
+            devices.panels,
             devices.steps,
         )?)),
         Err(LineFault::BadLine(_)) => Ok(Some(LineRefusal::BadLine(number).reply(alloc)?)),
@@ -110,12 +114,12 @@ pub fn answer<L: Shelf, D: Desk, C: Ledger>(
     // stands for what is held, where it did before.
     ensures said { IsTrue D.tells → OnOk result (LineIsAnswered L.tells (L.files devices.old.shelf.now)
         (LeavesWhere (Stands D.contents devices.old session.old) D.clock D.might devices.old devices.new)
-        (standing_at L.faults D.said session.old devices.old number line.now)
-        (standing_at L.faults D.said session.new devices.new (number + 1) [])) }
+        (standing_at L.faults D.said Panel-box session.old devices.old number line.now)
+        (standing_at L.faults D.said Panel-box session.new devices.new (number + 1) [])) }
     ensures front { IsTrue D.tells → OnErr result (ReplyIsInterrupted L.tells (L.files devices.old.shelf.now)
         (LeavesWhere (Stands D.contents devices.old session.old) D.clock D.might devices.old devices.new)
-        (standing_at L.faults D.said session.old devices.old number line.now)
-        (standing_at L.faults D.said session.new devices.new (number + 1) [])) }
+        (standing_at L.faults D.said Panel-box session.old devices.old number line.now)
+        (standing_at L.faults D.said Panel-box session.new devices.new (number + 1) [])) }
     ensures stood { IsTrue D.tells → Stands D.contents devices.old session.old →
         OnOk result (Stands D.contents devices.new session.new) }
 

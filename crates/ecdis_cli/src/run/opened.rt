@@ -3,7 +3,7 @@
 //! The store is opened before a byte of the script is asked for. So where its files are no store's, nothing was
 //! answered by what they seemed to hold, and they are left as they were.
 
-ghost use Rattle.std.specs.Prelude.{◌≡◌, ◌+◌, ◌<◌, ◌≤◌, ◌⊎◌, [], ℕ, IsTrue, false, length, Ok, Err};
+ghost use Rattle.std.specs.Prelude.{◌≡◌, ◌+◌, ◌<◌, ◌≤◌, ◌⊎◌, [], ℕ, IsTrue, false, length, vec_len, Ok, Err};
 ghost use Rattle.chart_ports.specs.Count.{IsSteady, Rose, RoseBy};
 ghost use Rattle.chart_ports.specs.Disk.{SameFiles};
 ghost use Rattle.chart_ports.specs.Moments.{MayBeLeft, images_of};
@@ -11,7 +11,7 @@ ghost use Rattle.chart_store.specs.Images.{Reading, StandFor, read_of};
 ghost use Rattle.chart_store.specs.Store.{LeavesBefore, LeavesReading};
 ghost use Rattle.session_core.specs.Model.{portrayal_with};
 ghost use Rattle.ecdis_cli.specs.Counted.{most_at_opening, most_in_bank};
-ghost use Rattle.ecdis_cli.specs.Devices.{KeepsDevices, LeavesBetween};
+ghost use Rattle.ecdis_cli.specs.Devices.{KeepsDevices, LeavesBetween, panels_in};
 ghost use Rattle.ecdis_cli.specs.Limits.{SCRIPT_LIMIT};
 ghost use Rattle.ecdis_cli.specs.Run.{Ran, model_at, outside_of};
 ghost use Rattle.ecdis_cli.specs.Status.{is_early};
@@ -38,20 +38,22 @@ pub fn run_opened<S: Source, L: Shelf, D: Desk, C: Ledger>(
     script: &mut S,
     devices: &mut Devices<L, D, C>,
 ) -> Status
-    // From files that read as what is held, the replies to the script's lines are said, and where the files stand for
-    // that, a crash leaves what they acknowledge, or what one might have left before. No more is counted than the
-    // opening and the lines may count.
+    // From files that read as what is held, the replies to the script's lines are said, panels go along with them, and
+    // where the files stand for that, a crash leaves what they acknowledge, or what one might have left before. No more
+    // is counted than the opening and the lines may count.
     ensures ran { IsTrue S.tells → IsTrue D.tells → (opening : Reading) →
         read_of (images_of (D.contents devices.old.desk.now)) ≡ Ok opening →
-        Ran L.tells (L.files devices.old.shelf.now) (model_at (portrayal_with table settings) opening) result
+        Ran L.tells (L.files devices.old.shelf.now)
+        (model_at (portrayal_with table settings) (vec_len devices.old.panels.now) opening) result
         (StandFor (images_of (D.contents devices.old.desk.now)) opening.state)
         (LeavesBetween D.clock D.might devices.old devices.new)
         (LeavesBefore (D.may_leave devices.old.desk.now) (D.said devices.old.desk.now))
         (MayBeLeft (D.may_leave devices.new.desk.now))
         (outside_of (S.left script.old) (D.said devices.old.desk.now) (L.faults devices.old.shelf.now)
-        (devices.old.steps.now + most_at_opening (D.contents devices.old.desk.now) opening))
+        (devices.old.steps.now + most_at_opening (D.contents devices.old.desk.now) opening)
+        (panels_in Panel-box devices.old))
         (outside_of (S.left script.new) (D.said devices.new.desk.now) (L.faults devices.new.shelf.now)
-        devices.new.steps.now) }
+        devices.new.steps.now (panels_in Panel-box devices.new)) }
 
     // A run that is done has read the whole script, which is no longer than may be.
     ensures done { result ≡ Status.Done → IsTrue (S.is_at_end script.new) }
@@ -59,16 +61,19 @@ pub fn run_opened<S: Source, L: Shelf, D: Desk, C: Ledger>(
     ensures short { IsTrue S.tells → result ≡ Status.Done → length (S.left script.old) ≤ SCRIPT_LIMIT }
 
     // Files that are no store's are told by their first fault, unless the disk fails or memory runs out. Nothing is
-    // read or said then, no more is counted than the bank may count, and they are left as they were.
+    // read or said then, no panel is touched, no more is counted than the bank may count, and they are left as they
+    // were.
     ensures foreign { (bank at : ℕ) → IsTrue D.tells → result ≡ Status.Foreign bank at →
         read_of (images_of (D.contents devices.old.desk.now)) ≡ Err (record { bank = bank; at = at }) }
     ensures refused_files { (bank at : ℕ) → IsTrue D.tells →
         read_of (images_of (D.contents devices.old.desk.now)) ≡ Err (record { bank = bank; at = at }) →
         (result ≡ Status.Foreign bank at) ⊎ ((result ≡ Status.DeskFault) ⊎ (result ≡ Status.NoMemory)) }
-    ensures unread { (bank at : ℕ) → result ≡ Status.Foreign bank at → script.new ≡ script.old }
+    ensures unread { (bank at : ℕ) → result ≡ Status.Foreign bank at →
+        (script.new ≡ script.old) × (devices.new.panels.now ≡ devices.old.panels.now) }
     ensures unopened { (bank at : ℕ) → IsTrue D.tells →
         read_of (images_of (D.contents devices.old.desk.now)) ≡ Err (record { bank = bank; at = at }) →
         (script.new ≡ script.old) × (D.said devices.new.desk.now ≡ D.said devices.old.desk.now)
+        × (devices.new.panels.now ≡ devices.old.panels.now)
         × (devices.new.steps.now ≤ devices.old.steps.now + most_in_bank (D.contents devices.old.desk.now)) }
     ensures refused_moments { (bank at : ℕ) → IsTrue D.tells →
         read_of (images_of (D.contents devices.old.desk.now)) ≡ Err (record { bank = bank; at = at }) →
@@ -95,7 +100,8 @@ pub fn run_opened<S: Source, L: Shelf, D: Desk, C: Ledger>(
         Ok(store) => store,
         Err(fault) => return Status::of_opening(fault),
     };
-    let Ok(session) = Session::new(alloc, store, table, settings, devices.steps) else {
+    let panels = devices.panels.len();
+    let Ok(session) = Session::new(alloc, store, table, settings, panels, devices.steps) else {
         return Status::NoMemory;
     };
     let Ok(mut buffer) = vec![in alloc; 0; BUFFER] else {

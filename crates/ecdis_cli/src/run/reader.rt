@@ -9,6 +9,7 @@ ghost use Rattle.chart_ports.specs.Count.{Rose};
 ghost use Rattle.session_core.specs.Session.{model_of};
 ghost use Rattle.ecdis_cli.specs.declared.run.line.TheConstants.{LOOKED_AT};
 ghost use Rattle.ecdis_cli.specs.Devices.{KeepsDevices, LeavesWhere};
+ghost use Rattle.ecdis_cli.specs.Panels.{PanelValue};
 ghost use Rattle.ecdis_cli.specs.Progress.{BytesAreTaken, RunIsStopped, ScriptIsFinished, ScriptIsUnfinished};
 ghost use Rattle.ecdis_cli.specs.Standing.{IsReadyFor, Stands, at_start};
 
@@ -40,8 +41,9 @@ impl Reader {
 
     /// At the start of the first line.
     pub fn new(alloc: Global, session: Session) -> Reader
-        ensures start { (said : List ℕ) (faults count : ℕ) → reader_standing result said faults count
-            ≡ at_start (model_of session) said faults count }
+        ensures start { (said : List ℕ) (faults count : ℕ) (panels : List PanelValue)
+            → reader_standing result said faults count panels
+            ≡ at_start (model_of session) said faults count panels }
         ensures session { result.session ≡ session }
     {
         Reader {
@@ -63,12 +65,12 @@ impl Reader {
         // The line is taken, or the run stops within its reply.
         ensures ok { IsTrue D.tells → OnOk result (BytesAreTaken L.tells (L.files devices.old.shelf.now)
             (LeavesWhere (Stands D.contents devices.old self.old.session) D.clock D.might devices.old devices.new)
-            (reader_at L.faults D.said self.old devices.old) (10 ∷ [])
-            (reader_at L.faults D.said self.new devices.new)) }
+            (reader_at L.faults D.said Panel-box self.old devices.old) (10 ∷ [])
+            (reader_at L.faults D.said Panel-box self.new devices.new)) }
         ensures err { IsTrue D.tells → OnErr result (RunIsStopped L.tells (L.files devices.old.shelf.now)
             (LeavesWhere (Stands D.contents devices.old self.old.session) D.clock D.might devices.old devices.new)
-            (reader_at L.faults D.said self.old devices.old) (10 ∷ [])
-            (reader_at L.faults D.said self.new devices.new)) }
+            (reader_at L.faults D.said Panel-box self.old devices.old) (10 ∷ [])
+            (reader_at L.faults D.said Panel-box self.new devices.new)) }
         ensures stood { IsTrue D.tells → Stands D.contents devices.old self.old.session →
             OnOk result (Stands D.contents devices.new self.new.session) }
 
@@ -116,12 +118,12 @@ impl Reader {
         // The byte is taken, or the run stops within it.
         ensures ok { IsTrue D.tells → OnOk result (BytesAreTaken L.tells (L.files devices.old.shelf.now)
             (LeavesWhere (Stands D.contents devices.old self.old.session) D.clock D.might devices.old devices.new)
-            (reader_at L.faults D.said self.old devices.old) (byte ∷ [])
-            (reader_at L.faults D.said self.new devices.new)) }
+            (reader_at L.faults D.said Panel-box self.old devices.old) (byte ∷ [])
+            (reader_at L.faults D.said Panel-box self.new devices.new)) }
         ensures err { IsTrue D.tells → OnErr result (RunIsStopped L.tells (L.files devices.old.shelf.now)
             (LeavesWhere (Stands D.contents devices.old self.old.session) D.clock D.might devices.old devices.new)
-            (reader_at L.faults D.said self.old devices.old) (byte ∷ [])
-            (reader_at L.faults D.said self.new devices.new)) }
+            (reader_at L.faults D.said Panel-box self.old devices.old) (byte ∷ [])
+            (reader_at L.faults D.said Panel-box self.new devices.new)) }
         ensures stood { IsTrue D.tells → Stands D.contents devices.old self.old.session →
             OnOk result (Stands D.contents devices.new self.new.session) }
 
@@ -155,12 +157,12 @@ impl Reader {
         // The bytes are taken, or the run stops within them.
         ensures ok { IsTrue D.tells → OnOk result (BytesAreTaken L.tells (L.files devices.old.shelf.now)
             (LeavesWhere (Stands D.contents devices.old self.old.session) D.clock D.might devices.old devices.new)
-            (reader_at L.faults D.said self.old devices.old) bytes.now
-            (reader_at L.faults D.said self.new devices.new)) }
+            (reader_at L.faults D.said Panel-box self.old devices.old) bytes.now
+            (reader_at L.faults D.said Panel-box self.new devices.new)) }
         ensures err { IsTrue D.tells → OnErr result (RunIsStopped L.tells (L.files devices.old.shelf.now)
             (LeavesWhere (Stands D.contents devices.old self.old.session) D.clock D.might devices.old devices.new)
-            (reader_at L.faults D.said self.old devices.old) bytes.now
-            (reader_at L.faults D.said self.new devices.new)) }
+            (reader_at L.faults D.said Panel-box self.old devices.old) bytes.now
+            (reader_at L.faults D.said Panel-box self.new devices.new)) }
         ensures stood { IsTrue D.tells → Stands D.contents devices.old self.old.session →
             OnOk result (Stands D.contents devices.new self.new.session) }
 
@@ -191,12 +193,12 @@ impl Reader {
         // The last line is answered, or the run stops within its reply.
         ensures ok { IsTrue D.tells → OnOk result (ScriptIsFinished L.tells (L.files devices.old.shelf.now)
             (LeavesWhere (Stands D.contents devices.old self.old.session) D.clock D.might devices.old devices.new)
-            (reader_at L.faults D.said self.old devices.old)
-            (reader_at L.faults D.said self.new devices.new)) }
+            (reader_at L.faults D.said Panel-box self.old devices.old)
+            (reader_at L.faults D.said Panel-box self.new devices.new)) }
         ensures err { IsTrue D.tells → OnErr result (ScriptIsUnfinished L.tells (L.files devices.old.shelf.now)
             (LeavesWhere (Stands D.contents devices.old self.old.session) D.clock D.might devices.old devices.new)
-            (reader_at L.faults D.said self.old devices.old)
-            (reader_at L.faults D.said self.new devices.new)) }
+            (reader_at L.faults D.said Panel-box self.old devices.old)
+            (reader_at L.faults D.said Panel-box self.new devices.new)) }
         ensures stood { IsTrue D.tells → Stands D.contents devices.old self.old.session →
             OnOk result (Stands D.contents devices.new self.new.session) }
 

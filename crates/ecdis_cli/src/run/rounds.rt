@@ -3,11 +3,12 @@
 //! Of a script that is too long each line is answered that ends within its first 16,777,216 bytes, and only then the
 //! run ends. So the room is counted down over the pulls, and of the last one no more is taken than fits.
 
-ghost use Rattle.std.specs.Prelude.{◌≡◌, ◌≢◌, ◌+◌, ◌<◌, ◌≤◌, [], ℕ, IsTrue, false, length};
+ghost use Rattle.std.specs.Prelude.{◌≡◌, ◌≢◌, ◌+◌, ◌<◌, ◌≤◌, [], ℕ, IsTrue, false, length, vec_len};
 ghost use Rattle.chart_ports.specs.Count.{Rose, RoseBy};
 ghost use Rattle.chart_ports.specs.Moments.{MayBeLeft};
-ghost use Rattle.session_core.specs.Session.{model_of};
-ghost use Rattle.ecdis_cli.specs.Devices.{KeepsDevices, LeavesBetween};
+ghost use Rattle.panel_scenes.specs.Scene.{new_scenes};
+ghost use Rattle.session_core.specs.Session.{model_of, scenes_of};
+ghost use Rattle.ecdis_cli.specs.Devices.{KeepsDevices, LeavesBetween, panels_in};
 ghost use Rattle.ecdis_cli.specs.Run.{Ran, outside_of};
 ghost use Rattle.ecdis_cli.specs.Status.{is_early};
 ghost use Rattle.ecdis_cli.specs.Standing.{IsReadyFor, Stands};
@@ -35,18 +36,19 @@ pub fn run_script<S: Source, L: Shelf, D: Desk, C: Ledger>(
 ) -> Status
     requires room { 0 < length buffer.old }
     requires ready { IsReadyFor D.tells D.contents D.may_leave devices.old 1 session }
+    requires fresh { scenes_of session ≡ new_scenes (vec_len devices.old.panels.now) }
 
-    // The replies to the script's lines are said, the lines that were come to are counted, and a crash leaves what the
-    // replies acknowledge, where the files stand for what is held.
+    // The replies to the script's lines are said, the lines that were come to are counted, panels go along with them,
+    // and a crash leaves what the replies acknowledge, where the files stand for what is held.
     ensures ran { IsTrue S.tells → IsTrue D.tells →
         Ran L.tells (L.files devices.old.shelf.now) (model_of session) result
         (Stands D.contents devices.old session)
         (LeavesBetween D.clock D.might devices.old devices.new) (λ images so_far. ⊥)
         (MayBeLeft (D.may_leave devices.new.desk.now))
         (outside_of (S.left script.old) (D.said devices.old.desk.now) (L.faults devices.old.shelf.now)
-        devices.old.steps.now)
+        devices.old.steps.now (panels_in Panel-box devices.old))
         (outside_of (S.left script.new) (D.said devices.new.desk.now) (L.faults devices.new.shelf.now)
-        devices.new.steps.now) }
+        devices.new.steps.now (panels_in Panel-box devices.new)) }
 
     // A run that is done has read the whole script, which is no longer than may be.
     ensures done { result ≡ Status.Done → IsTrue (S.is_at_end script.new) }

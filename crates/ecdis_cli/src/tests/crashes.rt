@@ -98,8 +98,17 @@ fn run_with<C: Ledger>(
     let words = words(alloc)?;
     let mut script = MemorySource::new(script.to_vec(alloc)?, failing(alloc, 0)?);
     let mut shelf = shelf(alloc, &Case::of(b""))?;
+    let mut panels = Vec::new(alloc);
     let mut steps = Steps::<C>::new(blank);
-    Ok(run_ecdis(alloc, &words, &mut script, &mut shelf, desk, &mut steps))
+    Ok(run_ecdis(
+        alloc,
+        &words,
+        &mut script,
+        &mut shelf,
+        desk,
+        &mut panels,
+        &mut steps,
+    ))
 }
 
 /// Runs a script on a desk.

@@ -35,6 +35,7 @@ fn ended_by<C: Ledger>(
     let mut script = MemorySource::new(case.script.to_vec(alloc)?, failing(alloc, 1)?);
     let mut shelf = shelf(alloc, case)?;
     let mut desk = MemoryDesk::new(alloc, failing(alloc, 1)?);
+    let mut panels = Vec::new(alloc);
     let mut steps = Steps::<C>::new(blank);
     let status = run_ecdis(
         alloc,
@@ -42,6 +43,7 @@ fn ended_by<C: Ledger>(
         &mut script,
         &mut shelf,
         &mut desk,
+        &mut panels,
         &mut steps,
     );
     Ok((status, [script.faults(), shelf.faults(), desk.faults()]))

@@ -3,8 +3,10 @@ use Rattle.std.proofs.Common.{ap, arith, refl, rules}
 use Rattle.std.specs.Prelude.{Err, map, string_bytes}
 use Rattle.command_words.specs.Reading.{value_of, words_of}
 use Rattle.ecdis_cli.specs.declared.run.status.Status.TheVariants as status
+use Rattle.ecdis_cli.specs.Devices.{panels_in}
 use Rattle.ecdis_cli.proofs.Early.{begun-not, early-not, file-complete, file-either, file-ends, file-fault, file-status, not-file, read-is, read-not}
 use Rattle.ecdis_cli.proofs.Opening.{complete, or_early, other-status, ran-later, ran-lent, ran-untouched, reading-none, refused-words, steady-lent, words-status}
+use Rattle.ecdis_cli.proofs.Panels.{values-many}
 use Rattle.ecdis_cli.proofs.run.run_ecdis.Goals as goal
 
 -- ---- the words
@@ -15,7 +17,8 @@ returns-in-Err-Refused-clause-ran g c =
     let desk = c.args.desk.now in
     ran-untouched g.D.Desk.clock g.D.Desk.might desk (g.D.Desk.contents desk)
     (g.D.Desk.may_leave desk) (g.D.Desk.said desk) opening c.turns_follow_their_commands.ensures.failed
-    (λ images so_far left. g.met.D.Desk.only_now desk images so_far d left) _ _ _ _ _ _ _ _ _ words-status (omega arith)
+    (λ images so_far left. g.met.D.Desk.only_now desk images so_far d left) _ _ _ _ _ _ _ _ _ _ _
+    (values-many (λ panel. goal.Panel-dyn g (panel.vtable, panel.value)) c.args.panels.now) words-status (omega arith)
     (omega arith)
 
 pub returns-in-Err-Refused-clause-refused_tables : goal.returns-in-Err-Refused-clause-refused_tables
@@ -32,7 +35,8 @@ returns-in-Err-NoMemory-clause-ran g c =
     let desk = c.args.desk.now in
     ran-untouched g.D.Desk.clock g.D.Desk.might desk (g.D.Desk.contents desk)
     (g.D.Desk.may_leave desk) (g.D.Desk.said desk) opening c.turns_follow_their_commands.ensures.failed
-    (λ images so_far left. g.met.D.Desk.only_now desk images so_far d left) _ _ _ _ _ _ _ _ _ other-status (omega arith)
+    (λ images so_far left. g.met.D.Desk.only_now desk images so_far d left) _ _ _ _ _ _ _ _ _ _ _
+    (values-many (λ panel. goal.Panel-dyn g (panel.vtable, panel.value)) c.args.panels.now) other-status (omega arith)
     (omega arith)
 
 -- ---- the catalogue and the table
@@ -63,7 +67,8 @@ returns-in-Err-clause-ran g c =
     let desk = c.args.desk.now in
     ran-untouched g.D.Desk.clock g.D.Desk.might desk (g.D.Desk.contents desk)
     (g.D.Desk.may_leave desk) (g.D.Desk.said desk) opening c.turns_follow_their_commands.ensures.failed
-    (λ images so_far left. g.met.D.Desk.only_now desk images so_far d left) _ _ _ _ _ _ _ _ _
+    (λ images so_far left. g.met.D.Desk.only_now desk images so_far d left) _ _ _ _ _ _ _ _ _ _ _
+    (values-many (λ panel. goal.Panel-dyn g (panel.vtable, panel.value)) c.args.panels.now)
     (file-status _ c.in-Err.ensures.ends) c.fetch_tables.ensures.keeps.later (omega arith)
 
 pub returns-in-Err-clause-done : goal.returns-in-Err-clause-done
@@ -148,8 +153,9 @@ returns-clause-ran g c =
       read-is g.L.Shelf.tells (g.L.Shelf.files c.args.shelf.now) (words_of (map string_bytes c.args.words.now)) (value_of c.in-Ok.words) _ c.in-Ok.ensures.said c.in-Ok-fetch_tables.ensures.found,
       ran-lent g.L.Shelf.faults g.D.Desk.said g.D.Desk.may_leave g.D.Desk.clock g.D.Desk.might _ _ _ _ _ _ _ _ _
           c.run_opened.new.devices.desk.now _ c.run_opened.new.devices.shelf.now _ c.run_opened.new.devices.steps.now _
-          (search rules) (search rules) (search rules)
-          (ran-later _ _ _ _ _ _ _ _ _ _ _ _ _ _ _ c.fetch_tables.ensures.keeps.files_stay
+          (panels_in (λ panel. goal.Panel-dyn g (panel.vtable, panel.value)) c.run_opened.new.devices) _
+          (search rules) (search rules) (search rules) (search rules)
+          (ran-later _ _ _ _ _ _ _ _ _ _ _ _ _ _ _ _ c.fetch_tables.ensures.keeps.files_stay
           c.fetch_tables.ensures.keeps.later (c.run_opened.ensures.ran s d opening read)),
     )
 

@@ -10,15 +10,15 @@ pub returns-in_err-reply-clause-front : goal.returns-in_err-reply-clause-front
 returns-in_err-reply-clause-front g c = λ d.
     let law = c.turns_follow_their_commands.ensures in
     OnErr-from _ _ (interrupted-before g.D.Desk.clock g.D.Desk.might _ law.none law.some c.replies_are_spoken.ensures law.failed
-    _ _ _ _ _ c.reply_to.ensures.keeps.shelf.later _ _ _ _ refl refl (c.reply_to.ensures.said d)
-    (Replied-told g.D.Desk.clock g.D.Desk.might (IsTrue g.D.Desk.tells) _ d _ _ _ _ _ _ _ _ c.reply_to.ensures.replied))
+    _ _ _ _ _ c.reply_to.ensures.keeps.shelf.later _ _ _ _ refl refl (c.reply_to.ensures.said d) (λ step h. h)
+    (Replied-told g.D.Desk.clock g.D.Desk.might (IsTrue g.D.Desk.tells) _ d _ _ _ _ _ _ _ _ c.in_err-reply.ensures.replied))
 
 pub returns-in_default-clause-said : goal.returns-in_default-clause-said
 returns-in_default-clause-said g c = λ d.
     let law = c.turns_follow_their_commands.ensures in
     answered-silent g.D.Desk.clock g.D.Desk.might _ law.none law.some c.replies_are_spoken.ensures law.failed
     _ _ _ _ _ c.reply_to.ensures.keeps.shelf.later _ _ _ _ refl refl (c.reply_to.ensures.said d)
-    (λ step h. (h.0 ∙ c.in_default.is, h.1))
+    (λ step h. (h.0 ∙ c.in_default.is, h.1, h.2))
     (Replied-told g.D.Desk.clock g.D.Desk.might (IsTrue g.D.Desk.tells) _ d _ _ _ _ _ _ _ _ c.in_ok-reply.ensures.replied)
 
 pub returns-clause-said : goal.returns-clause-said
@@ -27,7 +27,7 @@ returns-clause-said g c = λ d.
     OnOk-map c.say.result _ _
     (λ said. answered-said g.D.Desk.clock g.D.Desk.might _ law.none law.some c.replies_are_spoken.ensures law.failed
     _ _ _ _ _ c.reply_to.ensures.keeps.shelf.later _ _ _ _ _ _ _ _ refl refl (c.reply_to.ensures.said d) said
-    (λ step h. (h.0 ∙ c.in-Some.is, h.1))
+    (λ step h. (h.0 ∙ c.in-Some.is, h.1, h.2))
     (λ stood images left. c.kept_stores_are_read.ensures.stands c.reply_to.new.devices.desk.now _ images (c.in_ok-reply.ensures.ready.store.kept d)
     (c.in_ok-reply.ensures.stood d stood) left)
     (Replied-told g.D.Desk.clock g.D.Desk.might (IsTrue g.D.Desk.tells) _ d _ _ _ _ _ _ _ _ c.in_ok-reply.ensures.replied)
@@ -40,7 +40,7 @@ returns-clause-front g c = λ d.
     OnErr-map c.say.result _ _
     (λ front. interrupted-said g.D.Desk.clock g.D.Desk.might _ law.none law.some c.replies_are_spoken.ensures law.failed
     _ _ _ _ _ c.reply_to.ensures.keeps.shelf.later _ _ _ _ _ _ _ _ refl refl (c.reply_to.ensures.said d) front
-    (λ step h. (h.0 ∙ c.in-Some.is, h.1))
+    (λ step h. (h.0 ∙ c.in-Some.is, h.1, h.2))
     (λ stood images left. c.kept_stores_are_read.ensures.stands c.reply_to.new.devices.desk.now _ images (c.in_ok-reply.ensures.ready.store.kept d)
     (c.in_ok-reply.ensures.stood d stood) left)
     (Replied-told g.D.Desk.clock g.D.Desk.might (IsTrue g.D.Desk.tells) _ d _ _ _ _ _ _ _ _ c.in_ok-reply.ensures.replied)
@@ -57,6 +57,7 @@ returns-clause-ready g c =
         kept = λ d. c.kept_stores_are_read.ensures.stays mid c.say.new.desk (store_of c.reply_to.new.session) (ready.store.kept d) (c.say.ensures.files d) (c.say.ensures.crash d);
         charts = ready.store.charts;
       };
+      panels = ready.panels;
       counted = ready.counted;
     })
 

@@ -1,11 +1,14 @@
 -- The store was opened, or the run ends there.
-use Rattle.std.proofs.Common.{◌≡◌, ◌∙◌, arith, ap, refl, sym, subst}
+use Rattle.std.proofs.Common.{◌≡◌, ◌∙◌, arith, ap, length, refl, sym, subst}
 use Rattle.std.specs.Prelude.{IsTrue}
+use Rattle.std.proofs.lemmas.List.{length-replicate}
 use Rattle.chart_ports.specs.Moments.{MayBeLeft, images_of}
 use Rattle.chart_store.specs.Images.{Reading, StandFor}
 use Rattle.chart_store.specs.Store.{IsKept, count_of, is_sound, state_of}
 use Rattle.chart_store.specs.declared.store.Store.{Store}
+use Rattle.panel_scenes.specs.Scene.{new_scene, new_scenes}
 use Rattle.session_core.specs.Session.{model_of, store_of}
+use Rattle.ecdis_cli.proofs.Panels.{values-many}
 use Rattle.ecdis_cli.proofs.Opening.{foreign-left, not-refused, ok-same, opened-model, opened-within}
 use Rattle.ecdis_cli.proofs.Opening.{opening-status, other-status, ran-opened, ran-unopened, refused-opening}
 use Rattle.ecdis_cli.proofs.Opening.{rose-later, session-model, unopened-within}
@@ -15,18 +18,20 @@ use Rattle.ecdis_cli.proofs.run.opened.run_opened.Goals as goal
 pub returns-in-Err-clause-ran : goal.returns-in-Err-clause-ran
 returns-in-Err-clause-ran g c = λ s d opening read.
     let old = c.args.devices.now.desk.now in
-    ran-unopened g.D.Desk.clock g.D.Desk.might (g.D.Desk.contents old) (g.D.Desk.may_leave old) (g.D.Desk.said old) _ opening
+    ran-unopened g.D.Desk.clock g.D.Desk.might (g.D.Desk.contents old) (g.D.Desk.may_leave old) (g.D.Desk.said old) _ _ opening
     c.turns_follow_their_commands.ensures.failed _ _ old c.open_store.new.desk c.of_opening.result (MayBeLeft (g.D.Desk.may_leave c.open_store.new.desk))
     (g.S.Source.left c.args.script.now) _ (g.L.Shelf.faults c.args.devices.now.shelf.now) _
-    _ _ (opening-status c.in-Err.fault c.of_opening.result c.of_opening.ensures) (c.open_store.ensures.said d)
+    _ _ _ _ (values-many (λ panel. goal.Panel-dyn g (panel.vtable, panel.value)) c.args.devices.now.panels.now) refl
+    (opening-status c.in-Err.fault c.of_opening.result c.of_opening.ensures) (c.open_store.ensures.said d)
     (omega arith)
     (unopened-within _ _ _ _ (c.open_store.ensures.at_most d))
     (c.open_store.ensures.moments d)
 
 pub returns-in_default-clause-ran : goal.returns-in_default-clause-ran
 returns-in_default-clause-ran g c = λ s d opening read.
-    ran-unopened g.D.Desk.clock g.D.Desk.might _ _ _ _ opening
-    c.turns_follow_their_commands.ensures.failed _ _ _ _ _ _ _ _ _ _ _ _ other-status (c.open_store.ensures.said d)
+    ran-unopened g.D.Desk.clock g.D.Desk.might _ _ _ _ _ opening
+    c.turns_follow_their_commands.ensures.failed _ _ _ _ _ _ _ _ _ _ _ _ _ _
+    (values-many (λ panel. goal.Panel-dyn g (panel.vtable, panel.value)) c.args.devices.now.panels.now) refl other-status (c.open_store.ensures.said d)
     (omega arith)
     (opened-within _ opening _ _ _ _ _ _ read (c.in-Ok.ensures.state d)
     (c.open_store.ensures.at_most d) c.new.ensures.at_most)
@@ -34,8 +39,9 @@ returns-in_default-clause-ran g c = λ s d opening read.
 
 pub returns-in_default-vec-clause-ran : goal.returns-in_default-vec-clause-ran
 returns-in_default-vec-clause-ran g c = λ s d opening read.
-    ran-unopened g.D.Desk.clock g.D.Desk.might _ _ _ _ opening
-    c.turns_follow_their_commands.ensures.failed _ _ _ _ _ _ _ _ _ _ _ _ other-status (c.open_store.ensures.said d)
+    ran-unopened g.D.Desk.clock g.D.Desk.might _ _ _ _ _ opening
+    c.turns_follow_their_commands.ensures.failed _ _ _ _ _ _ _ _ _ _ _ _ _ _
+    (values-many (λ panel. goal.Panel-dyn g (panel.vtable, panel.value)) c.args.devices.now.panels.now) refl other-status (c.open_store.ensures.said d)
     (omega arith)
     (opened-within _ opening _ _ _ _ _ _ read (c.in-Ok.ensures.state d)
     (c.open_store.ensures.at_most d) c.new.ensures.at_most)
@@ -50,6 +56,7 @@ run_script-requires-clause-ready g c =
         kept = λ d. subst (λ (store : Store). IsKept (g.D.Desk.contents c.open_store.new.desk) (g.D.Desk.may_leave c.open_store.new.desk) store) (sym same) (c.in-Ok.ensures.kept d);
         charts = c.in-Ok-new.ensures.charts;
       };
+      panels = sym (ap length c.in-Ok-new.ensures.scenes ∙ length-replicate c.len-panels.result new_scene ∙ c.len-panels.ensures);
       counted = omega (arith, c.in-Ok.ensures.count, ap count_of same);
     }
 
@@ -57,17 +64,18 @@ pub returns-clause-ran : goal.returns-clause-ran
 returns-clause-ran g c = λ s d opening read.
     let old = c.args.devices.now.desk.now in
     let same : store_of c.in-Ok-new.session ≡ c.in-Ok.store = c.in-Ok-new.ensures.store in
-    let model : model_of c.in-Ok-new.session ≡ model_at _ opening
-    = session-model c.in-Ok-new.session _ _ same c.in-Ok-new.ensures.portrayal c.in-Ok.ensures.idle
-    ∙ opened-model _ _ opening _ _ read (c.in-Ok.ensures.state d) in
+    let model : model_of c.in-Ok-new.session ≡ model_at _ _ opening
+    = session-model c.in-Ok-new.session _ _ _ same c.in-Ok-new.ensures.portrayal
+    (c.in-Ok-new.ensures.scenes ∙ ap new_scenes c.len-panels.ensures) c.in-Ok.ensures.idle
+    ∙ opened-model _ _ _ opening _ _ read (c.in-Ok.ensures.state d) in
     let held : state_of c.in-Ok.store ≡ opening.state
     = ap (λ (r : Reading). r.state) (ok-same _ opening (sym (c.in-Ok.ensures.state d) ∙ read)) in
-    ran-opened g.D.Desk.clock g.D.Desk.might (g.D.Desk.contents old) (g.D.Desk.may_leave old) (g.D.Desk.said old) _ opening
+    ran-opened g.D.Desk.clock g.D.Desk.might (g.D.Desk.contents old) (g.D.Desk.may_leave old) (g.D.Desk.said old) _ _ opening
     (StandFor (images_of (g.D.Desk.contents c.open_store.new.desk)) (state_of (store_of c.in-Ok-new.session)))
     (λ stood. subst (λ (store : Store). StandFor (images_of (g.D.Desk.contents c.open_store.new.desk)) (state_of store)) (sym same)
     (c.in-Ok.ensures.stood d (subst (StandFor (images_of (g.D.Desk.contents old))) (sym held) stood)))
     _ _ old c.open_store.new.desk c.run_script.new.devices.desk.now c.run_script.result (MayBeLeft (g.D.Desk.may_leave c.run_script.new.devices.desk.now))
-    (g.S.Source.left c.args.script.now) _ (g.L.Shelf.faults c.args.devices.now.shelf.now) _ _ _
+    (g.S.Source.left c.args.script.now) _ (g.L.Shelf.faults c.args.devices.now.shelf.now) _ _ _ _
     (model_of c.in-Ok-new.session)
     (c.open_store.ensures.said d)
     model
@@ -95,6 +103,7 @@ pub returns-in-Err-clause-unopened : goal.returns-in-Err-clause-unopened
 returns-in-Err-clause-unopened g c = λ bank at d read. (
   refl,
   c.open_store.ensures.said d,
+  refl,
   c.open_store.ensures.at_most d,
 )
 

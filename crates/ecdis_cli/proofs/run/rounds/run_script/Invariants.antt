@@ -3,7 +3,7 @@ use Rattle.std.proofs.Common.{◌≡◌, ◌+◌, ◌-◌, ◌≤◌, length}
 use Rattle.std.specs.Prelude.{IsTrue}
 use Rattle.chart_ports.specs.Count.{RoseBy}
 use Rattle.session_core.specs.Session.{model_of}
-use Rattle.ecdis_cli.specs.Devices.{KeepsDevices}
+use Rattle.ecdis_cli.specs.Devices.{KeepsDevices, panels_in}
 use Rattle.ecdis_cli.specs.Limits.{SCRIPT_LIMIT}
 use Rattle.ecdis_cli.specs.Run.{outside_of}
 use Rattle.ecdis_cli.specs.ReaderStanding.{reader_at}
@@ -17,8 +17,8 @@ invariant-pulls g l = record {
       (Stands g.D.Desk.contents l.initial.devices l.fn.session) g.L.Shelf.tells (g.L.Shelf.files l.initial.devices.shelf.now)
       (model_of l.fn.session) (outside_of (g.S.Source.left l.initial.script) (g.D.Desk.said l.initial.devices.desk.now)
       (g.L.Shelf.faults l.initial.devices.shelf.now)
-      l.initial.devices.steps.now)
-      l.initial.devices.desk.now l.devices.desk.now (g.S.Source.left l.script) (reader_at g.L.Shelf.faults g.D.Desk.said l.reader l.devices);
+      l.initial.devices.steps.now (panels_in (λ panel. goal.Panel-dyn g (panel.vtable, panel.value)) l.initial.devices))
+      l.initial.devices.desk.now l.devices.desk.now (g.S.Source.left l.script) (reader_at g.L.Shelf.faults g.D.Desk.said (λ panel. goal.Panel-dyn g (panel.vtable, panel.value)) l.reader l.devices);
   stood : IsTrue g.D.Desk.tells → Stands g.D.Desk.contents l.initial.devices l.fn.session
       → Stands g.D.Desk.contents l.devices l.reader.session;
   ready : IsReadyFor g.D.Desk.tells g.D.Desk.contents g.D.Desk.may_leave l.devices l.reader.number l.reader.session;

@@ -3,6 +3,7 @@ use Rattle.std.proofs.Common.{ℕ, ◌≡◌, ◌∷◌, [], ◌++◌, length, c
 use Rattle.std.proofs.lemmas.Bool.{eqb-true}
 use Rattle.chart_ports.specs.Moments.{LeavesOnly}
 use Rattle.session_core.specs.declared.session.Session.{Session}
+use Rattle.ecdis_cli.specs.Devices.{panels_in}
 use Rattle.ecdis_cli.specs.Limits.{KEPT_LIMIT}
 use Rattle.ecdis_cli.specs.Progress.{BytesAreTaken}
 use Rattle.ecdis_cli.specs.ReaderStanding.{reader_standing}
@@ -20,17 +21,18 @@ returns-else-byte-eq10-clause-ok g c = λ d.
     let held = Stands g.D.Desk.contents c.args.devices.now c.args.self.now.session in
     let leaves = Where held (LeavesOnly g.D.Desk.clock g.D.Desk.might desk desk) in
     let count = c.args.devices.now.steps.now in
-    let before = reader_standing c.args.self.now said faults count in
+    let panels = panels_in (λ panel. goal.Panel-dyn g (panel.vtable, panel.value)) c.args.devices.now in
+    let before = reader_standing c.args.self.now said faults count panels in
     let crash = quiet g.D.Desk.clock g.D.Desk.might held desk (g.D.Desk.may_leave desk) said before.model.state
     (λ images so_far left. g.met.D.Desk.only_now desk images so_far d left)
     (λ stood images left. c.kept_stores_are_read.ensures.stands desk _ images (c.requires.ready.store.kept d) stood left) in
     OnOk-map c.keep.result _ _
     (λ (kept : c.keep.new.self.line.items ≡ cond (ltb (length c.args.self.now.line.items) KEPT_LIMIT) (c.args.self.now.line.items ++ c.args.byte ∷ []) c.args.self.now.line.items).
     subst (λ (n : ℕ). BytesAreTaken g.L.Shelf.tells files leaves before (c.args.byte ∷ [])
-    (standing_of c.keep.new.self.session said faults count n c.keep.new.self.line.items))
+    (standing_of c.keep.new.self.session said faults count panels n c.keep.new.self.line.items))
     (sym c.keep.ensures.number)
     (subst (λ (s : Session). BytesAreTaken g.L.Shelf.tells files leaves before (c.args.byte ∷ [])
-    (standing_of s said faults count c.args.self.now.number c.keep.new.self.line.items))
+    (standing_of s said faults count panels c.args.self.now.number c.keep.new.self.line.items))
     (sym c.keep.ensures.session)
     (Advanced-byte c.long_lines_are_read_by_their_front.ensures.front _ _ leaves before _ _ crash c.args.self.now.unbroken (let ne : eqb c.args.byte 10 ≡ false = search (rules, c.if-byte-eq10.false) in ne) kept)))
     c.keep.ensures.ok
@@ -41,7 +43,8 @@ returns-else-byte-eq10-clause-err g c = λ d.
     let said = g.D.Desk.said desk in
     let faults = g.L.Shelf.faults c.args.devices.now.shelf.now in
     let count = c.args.devices.now.steps.now in
-    let before = reader_standing c.args.self.now said faults count in
+    let panels = panels_in (λ panel. goal.Panel-dyn g (panel.vtable, panel.value)) c.args.devices.now in
+    let before = reader_standing c.args.self.now said faults count panels in
     let held = Stands g.D.Desk.contents c.args.devices.now c.args.self.now.session in
     let crash = quiet g.D.Desk.clock g.D.Desk.might held desk (g.D.Desk.may_leave desk) said before.model.state
     (λ images so_far left. g.met.D.Desk.only_now desk images so_far d left)
