@@ -1,3 +1,4 @@
+mod memory;
 mod painting;
 mod random;
 mod shared;
