@@ -1,0 +1,4 @@
+pub mod End
+pub mod Loads
+pub mod Charts
+pub mod Picture

@@ -1,0 +1,4 @@
+pub mod Tokens
+pub mod Swatches
+pub mod Lines
+pub mod Progress

@@ -1,0 +1,5 @@
+pub mod Token
+pub mod Swatch
+pub mod Under
+pub mod Reading
+pub mod Answers
