@@ -1,5 +1,5 @@
 -- A leg is covered where its first point is inside and it meets no segment of the rings.
-use Rattle.std.proofs.Common.{◌≡◌, ◌↔◌, Bool, false, ◌&&◌, not, List, sym, ap, IsTrue}
+use Rattle.std.proofs.Common.{◌↔◌, Bool, ◌&&◌, not, List, IsTrue}
 use Rattle.std.specs.Bool.{Decides}
 use Rattle.std.specs.List.{list_any}
 use Rattle.std.proofs.lemmas.Bool.Decides.{Decides-and, Decides-not, Decides-like}
@@ -7,10 +7,7 @@ use Rattle.std.proofs.lemmas.List.Folds.{Any-from_list_any, list_any-from_Any}
 use Rattle.plane_geometry.specs.declared.point.Pt.{Pt}
 use Rattle.plane_geometry.specs.EvenOdd.{all_segments, IsInside}
 use Rattle.plane_geometry.proofs.Walk.{any_in}
-use Rattle.plane_bounds.specs.declared.bounds.Bounds.{Bounds}
-use Rattle.plane_bounds.specs.Bounds.{IsIn, RingsIn}
 use Rattle.plane_bounds.proofs.Inside.{Decides-inside}
-use Rattle.plane_bounds.proofs.Outside.{none_outside}
 use Rattle.rational_points.specs.RationalPoint.{whole, LiesOn}
 use Rattle.rational_points.proofs.ScaledRings.{any_then}
 use Rattle.rational_points.proofs.JoinedPoints.{rings_on}
@@ -60,9 +57,3 @@ module _ (leg : Leg) (rings : List (List Pt)) where
   -- what the code asks decides it too
   pub asked_covers : (inside met : Bool) → (IsTrue inside ↔ IsInside leg.a rings) → (IsTrue met ↔ MeetsSome leg (all_segments rings)) → IsTrue (inside && not met) ↔ IsCovered leg rings
   asked_covers inside met h k = Decides-like _ clear_covers covered_clear (Decides-and inside (not met) h (Decides-not met k))
-
-  -- where a box that the rings are in doesn't hold the leg's first point they don't cover it
-  pub far_covers_not : (bounds : Bounds) → RingsIn bounds rings → ¬ IsIn bounds leg.a → false ≡ is_covered leg rings
-  unfolding is_covered
-  far_covers_not bounds within off =
-      ap (λ (b : Bool). b && not (list_any (λ s. meets_segment leg s.0 s.1) (all_segments rings))) (sym (none_outside bounds leg.a rings within off))

@@ -1,7 +1,7 @@
 //! An area of coverage, of which it is asked whether it covers a leg.
 //!
-//! Every leg is held against every area. Its box is made with it: most legs begin outside of most areas, and of these
-//! no segment is tested.
+//! Every leg is held against every area. Its box is made with it: most legs begin or end outside of most areas, and of
+//! these no segment is tested.
 
 use crate::cover::covers;
 use area_rings::RingList;
@@ -40,11 +40,10 @@ impl Area {
         Area { rings, bounds }
     }
 
-    /// Whether the area covers the leg. The box is asked for the leg's first point before the rings are. It takes no
-    /// memory.
+    /// Whether the area covers the leg. The box is asked for the leg's ends before the rings are. It takes no memory.
     pub(crate) fn covers(&self, leg: &Leg) -> bool
         ensures { result ≡ is_covered leg.now self.now }
     {
-        self.bounds.holds(leg.a) && covers(leg, self.rings.as_slice())
+        self.bounds.holds(leg.a) && self.bounds.holds(leg.b) && covers(leg, self.rings.as_slice())
     }
 }

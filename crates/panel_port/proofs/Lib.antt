@@ -1,2 +1,3 @@
 pub mod PanelKeys
+pub mod PanelEntries
 pub mod Scenes

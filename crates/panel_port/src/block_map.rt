@@ -1,36 +1,66 @@
-//! Blocks by the keys of a panel.
+//! What a panel is to show: blocks by their keys, in one row.
 //!
-//! A scene is what is shown, and not how it came to be, so contracts see a finite map. Want of memory leaves the map as
-//! it was.
+//! They are made in the keys' order and read from the first to the last, so a row is made and read faster than a tree,
+//! and the place of an entry is enough to find it again. Contracts see a finite map, as they do of what is shown.
 
-ghost use Rattle.std.specs.Prelude.{◌≡◌, OnOk, OnErr};
+ghost use Rattle.std.specs.Prelude.{◌≡◌, T, IfOk, IfErr, IsTrue, OnErr, OnOk, length};
 ghost use Rattle.std.specs.Option.{option_copied};
+ghost use Rattle.std.specs.List.{HoldsAt};
+ghost use Rattle.std.specs.List.Sorted.{IsPartitionPoint, IsSearchInRange};
+ghost use Rattle.std.specs.declared.cmp.Ordering.TheVariants.{Less, Equal, Greater};
 ghost use Rattle.std.specs.FinMap as map;
-ghost use Rattle.std.specs.Map.Iter.{ShowsInOrder, ShowsValuesInOrder, deref_pair};
-ghost use Rattle.chart_model.specs.declared.drawing.Block.{Block};
-ghost use Rattle.chart_model.specs.declared.drawing.PanelKey.{PanelKey};
+ghost use Rattle.panel_port.specs.PanelKey.{panel_key_cmp};
 
 use chart_model::{Block, PanelKey};
 use std::alloc::{AllocError, Global};
-use std::collections::BTreeMap;
-use std::collections::btree_map::Iter;
 use std::marker::Model;
 
 /// Blocks by key, in the keys' order. Contracts see a finite map.
 #[derive(Debug, Drop)]
 pub struct BlockMap {
-    tree: BTreeMap<PanelKey, Block>,
+    entries: Vec<(PanelKey, Block)>,
 }
 
 impl Model for BlockMap {
+    ghost use Rattle.std.specs.Prelude.{T};
     ghost use Rattle.std.specs.FinMap as map;
     ghost use Rattle.panel_port.specs.Panel.{Scene, scene_code};
+    ghost use Rattle.panel_port.specs.PanelKey.{panel_key_cmp};
 
     ghost Value = { Scene };
 
     ghost coded = { scene_code };
 
-    ghost view = { λ blocks. map.from_entries blocks.tree.entries };
+    ghost view = { λ blocks. map.from_sorted blocks.entries.items };
+
+    ghost invariant = { λ blocks. T (map.is_sorted panel_key_cmp blocks.entries.items) };
+}
+
+/// Whether a key is behind those of all blocks.
+fn is_behind(entries: &[(PanelKey, Block)], key: PanelKey) -> bool
+    requires { T (map.is_sorted panel_key_cmp entries.now) }
+    ensures { IsTrue result → IsPartitionPoint (λ entry. panel_key_cmp entry.0 key ≡ Less)
+        (λ entry. panel_key_cmp entry.0 key ≡ Greater) entries.now (length entries.now) }
+{
+    match entries.last() {
+        Some(last) => last.0.cmp(&key).is_lt(),
+        None => false,
+    }
+}
+
+/// Where the block under a key stands, or where it would have to stand.
+fn place_of(entries: &[(PanelKey, Block)], key: PanelKey) -> Result<usize, usize>
+    requires { T (map.is_sorted panel_key_cmp entries.now) }
+    ensures bound { IsSearchInRange result (length entries.now) }
+    ensures found { IfOk result (HoldsAt (λ entry. panel_key_cmp entry.0 key ≡ Equal) entries.now) }
+    ensures parted { IfErr result
+        (IsPartitionPoint (λ entry. panel_key_cmp entry.0 key ≡ Less)
+        (λ entry. panel_key_cmp entry.0 key ≡ Greater) entries.now) }
+{
+    if is_behind(entries, key) {
+        return Err(entries.len());
+    }
+    entries.binary_search_by_key(&key, |entry| entry.0)
 }
 
 impl BlockMap {
@@ -39,7 +69,7 @@ impl BlockMap {
         ensures { result ≡ map.empty }
     {
         BlockMap {
-            tree: BTreeMap::new(alloc),
+            entries: Vec::new(alloc),
         }
     }
 
@@ -47,48 +77,39 @@ impl BlockMap {
     pub fn len(&self) -> usize
         ensures { result ≡ map.len self.now }
     {
-        self.tree.len()
+        self.entries.len()
+    }
+
+    /// The keys and their blocks in the keys' order. It takes no memory.
+    pub fn as_slice(&self) -> &[(PanelKey, Block)]
+        ensures { result.now ≡ map.entries self.now }
+    {
+        self.entries.as_slice()
     }
 
     /// The block under a key. It takes no memory.
     pub fn get(&self, key: PanelKey) -> Option<&Block>
         ensures { option_copied result ≡ map.get self.now key }
     {
-        self.tree.get(&key)
+        match place_of(self.entries.as_slice(), key) {
+            Ok(place) => Some(&self.entries[place].1),
+            Err(_) => None,
+        }
     }
 
     /// Puts a block under a key, in place of the one that was there. Where there is no memory nothing changes.
+    ///
+    /// Where the key is behind all others, that is one comparison. Else its place is searched for, and where it is new,
+    /// all entries behind that place are moved: blocks in no order cost the square of their number.
     pub fn insert(&mut self, key: PanelKey, block: Block) -> Result<(), AllocError>
         ensures ok { OnOk result (self.new ≡ map.insert self.old key block) }
         ensures err { OnErr result (self.new ≡ self.old) }
     {
-        match self.tree.insert(key, block) {
-            Ok(_) => Ok(()),
-            Err(_) => Err(AllocError),
+        let entry = (key, block);
+        match place_of(self.entries.as_slice(), entry.0) {
+            Ok(place) => self.entries[place] = entry,
+            Err(place) => self.entries.insert(place, entry)?,
         }
-    }
-
-    /// Takes out the block under a key, and answers it. It takes no memory.
-    pub fn remove(&mut self, key: PanelKey) -> Option<Block>
-        ensures block { result ≡ map.get self.old key }
-        ensures map { self.new ≡ map.remove self.old key }
-    {
-        self.tree.remove(&key)
-    }
-
-    /// Takes out all blocks. It takes no memory.
-    pub fn clear(&mut self)
-        ensures { self.new ≡ map.empty }
-    {
-        self.tree.clear();
-    }
-
-    /// The keys and their blocks in the keys' order. It takes no memory.
-    pub fn iter(&self) -> Iter<'_, PanelKey, Block>
-        ensures entries { result ≡ map.entries self.now }
-        ensures runs { ShowsInOrder (deref_pair {K = PanelKey} {X = Block}) }
-        ensures values_run { ShowsValuesInOrder (deref_pair {K = PanelKey} {X = Block}) }
-    {
-        self.tree.iter()
+        Ok(())
     }
 }

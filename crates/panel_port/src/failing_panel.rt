@@ -10,10 +10,10 @@ ghost use Rattle.chart_ports.specs.Calls.{CountsCall, IsNew};
 ghost use Rattle.chart_ports.specs.Count.{HasCause, Rose};
 ghost use Rattle.panel_port.specs.Panel.{summary_of, with_block, without_block};
 
-use crate::block_map::BlockMap;
 use crate::error::PanelError;
 use crate::panel::Panel;
 use crate::shown::Shown;
+use crate::shown_blocks::ShownBlocks;
 use crate::summary::Summary;
 use chart_model::{Block, PanelKey};
 use chart_ports::{Calls, FailingCalls};
@@ -43,7 +43,7 @@ impl FailingPanel {
     }
 
     /// The blocks that are shown, where they are told.
-    pub fn scene(&self) -> Option<&BlockMap>
+    pub fn scene(&self) -> Option<&ShownBlocks>
         ensures { option_copied result ≡ scene_of self.now }
     {
         self.shown.scene()

@@ -11,6 +11,7 @@ mod failing_panel;
 mod memory_panel;
 mod panel;
 mod shown;
+mod shown_blocks;
 mod summary;
 #[cfg(test)]
 mod tests;
@@ -21,4 +22,5 @@ pub use error::PanelError;
 pub use failing_panel::FailingPanel;
 pub use memory_panel::MemoryPanel;
 pub use panel::Panel;
+pub use shown_blocks::ShownBlocks;
 pub use summary::Summary;

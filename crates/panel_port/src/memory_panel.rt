@@ -9,10 +9,10 @@ ghost use Rattle.std.specs.FinMap as map;
 ghost use Rattle.chart_ports.specs.Count.{one_more};
 ghost use Rattle.panel_port.specs.Panel.{summary_of, with_block, without_block};
 
-use crate::block_map::BlockMap;
 use crate::error::PanelError;
 use crate::panel::Panel;
 use crate::shown::Shown;
+use crate::shown_blocks::ShownBlocks;
 use crate::summary::Summary;
 use chart_model::{Block, PanelKey};
 use std::alloc::Global;
@@ -41,7 +41,7 @@ impl MemoryPanel {
     }
 
     /// The blocks that are shown, where they are told.
-    pub fn scene(&self) -> Option<&BlockMap>
+    pub fn scene(&self) -> Option<&ShownBlocks>
         ensures { option_copied result ≡ scene_of self.now }
     {
         self.shown.scene()

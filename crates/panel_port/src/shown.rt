@@ -8,7 +8,7 @@ ghost use Rattle.std.specs.Option.{option_copied};
 ghost use Rattle.std.specs.FinMap as map;
 ghost use Rattle.panel_port.specs.Panel.{summary_of, with_block, without_block};
 
-use crate::block_map::BlockMap;
+use crate::shown_blocks::ShownBlocks;
 use crate::summary::Summary;
 use chart_model::{Block, PanelKey};
 use std::alloc::{AllocError, Global};
@@ -16,13 +16,13 @@ use std::alloc::{AllocError, Global};
 /// The blocks of a panel in memory, and whether they are told.
 #[derive(Debug, Drop)]
 pub(crate) struct Shown {
-    blocks: BlockMap,
+    blocks: ShownBlocks,
     /// No call has failed since the blocks were taken out.
     is_told: bool,
 }
 
 /// The number of items of all blocks. At 2^64 - 1 the number stays.
-fn item_count(blocks: &BlockMap) -> u64
+fn item_count(blocks: &ShownBlocks) -> u64
     ensures { result ≡ (summary_of blocks.now).items }
 {
     let mut items: u64 = 0;
@@ -40,13 +40,13 @@ impl Shown {
         ensures { scene_in result ≡ Some map.empty }
     {
         Shown {
-            blocks: BlockMap::new(alloc),
+            blocks: ShownBlocks::new(alloc),
             is_told: true,
         }
     }
 
     /// The blocks, where they are told.
-    pub fn scene(&self) -> Option<&BlockMap>
+    pub fn scene(&self) -> Option<&ShownBlocks>
         ensures { option_copied result ≡ scene_in self.now }
     {
         if self.is_told {

@@ -1,9 +1,9 @@
-//! Panels as boxed objects, against values that were worked out by hand.
+//! Panels as boxed objects, and blocks in their row, against values that were worked out by hand.
 //!
-//! A session may have panels of several kinds, so they are called through one trait object, as it would call them. A
-//! row is a call, its answer, and how much is shown after it.
+//! A session may have panels of several kinds, so they are called through one trait object, as it would call them: a
+//! call, its answer, and how much is shown after it.
 
-use crate::{CountingPanel, FailingPanel, MemoryPanel, Panel, PanelError, Summary};
+use crate::{BlockMap, CountingPanel, FailingPanel, MemoryPanel, Panel, PanelError, Summary};
 use chart_model::codes::FEATURE;
 use chart_model::{Block, Geom, Item, ItemList, Key, Name, Octets, PanelKey, Target};
 use chart_ports::FailingCalls;
@@ -50,6 +50,13 @@ static COUNTED: [Row; 5] = [
     (Call::Clear, Ok(()), 0, 0),
     (Call::Put(2, 4), Ok(()), 1, 4),
 ];
+
+/// Blocks that are put one after the other, by the numbers of their features and how many items each has: behind all
+/// others, in front of them, in their midst, and in place of the last and of another.
+static PUT: [(u32, usize); 6] = [(2, 1), (5, 2), (1, 4), (3, 3), (5, 5), (3, 0)];
+
+/// What stands in the keys' order then.
+static STANDING: [(u32, usize); 4] = [(1, 4), (2, 1), (3, 0), (5, 5)];
 
 fn block(alloc: Global, items: usize) -> Result<Block, AllocError> {
     let mut list = ItemList::new(alloc);
@@ -116,5 +123,23 @@ fn panels_show_what_was_put(rt: HostRuntime) -> Result<(), Fail> {
     for (panel, rows) in panels.iter_mut().zip(tables) {
         try_all(&rt, alloc, panel, cell, rows);
     }
+    Ok(())
+}
+
+#[test]
+fn blocks_stand_in_the_keys_order(rt: HostRuntime) -> Result<(), Fail> {
+    let alloc = rt.alloc();
+    let cell = Key::from_bytes(b"AA5TEST1").ok_or("no key")?;
+    let mut blocks = BlockMap::new(alloc);
+    for (rcid, items) in &PUT {
+        blocks.insert(panel_key(cell, *rcid), block(alloc, *items)?)?;
+    }
+    assert!(rt; blocks.len() == STANDING.len());
+    for ((key, block), (rcid, items)) in blocks.as_slice().iter().zip(&STANDING) {
+        assert!(rt; *key == panel_key(cell, *rcid), "feature {rcid}");
+        assert!(rt; block.items.as_slice().len() == *items, "feature {rcid}");
+        assert!(rt; blocks.get(*key) == Some(block), "feature {rcid}");
+    }
+    assert!(rt; blocks.get(panel_key(cell, 4)).is_none());
     Ok(())
 }

@@ -92,10 +92,10 @@ module _ {K : Type 0} {R : K → K → Ordering} (total : IsTotalOrder R) (same 
     front-same k None es below = absent k es below
     front-same k (Some x) es below = ap (λ b. cond b (Some x) (find R k es)) (itself k)
 
-  module _ {X Y : Type 0} (equal : Option X → Option X → Bool) (call : K → Y) where
+  module _ {X Y : Type 0} (equal : Option X → Option X → Bool) (call : K → Option X → Y) where
     -- the call for a key with these values, where they differ
     abbrev pub mend : K → Option X → Option X → Option Y
-    mend q o p = cond (equal o p) None (Some (call q))
+    mend q o p = cond (equal o p) None (Some (call q p))
 
     -- a call for each key whose values differ, in the keys' order
     pub record Mends (old new : List (K × X)) (mended : List (K × Y)) : Type 0 where
@@ -106,7 +106,7 @@ module _ {K : Type 0} {R : K → K → Ordering} (total : IsTotalOrder R) (same 
       one-of : (q : K) (o p : Option X) → is_some (mend q o p) ≡ true → (is_some o ≡ true) ⊎ (is_some p ≡ true)
       one-of q (Some x) p there = inl refl
       one-of q None (Some y) there = inr refl
-      one-of q None None there = absurd (let e : is_some (cond true None (Some (call q))) ≡ true = subst (λ b. is_some (cond b None (Some (call q))) ≡ true) none there in cc)
+      one-of q None None there = absurd (let e : is_some (cond true None (Some (call q None))) ≡ true = subst (λ b. is_some (cond b None (Some (call q None))) ≡ true) none there in cc)
 
       below-mended : (k : K) (old new : List (K × X)) (mended : List (K × Y)) → T (below_all R k old) → T (below_all R k new)
           → Mends old new mended → T (below_all R k mended)
@@ -116,22 +116,22 @@ module _ {K : Type 0} {R : K → K → Ordering} (total : IsTotalOrder R) (same 
           (one-of q (find R q old) (find R q new) (ap is_some (sym (m.exact q)) ∙ there)))
 
       pub mends-none : Mends [] [] []
-      mends-none = record { sorted = tt; exact = λ q. ap (λ b. cond b None (Some (call q))) (sym none) }
+      mends-none = record { sorted = tt; exact = λ q. ap (λ b. cond b None (Some (call q None))) (sym none) }
 
       module _ (k : K) (o p : Option X) (old new : List (K × X)) (mended : List (K × Y)) where
         pub mends-differing : T (below_all R k old) → T (below_all R k new) → equal o p ≡ false → Mends old new mended
-            → Mends (with_front k o old) (with_front k p new) ((k, call k) ∷ mended)
+            → Mends (with_front k o old) (with_front k p new) ((k, call k p) ∷ mended)
         mends-differing below-old below-new differ m = record {
           sorted = both _ _ (below-mended k old new mended below-old below-new m) m.sorted;
           exact = λ q. by_tie q k
               (λ is tie. subst
-              (λ x. find R x ((k, call k) ∷ mended) ≡ mend x (find R x (with_front k o old)) (find R x (with_front k p new)))
+              (λ x. find R x ((k, call k p) ∷ mended) ≡ mend x (find R x (with_front k o old)) (find R x (with_front k p new)))
               (sym is)
-              (ap (λ b. cond b (Some (call k)) (find R k mended)) (itself k)
-              ∙ ap (λ b. cond b None (Some (call k))) (sym differ)
+              (ap (λ b. cond b (Some (call k p)) (find R k mended)) (itself k)
+              ∙ ap (λ b. cond b None (Some (call k p))) (sym differ)
               ∙ λ i. mend k (sym (front-same k o old below-old) i) (sym (front-same k p new below-new) i)))
               (λ apart.
-              ap (λ b. cond b (Some (call k)) (find R q mended)) apart
+              ap (λ b. cond b (Some (call k p)) (find R q mended)) apart
               ∙ m.exact q
               ∙ λ i. mend q (sym (front-other q k o old apart) i) (sym (front-other q k p new apart) i));
         }
@@ -146,7 +146,8 @@ module _ {K : Type 0} {R : K → K → Ordering} (total : IsTotalOrder R) (same 
               (sym is)
               (m.exact k
               ∙ (λ i. mend k (absent k old below-old i) (absent k new below-new i))
-              ∙ ap (λ b. cond b None (Some (call k))) (none ∙ sym alike)
+              ∙ ap (λ b. cond b None (Some (call k None))) none
+              ∙ ap (λ b. cond b None (Some (call k p))) (sym alike)
               ∙ λ i. mend k (sym (front-same k o old below-old) i) (sym (front-same k p new below-new) i)))
               (λ apart.
               m.exact q
@@ -154,33 +155,33 @@ module _ {K : Type 0} {R : K → K → Ordering} (total : IsTotalOrder R) (same 
         }
 
       -- the calls of the keys that pass a test
-      abbrev with_calls : List K → List (K × Y)
-      with_calls keys = map (λ key. (key, call key)) keys
+      abbrev with_calls : (K → Y) → List K → List (K × Y)
+      with_calls made keys = map (λ key. (key, made key)) keys
 
-      find-passing : (p : K → Bool) (q : K) (keys : List K)
-          → find R q (with_calls (filter p keys)) ≡ cond (p q && list_any (eq_by_cmp R q) keys) (Some (call q)) None
-      find-passing p q [] = elim (p q) as (λ b. None ≡ cond (b && false) (Some (call q)) None) [ true ↦ refl | false ↦ refl ]
-      find-passing p q (k ∷ keys) =
-          let rest = find-passing p q keys in
+      find-passing : (made : K → Y) (p : K → Bool) (q : K) (keys : List K)
+          → find R q (with_calls made (filter p keys)) ≡ cond (p q && list_any (eq_by_cmp R q) keys) (Some (made q)) None
+      find-passing made p q [] = elim (p q) as (λ b. None ≡ cond (b && false) (Some (made q)) None) [ true ↦ refl | false ↦ refl ]
+      find-passing made p q (k ∷ keys) =
+          let rest = find-passing made p q keys in
           by_tie q k
           (λ is tie.
-          elim (p k) as (λ b. p q ≡ b → find R q (with_calls (cond b (k ∷ filter p keys) (filter p keys))) ≡ cond (p q && (eq_by_cmp R q k || list_any (eq_by_cmp R q) keys)) (Some (call q)) None) [
+          elim (p k) as (λ b. p q ≡ b → find R q (with_calls made (cond b (k ∷ filter p keys) (filter p keys))) ≡ cond (p q && (eq_by_cmp R q k || list_any (eq_by_cmp R q) keys)) (Some (made q)) None) [
             | true ↦ λ passes.
-                ap (λ b. cond b (Some (call k)) (find R q (with_calls (filter p keys)))) tie
-                ∙ ap (λ x. Some (call x)) (sym is)
-                ∙ λ i. cond (sym passes i && (sym tie i || list_any (eq_by_cmp R q) keys)) (Some (call q)) None
+                ap (λ b. cond b (Some (made k)) (find R q (with_calls made (filter p keys)))) tie
+                ∙ ap (λ x. Some (made x)) (sym is)
+                ∙ λ i. cond (sym passes i && (sym tie i || list_any (eq_by_cmp R q) keys)) (Some (made q)) None
             | false ↦ λ fails.
                 rest
-                ∙ (λ i. cond (fails i && list_any (eq_by_cmp R q) keys) (Some (call q)) None)
-                ∙ λ i. cond (sym fails i && (eq_by_cmp R q k || list_any (eq_by_cmp R q) keys)) (Some (call q)) None
+                ∙ (λ i. cond (fails i && list_any (eq_by_cmp R q) keys) (Some (made q)) None)
+                ∙ λ i. cond (sym fails i && (eq_by_cmp R q k || list_any (eq_by_cmp R q) keys)) (Some (made q)) None
           ] (ap p is))
           (λ apart.
-          elim (p k) as (λ b. find R q (with_calls (cond b (k ∷ filter p keys) (filter p keys))) ≡ cond (p q && (eq_by_cmp R q k || list_any (eq_by_cmp R q) keys)) (Some (call q)) None) [
+          elim (p k) as (λ b. find R q (with_calls made (cond b (k ∷ filter p keys) (filter p keys))) ≡ cond (p q && (eq_by_cmp R q k || list_any (eq_by_cmp R q) keys)) (Some (made q)) None) [
             | true ↦
-                ap (λ b. cond b (Some (call k)) (find R q (with_calls (filter p keys)))) apart
+                ap (λ b. cond b (Some (made k)) (find R q (with_calls made (filter p keys)))) apart
                 ∙ rest
-                ∙ λ i. cond (p q && (sym apart i || list_any (eq_by_cmp R q) keys)) (Some (call q)) None
-            | false ↦ rest ∙ λ i. cond (p q && (sym apart i || list_any (eq_by_cmp R q) keys)) (Some (call q)) None
+                ∙ λ i. cond (p q && (sym apart i || list_any (eq_by_cmp R q) keys)) (Some (made q)) None
+            | false ↦ rest ∙ λ i. cond (p q && (sym apart i || list_any (eq_by_cmp R q) keys)) (Some (made q)) None
           ])
 
       passes-where : (o p : Option X) (y : Y) → cond (not (equal o p) && (is_some o || is_some p)) (Some y) None ≡ cond (equal o p) None (Some y)
@@ -192,7 +193,8 @@ module _ {K : Type 0} {R : K → K → Ordering} (total : IsTotalOrder R) (same 
       abbrev pub differing : FinMap R X → FinMap R X → FinMap R Y
       differing old new =
           finite.from_entries
-          (with_calls (filter (λ key. not (equal (finite.get old key) (finite.get new key))) (finite.keys old ++ finite.keys new)))
+          (with_calls (λ key. call key (finite.get new key))
+          (filter (λ key. not (equal (finite.get old key) (finite.get new key))) (finite.keys old ++ finite.keys new)))
 
       either : (q : K) (xs ys : List K) → list_any (eq_by_cmp R q) (xs ++ ys) ≡ (list_any (eq_by_cmp R q) xs || list_any (eq_by_cmp R q) ys)
       either q [] ys = refl
@@ -206,12 +208,13 @@ module _ {K : Type 0} {R : K → K → Ordering} (total : IsTotalOrder R) (same 
           → finite.get (differing old new) q ≡ mend q (finite.get old q) (finite.get new q)
       get-differing old new q =
           let p = λ (key : K). not (equal (finite.get old key) (finite.get new key)) in
-          finite.get-from_entries total (with_calls (filter p (finite.keys old ++ finite.keys new))) q
-          ∙ find-passing p q (finite.keys old ++ finite.keys new)
-          ∙ ap (λ b. cond (p q && b) (Some (call q)) None)
+          let made = λ (key : K). call key (finite.get new key) in
+          finite.get-from_entries total (with_calls made (filter p (finite.keys old ++ finite.keys new))) q
+          ∙ find-passing made p q (finite.keys old ++ finite.keys new)
+          ∙ ap (λ b. cond (p q && b) (Some (made q)) None)
           (either q (finite.keys old) (finite.keys new)
           ∙ λ i. sym (finite.contains_key-keys old q) i || sym (finite.contains_key-keys new q) i)
-          ∙ passes-where (finite.get old q) (finite.get new q) (call q)
+          ∙ passes-where (finite.get old q) (finite.get new q) (made q)
 
       -- calls that mend two maps are those of the map
       pub mends-unique : (old new : FinMap R X) (mended : List (K × Y)) → Mends (finite.entries old) (finite.entries new) mended

@@ -1,5 +1,7 @@
--- The calls between two maps, as far as two walks over them have come.
-use Rattle.std.proofs.Common.{◌≡◌, ◌⊎◌, inl, inr, ⊎_elim, ◌≢◌, ◌+◌, ◌<◌, ◌≤◌, Bool, true, false, cond, T, List, [], ◌∷◌, ◌++◌, map, length, Option, Some, None, arith, append_assoc, refl, sym, ap, subst, ◌∙◌}
+-- The calls that are kept: between two maps, as far as two walks over them have come, and of a map shown anew.
+use Rattle.std.proofs.Common.{◌≡◌, ◌⊎◌, inl, inr, ⊎_elim, ◌≢◌, ℕ, zero, suc, ◌+◌, ◌<◌, ◌≤◌, Bool, true, false, cond, T, List, [], ◌∷◌, ◌++◌, map, length, take, drop, Option, Some, None, arith, append_assoc, add-one, refl, sym, ap, subst, ◌∙◌}
+use Rattle.std.specs.List.{slice_get}
+use Rattle.std.specs.Option.{option_map}
 use Rattle.std.specs.declared.cmp.Ordering.{Ordering}
 use Rattle.std.specs.declared.cmp.Ordering.TheVariants.{Less, Equal, Greater}
 use Rattle.std.specs.Ordering.{is_lt, ordering_reverse}
@@ -7,6 +9,7 @@ use Rattle.std.specs.Cmp.{IsTotalOrder, tied_itself}
 use Rattle.std.specs.FinMap as finite
 use Rattle.std.specs.FinMap.Entries.{below_all}
 use Rattle.std.proofs.lemmas.List.{map-append, append-nil}
+use Rattle.std.proofs.Math.Seq.{take-length}
 use Rattle.chart_model.specs.declared.drawing.Block.{Block}
 use Rattle.chart_model.specs.declared.drawing.PanelKey.{PanelKey}
 use Rattle.chart_model.proofs.SortedEntries.{first, less}
@@ -14,72 +17,128 @@ use Rattle.panel_port.specs.PanelKey.{panel_key_cmp}
 use Rattle.panel_port.specs.Panel.{Scene as Blocks}
 use Rattle.panel_port.proofs.PanelKeys.{panel_key_cmp-total, panel_key_cmp-IsAntisymmetric}
 use Rattle.scene_sync.specs.declared.call.Call.{Call}
-use Rattle.scene_sync.specs.declared.call.Call.TheVariants.{Show}
+use Rattle.scene_sync.specs.declared.call.Call.TheVariants.{Put}
 use Rattle.scene_sync.specs.Same.{same_blocks}
-use Rattle.scene_sync.specs.Calls.{PanelCall, call_for, call_in, calls_between}
-use Rattle.scene_sync.specs.Walk.{IsLeast, first_key_of, least_of, with_front}
+use Rattle.scene_sync.specs.Calls.{PanelCall, StandFor, clear, put, call_at, call_in, calls_between, calls_for, kept_at}
+use Rattle.scene_sync.specs.Walk.{IsLeast, Position, first_key_of, least_of, left_of, with_front}
 use Rattle.scene_sync.proofs.Merge.{Mends, mends-none, mends-differing, mends-equal, mends-unique}
 
 abbrev Entries : Type 0
 Entries = List (PanelKey × Block)
 
-abbrev MendsTo : Blocks → Entries → Entries → List (PanelKey × PanelCall) → Type 0
-MendsTo target old new mended = Mends panel_key_cmp-total panel_key_cmp-IsAntisymmetric same_blocks (call_for target) old new mended
+abbrev MendsTo : Entries → Entries → List (PanelKey × PanelCall) → Type 0
+MendsTo old new mended = Mends panel_key_cmp-total panel_key_cmp-IsAntisymmetric same_blocks call_at old new mended
 
 -- these calls, and those for what is left of two maps, are all between the maps
-pub record Continues (shown target : Blocks) (calls : List Call) (old new : List (PanelKey × Block)) : Type 0 where
-  pub all : (mended : List (PanelKey × PanelCall)) → MendsTo target old new mended
-      → map (call_in target) calls ++ map (λ entry. entry.1) mended ≡ calls_between shown target
+pub record Continues (shown target : Blocks) (calls : List Call) (old new : Position) : Type 0 where
+  pub of_target : new.entries ≡ finite.entries target
+  pub all : (mended : List (PanelKey × PanelCall)) → MendsTo (left_of old) (left_of new) mended
+      → map (call_in target) calls ++ map Some (map (λ entry. entry.1) mended) ≡ map Some (calls_between shown target)
 
-begins : (shown target : Blocks) → Continues shown target [] (finite.entries shown) (finite.entries target)
+-- the position before all entries
+abbrev front_of : Blocks → Position
+front_of blocks = record { entries = finite.entries blocks; place = 0 }
+
+begins : (shown target : Blocks) → Continues shown target [] (front_of shown) (front_of target)
 begins shown target = record {
+  of_target = refl;
   all = λ mended mends.
-      ap (λ (entries : List (PanelKey × PanelCall)). map (λ entry. entry.1) entries)
-      (mends-unique panel_key_cmp-total panel_key_cmp-IsAntisymmetric same_blocks (call_for target) refl shown target mended mends);
+      ap (λ (entries : List (PanelKey × PanelCall)). map Some (map (λ entry. entry.1) entries))
+      (mends-unique panel_key_cmp-total panel_key_cmp-IsAntisymmetric same_blocks call_at refl shown target mended mends);
 }
 
-pub begins-at : (shown target : Blocks) (calls : List Call) (old new : List (PanelKey × Block)) → calls ≡ []
-    → old ≡ finite.entries shown → new ≡ finite.entries target → Continues shown target calls old new
+pub begins-at : (shown target : Blocks) (calls : List Call) (old new : Position) → calls ≡ []
+    → old ≡ record { entries = finite.entries shown; place = 0 } → new ≡ record { entries = finite.entries target; place = 0 }
+    → Continues shown target calls old new
 begins-at shown target calls old new no-calls all-old all-new =
     subst (λ cs. Continues shown target cs old new) (sym no-calls)
-    (subst (λ es. Continues shown target [] es new) (sym all-old)
-    (subst (λ es. Continues shown target [] (finite.entries shown) es) (sym all-new) (begins shown target)))
+    (subst (λ walk. Continues shown target [] walk new) (sym all-old)
+    (subst (λ walk. Continues shown target [] (front_of shown) walk) (sym all-new) (begins shown target)))
 
-pub ends : (shown target : Blocks) (calls : List Call) (old new : List (PanelKey × Block)) → old ≡ [] → new ≡ []
-    → Continues shown target calls old new → map (call_in target) calls ≡ calls_between shown target
+pub ends : (shown target : Blocks) (calls : List Call) (old new : Position) → left_of old ≡ [] → left_of new ≡ []
+    → Continues shown target calls old new → StandFor target calls (calls_between shown target)
 ends shown target calls old new no-old no-new c =
     sym (append-nil (map (call_in target) calls))
     ∙ c.all []
-    (subst (λ es. MendsTo target es new []) (sym no-old)
-    (subst (λ es. MendsTo target [] es []) (sym no-new)
-    (mends-none panel_key_cmp-total panel_key_cmp-IsAntisymmetric same_blocks (call_for target) refl)))
+    (subst (λ es. MendsTo es (left_of new) []) (sym no-old)
+    (subst (λ es. MendsTo [] es []) (sym no-new)
+    (mends-none panel_key_cmp-total panel_key_cmp-IsAntisymmetric same_blocks call_at refl)))
 
-module _ (shown target : Blocks) (calls : List Call) (key : PanelKey) (o p : Option Block) (es fs old new : List (PanelKey × Block)) where
-  pub goes-on-differing : es ≡ with_front key o old → fs ≡ with_front key p new
-      → T (below_all panel_key_cmp key old) → T (below_all panel_key_cmp key new) → same_blocks o p ≡ false
-      → Continues shown target calls es fs → Continues shown target (calls ++ Show key ∷ []) old new
-  goes-on-differing is-es is-fs below-old below-new differ c = record {
+get-front : {X : Type 0} (place : ℕ) (all : List X) (e : X) (rest : List X) → drop place all ≡ e ∷ rest → slice_get all place ≡ Some e
+get-front zero [] e rest is = cc
+get-front zero (x ∷ all) e rest is = cc
+get-front (suc place) [] e rest is = cc
+get-front (suc place) (x ∷ all) e rest is = get-front place all e rest is
+
+-- the call that is kept for a key stands for what the target has under it
+stands : (target : Blocks) (key : PanelKey) (p : Option Block) (new rest : Position) → new.entries ≡ finite.entries target
+    → left_of new ≡ with_front key p (left_of rest) → call_in target (kept_at key new.place p) ≡ Some (call_at key p)
+stands target key None new rest of-target is = refl
+stands target key (Some block) new rest of-target is =
+    ap (λ (o : Option (PanelKey × Block)). option_map (λ entry. put entry.0 entry.1) o)
+    (ap (λ (es : Entries). slice_get es new.place) (sym of-target)
+    ∙ get-front new.place new.entries (key, block) (left_of rest) is)
+
+module _ (shown target : Blocks) (calls : List Call) (key : PanelKey) (o p : Option Block) (old new old' new' : Position) where
+  pub goes-on-differing : (call : Call) → call ≡ kept_at key new.place p
+      → left_of old ≡ with_front key o (left_of old') → left_of new ≡ with_front key p (left_of new') → new'.entries ≡ new.entries
+      → T (below_all panel_key_cmp key (left_of old')) → T (below_all panel_key_cmp key (left_of new')) → same_blocks o p ≡ false
+      → Continues shown target calls old new → Continues shown target (calls ++ call ∷ []) old' new'
+  goes-on-differing call kept is-old is-new same below-old below-new differ c = record {
+    of_target = same ∙ c.of_target;
     all = λ mended mends.
-        ap (λ (made : List PanelCall). made ++ map (λ entry. entry.1) mended) (map-append (call_in target) calls (Show key ∷ []))
-        ∙ append_assoc (map (call_in target) calls) (call_for target key ∷ []) (map (λ entry. entry.1) mended)
-        ∙ c.all ((key, call_for target key) ∷ mended)
-        (subst (λ rest. MendsTo target rest fs ((key, call_for target key) ∷ mended)) (sym is-es)
-        (subst (λ rest. MendsTo target (with_front key o old) rest ((key, call_for target key) ∷ mended)) (sym is-fs)
-        (mends-differing panel_key_cmp-total panel_key_cmp-IsAntisymmetric same_blocks (call_for target) refl key o p old new mended
-        below-old below-new differ mends)));
+        ap (λ (made : List (Option PanelCall)). made ++ map Some (map (λ entry. entry.1) mended))
+        (map-append (call_in target) calls (call ∷ []))
+        ∙ append_assoc (map (call_in target) calls) (call_in target call ∷ []) (map Some (map (λ entry. entry.1) mended))
+        ∙ ap (λ (made : Option PanelCall). map (call_in target) calls ++ made ∷ map Some (map (λ entry. entry.1) mended))
+        (ap (call_in target) kept ∙ stands target key p new new' c.of_target is-new)
+        ∙ c.all ((key, call_at key p) ∷ mended)
+        (subst (λ rest. MendsTo rest (left_of new) ((key, call_at key p) ∷ mended)) (sym is-old)
+        (subst (λ rest. MendsTo (with_front key o (left_of old')) rest ((key, call_at key p) ∷ mended)) (sym is-new)
+        (mends-differing panel_key_cmp-total panel_key_cmp-IsAntisymmetric same_blocks call_at refl key o p (left_of old')
+        (left_of new') mended below-old below-new differ mends)));
   }
 
-  pub goes-on-equal : es ≡ with_front key o old → fs ≡ with_front key p new
-      → T (below_all panel_key_cmp key old) → T (below_all panel_key_cmp key new) → same_blocks o p ≡ true
-      → Continues shown target calls es fs → Continues shown target calls old new
-  goes-on-equal is-es is-fs below-old below-new alike c = record {
+  pub goes-on-equal : left_of old ≡ with_front key o (left_of old') → left_of new ≡ with_front key p (left_of new')
+      → new'.entries ≡ new.entries
+      → T (below_all panel_key_cmp key (left_of old')) → T (below_all panel_key_cmp key (left_of new')) → same_blocks o p ≡ true
+      → Continues shown target calls old new → Continues shown target calls old' new'
+  goes-on-equal is-old is-new same below-old below-new alike c = record {
+    of_target = same ∙ c.of_target;
     all = λ mended mends.
         c.all mended
-        (subst (λ rest. MendsTo target rest fs mended) (sym is-es)
-        (subst (λ rest. MendsTo target (with_front key o old) rest mended) (sym is-fs)
-        (mends-equal panel_key_cmp-total panel_key_cmp-IsAntisymmetric same_blocks (call_for target) refl key o p old new mended
-        below-old below-new alike mends)));
+        (subst (λ rest. MendsTo rest (left_of new) mended) (sym is-old)
+        (subst (λ rest. MendsTo (with_front key o (left_of old')) rest mended) (sym is-new)
+        (mends-equal panel_key_cmp-total panel_key_cmp-IsAntisymmetric same_blocks call_at refl key o p (left_of old')
+        (left_of new') mended below-old below-new alike mends)));
   }
+
+put-more : {X Y : Type 0} (f : X → Y) (xs : List X) (i : ℕ) → i < length xs
+    → map Some (map f (take (suc i) xs)) ≡ map Some (map f (take i xs)) ++ option_map f (slice_get xs i) ∷ []
+put-more f [] i below = absurd (omega (arith, below))
+put-more f (x ∷ xs) zero below = refl
+put-more {X} {Y} f (x ∷ xs) (suc i) below = ap (λ (made : List (Option Y)). Some (f x) ∷ made) (put-more f xs i (omega (arith, below)))
+
+-- a call that takes out all blocks, and one for each of the first entries of the target
+abbrev pub AreAnew : Blocks → List Call → ℕ → Type 0
+AreAnew target calls count = StandFor target calls (clear ∷ map (λ entry. put entry.0 entry.1) (take count (finite.entries target)))
+
+pub anew-more : (target : Blocks) (calls calls' : List Call) (count : ℕ) → count < length (finite.entries target)
+    → calls' ≡ calls ++ Put count ∷ [] → AreAnew target calls count → AreAnew target calls' (count + 1)
+anew-more target calls calls' count below is so-far =
+    ap (map (call_in target)) is
+    ∙ map-append (call_in target) calls (Put count ∷ [])
+    ∙ ap (λ (made : List (Option PanelCall)). made ++ call_in target (Put count) ∷ []) so-far
+    ∙ ap (λ (made : List (Option PanelCall)). Some clear ∷ made)
+    (sym (put-more (λ (entry : PanelKey × Block). put entry.0 entry.1) (finite.entries target) count below))
+    ∙ ap (λ n. map Some (clear ∷ map (λ entry. put entry.0 entry.1) (take n (finite.entries target)))) (sym (add-one count))
+
+pub anew-all : (target : Blocks) (calls : List Call) (count : ℕ) → count ≡ length (finite.entries target)
+    → AreAnew target calls count → StandFor target calls (calls_for None target)
+anew-all target calls count all so-far =
+    so-far
+    ∙ ap (λ (es : Entries). map Some (clear ∷ map (λ entry. put entry.0 entry.1) es))
+    (ap (λ n. take n (finite.entries target)) all ∙ take-length (finite.entries target))
 
 lesser : {K : Type 0} {R : K → K → Ordering} → IsTotalOrder R → (j k : K)
     → (R (cond (is_lt (R k j)) k j) j ≢ Greater) × (R (cond (is_lt (R k j)) k j) k ≢ Greater)

@@ -2,7 +2,6 @@
 use Rattle.std.proofs.Common.{arith, ◌≡◌, ◌≢◌, ℕ, zero, suc, Bool, true, false, cond, ◌&&◌, ◌||◌, List, [], ◌∷◌, ◌++◌, map, Option, Some, None, is_some, is_none, nat_eq, take as taken, refl, sym, ap, ◌∙◌}
 use Rattle.std.specs.Ordering.{eq_by_cmp}
 use Rattle.std.specs.List.{list_any}
-use Rattle.std.proofs.lemmas.List.{append-nil}
 use Rattle.std.proofs.lemmas.Bool.Decides.{nat_tests}
 use Rattle.std.specs.FinMap as finite
 use Rattle.chart_model.specs.declared.drawing.Block.{Block}
@@ -88,7 +87,7 @@ where-there (Some block) = refl
 get-changes : (shown target : Blocks) (q : PanelKey)
     → finite.get (changes shown target) q ≡ cond (same_blocks (finite.get shown q) (finite.get target q)) None (Some (call_for target q))
 get-changes shown target q =
-    get-differing panel_key_cmp-total panel_key_cmp-IsAntisymmetric same_blocks (call_for target) refl shown target q
+    get-differing panel_key_cmp-total panel_key_cmp-IsAntisymmetric same_blocks call_at refl shown target q
 
 told-apart : (o p : Option Block) → (o ≢ p) → same_blocks o p ≡ false
 told-apart o p differ =
@@ -121,21 +120,6 @@ anew-called target =
     ap (λ (calls : List PanelCall). clear ∷ calls)
     (each-found panel_key_cmp-total panel_key_cmp-IsAntisymmetric call_at (finite.get target) (finite.entries target)
     (finite.entries_sorted target) (λ q there. finite.get-entries target q))
-
-map-keys : {K X Y : Type 0} (f : K → Y) (es : List (K × X)) → map f (map (λ e. e.0) es) ≡ map (λ e. f e.0) es
-map-keys f [] = refl
-map-keys f (e ∷ es) = ap (λ ys. f e.0 ∷ ys) (map-keys f es)
-
--- where no key is left, the calls that were kept are all
-pub anew-ends : (target : Blocks) (calls : List PanelCall) (rest : List (PanelKey × Block)) → rest ≡ []
-    → calls ++ map (λ entry. call_for target entry.0) rest ≡ clear ∷ map (λ entry. call_for target entry.0) (finite.entries target)
-    → calls ≡ calls_for None target
-anew-ends target calls rest none kept =
-    sym (append-nil calls)
-    ∙ ap (λ es. calls ++ map (λ entry. call_for target entry.0) es) (sym none)
-    ∙ kept
-    ∙ ap (λ (made : List PanelCall). clear ∷ made) (sym (map-keys (call_for target) (finite.entries target)))
-    ∙ sym (anew-called target)
 
 -- a finished refresh shows its target, whatever was shown before
 pub shows-target : (shown : Option Blocks) (target : Blocks) → after_calls true (calls_for shown target) shown ≡ Some target

@@ -1,5 +1,5 @@
 -- What a walk has left after each step.
-use Rattle.std.proofs.Common.{◌≡◌, ◌≢◌, Bool, true, false, T, ◌&&◌, not, nat_eq, rules, List, [], ◌∷◌, Option, Some, None, refl, sym, ap, subst, ◌∙◌}
+use Rattle.std.proofs.Common.{◌≡◌, ◌≢◌, ℕ, ◌+◌, ◌<◌, Bool, true, false, T, ◌&&◌, not, nat_eq, rules, List, [], ◌∷◌, length, drop, get_or, drop-cons, add-one, refl, sym, ap, subst, ◌∙◌}
 use Rattle.std.specs.declared.cmp.Ordering.{Ordering}
 use Rattle.std.specs.declared.cmp.Ordering.TheVariants.{Less, Equal, Greater}
 use Rattle.std.specs.Ordering.{is_lt, is_eq, eq_by_cmp}
@@ -10,18 +10,10 @@ use Rattle.std.specs.FinMap.{is_sorted}
 use Rattle.std.specs.FinMap.Entries.{below_all}
 use Rattle.chart_model.proofs.SortedEntries.{first, second, less}
 use Rattle.panel_port.specs.PanelKey.{panel_key_cmp}
-use Rattle.panel_port.proofs.PanelKeys.{panel_key_cmp-total}
-use Rattle.std.specs.Map.Iter.{TakesFirst, deref_pair}
+use Rattle.panel_port.proofs.PanelKeys.{panel_key_cmp-total, panel_key_cmp-IsAntisymmetric}
 use Rattle.chart_model.specs.declared.drawing.Block.{Block}
 use Rattle.chart_model.specs.declared.drawing.PanelKey.{PanelKey}
-use Rattle.scene_sync.specs.Walk.{IsLeast, first_and}
-use denote.Ref.{Bor}
-
--- what is taken from the front and what is left are what there was
-pub first-taken : (first : Option (Bor PanelKey × Bor Block)) (before after : List (PanelKey × Block))
-    → TakesFirst deref_pair before first after → before ≡ first_and first after
-first-taken None before after taken = taken.0
-first-taken (Some first) before after taken = taken
+use Rattle.scene_sync.specs.Walk.{IsLeast}
 
 below-both : (a b : Bool) → T a → T b → T (a && b)
 below-both true b p q = q
@@ -49,12 +41,6 @@ below-apart key e es sorted least apart =
     (subst (λ o. T (is_lt o)) (sym lower) tt)
     (below-first panel_key_cmp-total key e.0 es lower (first _ _ sorted))
 
--- nothing is left where there is no first entry
-pub ended : (key : PanelKey) (first : Option (Bor PanelKey × Bor Block)) (others es : List (PanelKey × Block))
-    → first ≡ None → first_and first others ≡ es → T (below_all panel_key_cmp key es)
-ended key first others es none is =
-    subst (λ rest. T (below_all panel_key_cmp key rest)) (ap (λ f. first_and f others) (sym none) ∙ is) tt
-
 keys-tie : (x y : PanelKey)
     → (pointwise nat_eq x.key y.key && (nat_eq x.name.rcnm y.name.rcnm && nat_eq x.name.rcid y.name.rcid)) ≡ eq_by_cmp panel_key_cmp x y
 keys-tie x y = search (comparing, rules)
@@ -71,14 +57,33 @@ told-apart key at differ =
     (eq_by_cmp_equiv panel_key_cmp-total).symm key at ∙ sym (keys-tie at key)
     ∙ turned (pointwise nat_eq at.key key.key && (nat_eq at.name.rcnm key.name.rcnm && nat_eq at.name.rcid key.name.rcid)) differ
 
--- a key that isn't that of the first entry is below all
-pub passed-by : (key : PanelKey) (first : Option (Bor PanelKey × Bor Block)) (at : Bor PanelKey × Bor Block)
-    → (others es : List (PanelKey × Block)) → first ≡ Some at → first_and first others ≡ es
-    → T (is_sorted panel_key_cmp (first_and first others)) → IsLeast key es → eq_by_cmp panel_key_cmp key at.0.now ≡ false
-    → T (below_all panel_key_cmp key es)
-passed-by key first at others es some is sorted least apart =
-    let view : (at.0.now, at.1.now) ∷ others ≡ es = ap (λ f. first_and f others) (sym some) ∙ is in
-    subst (λ rest. T (below_all panel_key_cmp key rest)) view
-    (below-apart key (at.0.now, at.1.now) others
-    (subst (λ f. T (is_sorted panel_key_cmp (first_and f others))) some sorted)
-    (subst (IsLeast key) (sym view) least) apart)
+alike : (o : Ordering) → false ≡ not (is_eq o) → o ≡ Equal
+alike Less e = cc
+alike Equal e = refl
+alike Greater e = cc
+
+-- and keys that it doesn't are equal
+pub told-alike : (key at : PanelKey)
+    → false ≡ not (pointwise nat_eq at.key key.key && (nat_eq at.name.rcnm key.name.rcnm && nat_eq at.name.rcid key.name.rcid))
+    → at ≡ key
+told-alike key at same =
+    panel_key_cmp-IsAntisymmetric at key (alike (panel_key_cmp at key) (same ∙ ap not (keys-tie at key)))
+
+-- the entry at the place is the first of those that are left
+pub first-left : (all : List (PanelKey × Block)) (place : ℕ) (e : PanelKey × Block) → place < length all → e ≡ get_or all place e
+    → drop place all ≡ e ∷ drop (place + 1) all
+first-left all place e below at = drop-cons all place e below ∙ (λ i. sym at i ∷ drop (sym (add-one place) i) all)
+
+module _ (key : PanelKey) (all : List (PanelKey × Block)) (place : ℕ) (e : PanelKey × Block) (below : place < length all) (at : e ≡ get_or all place e) (rising : T (is_sorted panel_key_cmp (drop place all))) where
+  rises : T (is_sorted panel_key_cmp (e ∷ drop (place + 1) all))
+  rises = subst (λ es. T (is_sorted panel_key_cmp es)) (first-left all place e below at) rising
+
+  -- a key that isn't that of the first entry is below all
+  pub below-left : IsLeast key (drop place all) → eq_by_cmp panel_key_cmp key e.0 ≡ false → T (below_all panel_key_cmp key (drop place all))
+  below-left least apart =
+      subst (λ es. T (below_all panel_key_cmp key es)) (sym (first-left all place e below at))
+      (below-apart key e (drop (place + 1) all) rises (subst (IsLeast key) (first-left all place e below at) least) apart)
+
+  -- behind the first entry all are above its key
+  pub below-passed : e.0 ≡ key → T (below_all panel_key_cmp key (drop (place + 1) all))
+  below-passed same = subst (λ k. T (below_all panel_key_cmp k (drop (place + 1) all))) same (first _ _ rises)

@@ -2,7 +2,8 @@
 use Rattle.std.specs.Prelude.{ℕ, ◌+◌, ◌≤◌, min, nat_eq, if◌then◌else◌, ◌≡◌, ◌⊎◌, Bool, not, List, [], ◌∷◌, ◌++◌, map}
 use Rattle.std.specs.Prelude.{Option, Some, None, refl}
 use Rattle.std.proofs.Common.{inl, inr}
-use Rattle.std.specs.List.{filter}
+use Rattle.std.specs.List.{filter, filter_map, slice_get}
+use Rattle.std.specs.Option.{option_map}
 use Rattle.std.specs.Coded.{Coded, code_by, coded×, coded⊎, prop_coded, Unit-prop}
 use Rattle.std.specs.FinMap as finite
 use Rattle.chart_model.specs.declared.drawing.Block.{Block}
@@ -13,7 +14,7 @@ use Rattle.panel_port.specs.PanelKey.{panel_key_cmp, panel_key_code}
 use Rattle.panel_port.specs.Panel.{Scene as Blocks, told_where, with_block, without_block}
 use Rattle.scene_sync.specs.Same.{same_blocks}
 use Rattle.scene_sync.specs.declared.call.Call.{Call}
-use Rattle.scene_sync.specs.declared.call.Call.TheVariants.{Clear, Show}
+use Rattle.scene_sync.specs.declared.call.Call.TheVariants.{Clear, Put, Take}
 
 -- a call of a panel
 pub data PanelCall : Type 0 where
@@ -84,10 +85,23 @@ abbrev pub calls_for : Option Blocks → Blocks → List PanelCall
 calls_for None target = clear ∷ map (λ entry. put entry.0 entry.1) (finite.entries target)
 calls_for (Some shown) target = calls_between shown target
 
--- a call that is kept, with the block of the target
-abbrev pub call_in : Blocks → Call → PanelCall
-call_in target Clear = clear
-call_in target (Show key) = call_for target key
+-- the call that a kept one stands for, where the target has an entry at its place
+abbrev pub call_in : Blocks → Call → Option PanelCall
+call_in target Clear = Some clear
+call_in target (Put place) = option_map (λ entry. put entry.0 entry.1) (slice_get (finite.entries target) place)
+call_in target (Take key) = Some (take key)
+
+abbrev pub calls_in : Blocks → List Call → List PanelCall
+calls_in target = filter_map (call_in target)
+
+-- kept calls stand for these, each for one
+abbrev pub StandFor : Blocks → List Call → List PanelCall → Type 0
+StandFor target kept calls = map (call_in target) kept ≡ map Some calls
+
+-- the call that is kept for a key, where the target has the block at the place, or none
+abbrev pub kept_at : PanelKey → ℕ → Option Block → Call
+kept_at key place (Some block) = Put place
+kept_at key place None = Take key
 
 -- the count after so many calls more, each of which adds one: it stays once it is at its last value
 abbrev pub more_calls : ℕ → ℕ → ℕ

@@ -1,8 +1,8 @@
 -- What contracts see of a scene: what is shown, and the refresh that is under way.
-use Rattle.std.specs.Prelude.{ℕ, ◌+◌, ◌≡◌, nat_eq, Bool, true, if◌then◌else◌, List, map, length, take, drop}
+use Rattle.std.specs.Prelude.{ℕ, ◌+◌, ◌≡◌, nat_eq, Bool, true, if◌then◌else◌, List, length, take, drop}
 use Rattle.std.specs.Prelude.{Option, Some, None, IfSome}
 use Rattle.panel_port.specs.Panel.{Scene as Blocks}
-use Rattle.scene_sync.specs.Calls.{PanelCall, after_calls, call_in}
+use Rattle.scene_sync.specs.Calls.{PanelCall, after_calls, calls_for}
 use Rattle.scene_sync.specs.declared.progress.Progress.{Progress}
 use Rattle.scene_sync.specs.declared.refresh.Refresh.{Refresh}
 use Rattle.scene_sync.specs.declared.scene.Scene.{Scene}
@@ -15,15 +15,16 @@ pub record UnderWay : Type 0 where
   pub calls : List PanelCall
   pub made : ℕ
 
-abbrev pub calls_in : Refresh → List PanelCall
-calls_in refresh = map (call_in refresh.target) refresh.calls.items
+-- its calls: those from what was shown when it began to what is to be shown
+abbrev pub calls_of : Refresh → List PanelCall
+calls_of refresh = calls_for refresh.before refresh.target
 
 abbrev pub under_way_in : Refresh → UnderWay
-under_way_in refresh = record { target = refresh.target; calls = calls_in refresh; made = refresh.made }
+under_way_in refresh = record { target = refresh.target; calls = calls_of refresh; made = refresh.made }
 
 -- what was shown when it began, after the calls that were made
 abbrev pub shown_by : Refresh → Option Blocks
-shown_by refresh = after_calls true (take refresh.made (calls_in refresh)) refresh.before
+shown_by refresh = after_calls true (take refresh.made (calls_of refresh)) refresh.before
 
 abbrev pub shown_in : State → Option Blocks
 shown_in Stale = None

@@ -1,17 +1,18 @@
--- What contracts see of a walk over the blocks of a map.
-use Rattle.std.specs.Prelude.{◌≢◌, List, [], ◌∷◌, Option, Some, None}
+-- What contracts see of a walk over the entries of a map.
+use Rattle.std.specs.Prelude.{◌≢◌, ℕ, List, [], ◌∷◌, Option, Some, None, drop}
 use Rattle.std.specs.declared.cmp.Ordering.TheVariants.{Greater}
 use Rattle.std.specs.Ordering.{ord_min}
-use Rattle.std.specs.Map.Iter.{deref_pair}
 use Rattle.chart_model.specs.declared.drawing.Block.{Block}
 use Rattle.chart_model.specs.declared.drawing.PanelKey.{PanelKey}
 use Rattle.panel_port.specs.PanelKey.{panel_key_cmp}
-use denote.Ref.{Bor}
 
--- the first entry and the others: nothing is left where there is no first one
-abbrev pub first_and : Option (Bor PanelKey × Bor Block) → List (PanelKey × Block) → List (PanelKey × Block)
-first_and None others = []
-first_and (Some first) others = deref_pair first ∷ others
+-- all entries, and the place of the first that is left
+pub record Position : Type 0 where
+  pub entries : List (PanelKey × Block)
+  pub place : ℕ
+
+abbrev pub left_of : Position → List (PanelKey × Block)
+left_of walk = drop walk.place walk.entries
 
 abbrev pub first_key_of : List (PanelKey × Block) → Option PanelKey
 first_key_of [] = None

@@ -1,10 +1,10 @@
 //! The calls of a refresh, and how they are made.
 //!
-//! A call names its key alone: its block stays in the target, and is copied when it is put.
+//! A block stays in the target, and is copied when it is put. The call names its place, so that it isn't searched for.
 
-ghost use Rattle.std.specs.Prelude.{◌≡◌, ◌≤◌, [], length, map, IsErrOf, OnOk};
+ghost use Rattle.std.specs.Prelude.{◌≡◌, ◌≤◌, [], length, All, IfSome, IsErrOf, IsSome, OnOk};
 ghost use Rattle.chart_ports.specs.Count.{Rose, one_more};
-ghost use Rattle.scene_sync.specs.Calls.{CountsUpTo, after_call, after_calls, call_for, call_in, more_calls};
+ghost use Rattle.scene_sync.specs.Calls.{CountsUpTo, after_call, after_calls, call_in, calls_in, more_calls};
 
 use crate::fault::PaintFault;
 use chart_model::PanelKey;
@@ -16,31 +16,10 @@ use std::alloc::Global;
 pub(crate) enum Call {
     /// All blocks are taken out.
     Clear,
-    /// Under this key the panel is to show what the target has there: its block, or none.
-    Show(PanelKey),
-}
-
-/// Shows what the target has under a key: its block is put, or where it has none, the one that is shown is taken out.
-fn show(
-    alloc: Global,
-    panel: &mut dyn Panel,
-    target: &BlockMap,
-    key: PanelKey,
-) -> Result<(), PaintFault>
-    ensures shown { OnOk result (scene panel.new
-        ≡ after_call (tells panel.old) (call_for target.now key) (scene panel.old)) }
-    ensures tells { tells panel.new ≡ tells panel.old }
-    ensures counted { OnOk result (calls panel.new ≡ one_more (calls panel.old)) }
-    ensures at_most { CountsUpTo 1 (calls panel.old) (calls panel.new) }
-
-    ensures later { faults panel.old ≤ faults panel.new }
-    ensures failed { IsErrOf result PaintFault.Panel → Rose (faults panel.old) (faults panel.new) }
-{
-    match target.get(key) {
-        Some(block) => panel.put(alloc, key, block.copy(alloc)?)?,
-        None => panel.take(&key)?,
-    }
-    Ok(())
+    /// The target's entry at this place is put.
+    Put(usize),
+    /// The block under this key is taken out.
+    Take(PanelKey),
 }
 
 /// Makes a call.
@@ -50,8 +29,9 @@ fn make_call(
     target: &BlockMap,
     call: Call,
 ) -> Result<(), PaintFault>
-    ensures shown { OnOk result (scene panel.new
-        ≡ after_call (tells panel.old) (call_in target.now call) (scene panel.old)) }
+    requires { IsSome (call_in target.now call) }
+    ensures shown { IfSome (call_in target.now call) (λ made.
+        OnOk result (scene panel.new ≡ after_call (tells panel.old) made (scene panel.old))) }
     ensures tells { tells panel.new ≡ tells panel.old }
     ensures counted { OnOk result (calls panel.new ≡ one_more (calls panel.old)) }
     ensures at_most { CountsUpTo 1 (calls panel.old) (calls panel.new) }
@@ -60,12 +40,14 @@ fn make_call(
     ensures failed { IsErrOf result PaintFault.Panel → Rose (faults panel.old) (faults panel.new) }
 {
     match call {
-        Call::Clear => {
-            panel.clear()?;
-            Ok(())
+        Call::Clear => panel.clear()?,
+        Call::Put(place) => {
+            let (key, block) = &target.as_slice()[place];
+            panel.put(alloc, *key, block.copy(alloc)?)?;
         }
-        Call::Show(key) => show(alloc, panel, target, key),
+        Call::Take(key) => panel.take(&key)?,
     }
+    Ok(())
 }
 
 /// Makes these calls in order, up to the first that fails.
@@ -75,8 +57,9 @@ pub(crate) fn make_calls(
     target: &BlockMap,
     next: &[Call],
 ) -> Result<(), PaintFault>
+    requires { All (λ call. IsSome (call_in target.now call)) next.now }
     ensures shown { OnOk result (scene panel.new
-        ≡ after_calls (tells panel.old) (map (call_in target.now) next.now) (scene panel.old)) }
+        ≡ after_calls (tells panel.old) (calls_in target.now next.now) (scene panel.old)) }
     ensures untouched { OnOk result (next.now ≡ [] → panel.new ≡ panel.old) }
     ensures tells { tells panel.new ≡ tells panel.old }
     ensures counted { OnOk result (calls panel.new ≡ more_calls (length next.now) (calls panel.old)) }

@@ -3,9 +3,9 @@
 //! Its calls are fixed when it begins, so what changes meanwhile waits for the next one. The blocks that were shown
 //! before are kept up to the last call, and the target too: neither is copied.
 
-ghost use Rattle.std.specs.Prelude.{◌≡◌, ◌≤◌, length, map};
-ghost use Rattle.std.specs.Coded.{Coded-set, coded_list};
-ghost use Rattle.scene_sync.specs.Calls.{call_code, call_in, calls_for};
+ghost use Rattle.std.specs.Prelude.{◌≡◌, ◌≤◌, length};
+ghost use Rattle.std.specs.Coded.{Coded-set, coded_list, coded_option};
+ghost use Rattle.scene_sync.specs.Calls.{StandFor, call_code, calls_for};
 
 use crate::call::{Call, make_calls};
 use crate::change::calls_for;
@@ -23,15 +23,16 @@ pub(crate) struct Refresh {
     calls: Vec<Call>,
     made: usize,
     ghost within: { made ≤ length calls.items },
-    ghost planned: { map (call_in target) calls.items
-        ≡ calls_for before target } by { Coded-set (coded_list call_code) _ _ },
+    // Each names an entry of the target or a key, so that none is in vain.
+    ghost planned: { StandFor target calls.items
+        (calls_for before target) } by { Coded-set (coded_list (coded_option call_code)) _ _ },
 }
 
 impl Refresh {
-    ghost use Rattle.std.specs.Prelude.{◌↔◌, ◌+◌, [], IfOk, IsTrue, IsErrOf, OnOk, is_none, nat_eq};
+    ghost use Rattle.std.specs.Prelude.{[], IfOk, IsErrOf, OnOk, is_none};
     ghost use Rattle.chart_ports.specs.Count.{Rose};
     ghost use Rattle.scene_sync.specs.Calls.{CountsUpTo, after_calls, more_calls};
-    ghost use Rattle.scene_sync.specs.Scene.{advanced, calls_in, next_calls, shown_by, under_way_in};
+    ghost use Rattle.scene_sync.specs.Scene.{advanced, is_finished, next_calls, progress_of, shown_by, under_way_in};
 
     /// A refresh of which no call was made.
     pub fn planned(
@@ -82,7 +83,7 @@ impl Refresh {
 
     /// How far it has come.
     pub fn progress(&self) -> Progress
-        ensures { result ≡ record { done = self.now.made; calls = length self.now.calls.items } }
+        ensures { result ≡ progress_of (under_way_in self.now) }
     {
         Progress {
             done: self.made as u64,
@@ -92,7 +93,7 @@ impl Refresh {
 
     /// Whether all its calls were made.
     pub fn is_finished(&self) -> bool
-        ensures { result ≡ nat_eq self.now.made (length self.now.calls.items) }
+        ensures { result ≡ is_finished (under_way_in self.now) }
     {
         self.made == self.calls.len()
     }

@@ -3,7 +3,7 @@
 use super::shared::{Cells, Kinds, Line, NOTHING, Told, cells, turn};
 use super::watched_panel::WatchedPanel;
 use chart_ports::{Calls, FailingCalls};
-use panel_port::{BlockMap, CountingPanel, FailingPanel, MemoryPanel, Panel};
+use panel_port::{CountingPanel, FailingPanel, MemoryPanel, Panel, ShownBlocks};
 use panel_scenes::{PanelRefusal, PanelScenes};
 use std::alloc::{AllocError, Global};
 use std::cell::RefCell;
@@ -93,7 +93,7 @@ fn old_panel(
     faults: u64,
     failing: FailingCalls,
 ) -> Result<Box<dyn Panel>, AllocError> {
-    let blocks = Rc::new(alloc, RefCell::new(BlockMap::new(alloc)))?;
+    let blocks = Rc::new(alloc, RefCell::new(ShownBlocks::new(alloc)))?;
     let calls = Calls {
         failing,
         made,

@@ -7,7 +7,7 @@
 use super::shared::{Cells, Kinds, Line, NOTHING, Told, blocks, cells, turn};
 use super::watched_panel::{Watched, WatchedPanel};
 use chart_ports::{Calls, FailingCalls};
-use panel_port::{BlockMap, Panel};
+use panel_port::{BlockMap, Panel, ShownBlocks};
 use panel_scenes::{PanelRefusal, PanelScenes};
 use std::alloc::{AllocError, Global};
 use std::cell::RefCell;
@@ -102,17 +102,19 @@ impl Known {
         };
         let wanted = blocks(alloc, cells, kinds)?;
         match self.blocks.try_borrow() {
-            Ok(blocks) => Ok(are_equal(&blocks, &wanted)),
+            Ok(blocks) => Ok(shows(&blocks, &wanted)),
             Err(_) => Ok(false),
         }
     }
 }
 
-fn are_equal(one: &BlockMap, other: &BlockMap) -> bool {
-    one.len() == other.len()
-        && one
+/// Whether exactly these blocks are shown.
+fn shows(shown: &ShownBlocks, wanted: &BlockMap) -> bool {
+    shown.len() == wanted.len()
+        && wanted
+            .as_slice()
             .iter()
-            .all(|(key, block)| other.get(*key) == Some(block))
+            .all(|(key, block)| shown.get(*key) == Some(block))
 }
 
 /// The panels, and what is known of each.
@@ -129,7 +131,7 @@ impl Panels {
         let mut panels: Vec<Box<dyn Panel>> = Vec::new(alloc);
         let mut known = Vec::new(alloc);
         for (failing, made) in [(NEVER.as_slice(), u64::MAX - 20), (failing, 0)] {
-            let blocks = Rc::new(alloc, RefCell::new(BlockMap::new(alloc)))?;
+            let blocks = Rc::new(alloc, RefCell::new(ShownBlocks::new(alloc)))?;
             let calls = Calls {
                 failing: FailingCalls::from_vec(Vec::from_slice(alloc, failing)?),
                 made,

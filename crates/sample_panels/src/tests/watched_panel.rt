@@ -7,13 +7,13 @@ ghost use Rattle.std.specs.Prelude.{None, false};
 
 use chart_model::{Block, PanelKey};
 use chart_ports::Calls;
-use panel_port::{BlockMap, Panel, PanelError, Summary};
+use panel_port::{Panel, PanelError, ShownBlocks, Summary};
 use std::alloc::Global;
 use std::cell::RefCell;
 use std::rc::Rc;
 
 /// The blocks of a panel, which the panel and the test hold.
-pub type Watched = Rc<RefCell<BlockMap>>;
+pub type Watched = Rc<RefCell<ShownBlocks>>;
 
 /// A panel that puts its blocks where the test finds them, and fails at the calls on a list: then the blocks stay. As
 /// its summary it answers how many calls were made, and how many of them failed.

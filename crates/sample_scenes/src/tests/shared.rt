@@ -4,7 +4,7 @@ ghost use Rattle.std.specs.Prelude.{◌≡◌, ◌≤◌};
 
 use chart_model::codes::FEATURE;
 use chart_model::{Block, Geom, Item, ItemList, Key, Name, Octets, PanelKey, Target};
-use panel_port::{BlockMap, Panel};
+use panel_port::{BlockMap, Panel, ShownBlocks};
 use scene_sync::{PaintFault, Progress, Scene};
 use std::alloc::{AllocError, Global};
 use std::test::Fail;
@@ -45,14 +45,14 @@ pub fn blocks(alloc: Global, cell: Key, rows: &[Row]) -> Result<BlockMap, AllocE
 }
 
 /// Whether exactly these features are shown.
-pub fn shows(scene: Option<&BlockMap>, cell: Key, rows: &[Row]) -> bool {
+pub fn shows(scene: Option<&ShownBlocks>, cell: Key, rows: &[Row]) -> bool {
     match scene {
         Some(shown) => shown.len() == rows.len() && rows.iter().all(|row| has(shown, cell, *row)),
         None => false,
     }
 }
 
-fn has(shown: &BlockMap, cell: Key, (rcid, items): Row) -> bool {
+fn has(shown: &ShownBlocks, cell: Key, (rcid, items): Row) -> bool {
     match shown.get(key_of(cell, rcid)) {
         Some(block) => block.items.as_slice().len() == items,
         None => false,

@@ -1,14 +1,11 @@
-use Rattle.std.proofs.Common.{◌≡◌, Bool, true, ◌&&◌, not, Option, Some, None, is_none, is_some, nat_eq, take, ap, sym, ◌∙◌}
-use Rattle.scene_sync.specs.Calls.{after_calls}
+use Rattle.std.proofs.Common.{◌≡◌, Bool, ◌&&◌, not, Option, Some, None, is_none, is_some, nat_eq, ap, sym, ◌∙◌}
 use Rattle.scene_sync.specs.Scene.{shown_by}
 use Rattle.scene_sync.specs.declared.refresh.Refresh.{Refresh}
 use Rattle.scene_sync.proofs.Shows.{not-known}
 use Rattle.scene_sync.proofs.refresh.Refresh.is_blind.Goals as goal
 
 blind : (refresh : Refresh) → is_none (shown_by refresh) ≡ (is_none refresh.before && nat_eq refresh.made 0)
-blind refresh =
-    ap (λ calls. is_none (after_calls true (take refresh.made calls) refresh.before)) refresh.planned
-    ∙ not-known refresh.before refresh.target refresh.made
+blind refresh = not-known refresh.before refresh.target refresh.made
 
 unknown : {X : Type 0} (o : Option X) {b : Bool} → is_some o ≡ b → is_none o ≡ not b
 unknown None there = ap not there
