@@ -1,7 +1,7 @@
 -- What is said is in its range.
-use Rattle.std.proofs.Common.{◌≡◌, ℕ, ◌≤◌, ℤ, pos, ◌≤ℤ◌, Bool, List, [], ◌∷◌, Option, Some, None, refl, ap, subst}
+use Rattle.std.proofs.Common.{◌≡◌, ℕ, ◌≤◌, ℤ, pos, ◌≤ℤ◌, Bool, List, [], ◌∷◌, Option, Some, None, refl, ap, subst, sym}
 use Rattle.std.proofs.Common.{arith}
-use Rattle.std.specs.Prelude.{Result, Ok, Err, IfOk, option_map, codes}
+use Rattle.std.specs.Prelude.{Result, Ok, Err, IfOk, IfSome, option_map, codes}
 use Rattle.common_lemmas.proofs.Choices.{some_is}
 use Rattle.command_words.specs.declared.fault.WordsFault.{WordsFault}
 use Rattle.command_words.specs.declared.reading.Words.{Words}
@@ -76,6 +76,10 @@ in_range found settings e = all_in_range (depth_in defaults.safety_contour (code
     (λ x h. said_depth (pos 3000) x (first_of (codes "deep") found) (within 0 1000000 3000 (omega arith) (omega arith)) h)
     (λ n h. said_scale n (first_of (codes "scale") found) h)
     e
+
+pub settings_in_range : (found : List Row) (settings : Option Settings) → settings ≡ settings_in found → IfSome settings AreInRange
+settings_in_range found None e = tt
+settings_in_range found (Some settings) e = in_range found settings (sym e)
 
 said_by : (kinds : Kinds) (o : Option WordsValue) (said : WordsValue) → where_none kinds o ≡ Some said → o ≡ Some said
 said_by [] o said e = e

@@ -17,4 +17,6 @@ pub use laws::{
     defaults_stand_alone, depths_are_set, looks_are_set, numbers_are_spelled,
     other_words_are_refused, settings_are_in_their_ranges,
 };
+pub use numbers::number_within;
 pub use reading::{Words, read_words};
+pub use values::{settings, text_of};

@@ -3,9 +3,9 @@
 //! Each value is a text to `clap`, which would take more spellings of a number (`+1`, `007`), and is read here. The
 //! defaults stand here too: an option that isn't among the words has no text, and `clap` makes none up.
 
-ghost use Rattle.std.specs.Prelude.{◌≡◌, codes, option_map};
+ghost use Rattle.std.specs.Prelude.{◌≡◌, codes, option_map, IfSome};
 ghost use Rattle.clap.specs.Words.{first_of, found_of, rows_of};
-ghost use Rattle.command_words.specs.Settings.{centimetres_of, defaults, is_set, scale_of, shades_of};
+ghost use Rattle.command_words.specs.Settings.{AreInRange, centimetres_of, defaults, is_set, scale_of, shades_of};
 ghost use Rattle.command_words.specs.Reading.{depth_in, scale_in, settings_in, shades_in};
 
 use crate::numbers::number_within;
@@ -104,9 +104,9 @@ fn has_pattern(matches: &ArgMatches) -> bool
     }
 }
 
-/// The settings, where each value is in its range.
+/// The settings that the values say.
 #[tactic(auto, unfolding(crate::specs::Reading::settings_in))]
-pub fn settings(matches: &ArgMatches) -> Option<Settings>
+fn settings_in(matches: &ArgMatches) -> Option<Settings>
     ensures { result ≡ settings_in (rows_of (found_of matches.now)) }
 {
     Some(Settings {
@@ -118,4 +118,12 @@ pub fn settings(matches: &ArgMatches) -> Option<Settings>
         pattern: has_pattern(matches),
         scale: scale_or_default(matches)?,
     })
+}
+
+/// The settings, where each value is in its range.
+pub fn settings(matches: &ArgMatches) -> Option<Settings>
+    ensures value { result ≡ settings_in (rows_of (found_of matches.now)) }
+    ensures ranges { IfSome result AreInRange }
+{
+    settings_in(matches)
 }

@@ -23,3 +23,4 @@ pub use fault::TurnFault;
 pub use laws::{targets_are_the_blocks_of_charts, turns_follow_their_commands};
 pub use refusal::LineRefusal;
 pub use session::Session;
+pub use upkeep::all_grids;

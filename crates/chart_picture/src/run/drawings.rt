@@ -1,0 +1,79 @@
+//! The charts that are held, with their drawings.
+
+ghost use Rattle.std.specs.Prelude.{◌≡◌, map, IfOk};
+ghost use Rattle.draw_list.specs.Drawing.{drawing_of};
+ghost use Rattle.chart_picture.specs.Charts.{value_of_drawn, value_of_chart, charts_in};
+
+use chart_model::{Cell, HoldingMap, Key, Settings};
+use chart_ports::Steps;
+use chart_svg::Chart;
+use draw_list::{DrawList, draw_cell};
+use lookup_table::Table;
+use std::alloc::{AllocError, Global};
+use std::sync::ledger::Ledger;
+use topology_cache::users_of;
+
+/// A chart that is held, under its key, and its drawing.
+#[derive(Debug, Drop)]
+pub struct DrawnCell<'a> {
+    pub key: Key,
+    pub cell: &'a Cell,
+    pub drawing: DrawList,
+}
+
+/// The drawing of a cell.
+fn drawing_of<C: Ledger>(
+    alloc: Global,
+    cell: &Cell,
+    table: &Table,
+    settings: &Settings,
+    steps: &mut Steps<C>,
+) -> Result<DrawList, AllocError>
+    ensures { IfOk result (λ drawing. drawing ≡ drawing_of cell.now table.now settings.now) }
+{
+    let users = users_of(alloc, cell, steps)?;
+    draw_cell(alloc, cell, &users, table, settings)
+}
+
+/// The charts that are held with their drawings, in the order of their keys.
+pub fn drawn_cells<'a, C: Ledger>(
+    alloc: Global,
+    cells: &'a HoldingMap,
+    table: &Table,
+    settings: &Settings,
+    steps: &mut Steps<C>,
+) -> Result<Vec<DrawnCell<'a>>, AllocError>
+    ensures { IfOk result (λ drawn.
+        map value_of_drawn drawn.items ≡ charts_in table.now settings.now cells.now) }
+{
+    let mut drawn = Vec::new(alloc);
+    for (key, holding) in cells.iter() {
+        if let Some(cell) = holding.chart.as_ref() {
+            let drawing = drawing_of(alloc, cell, table, settings, steps)?;
+            drawn.push(DrawnCell {
+                key: *key,
+                cell,
+                drawing,
+            })?;
+        }
+    }
+    Ok(drawn)
+}
+
+/// The same charts, as they are drawn.
+pub fn charts_of<'a>(
+    alloc: Global,
+    drawn: &'a [DrawnCell<'a>],
+) -> Result<Vec<Chart<'a>>, AllocError>
+    ensures { IfOk result (λ charts. map value_of_chart charts.items ≡ map value_of_drawn drawn.now) }
+{
+    let mut charts = Vec::new(alloc);
+    for each in drawn {
+        charts.push(Chart {
+            key: each.key,
+            cell: each.cell,
+            drawing: &each.drawing,
+        })?;
+    }
+    Ok(charts)
+}
