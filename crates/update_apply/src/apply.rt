@@ -19,28 +19,9 @@ use chart_model::codes::{DELETE, FEATURE, INSERT};
 use chart_model::{Cell, FeatureMap, UpdateRecord, VectorMap};
 use std::alloc::{AllocError, Global};
 
-/// Changes a vector record of a cell. Where there is no memory nothing changes.
+/// Changes a vector record of a cell by a change that is given away: a record that it inserts takes over its lists.
+/// Where there is no memory nothing changes.
 fn change_vectors(
-    alloc: Global,
-    vectors: &mut VectorMap,
-    change: &UpdateRecord,
-) -> Result<(), AllocError>
-    requires { spec.fault_by (option_map spec.held_vector (map.get vectors.old change.now.target)) change.now ≡ None }
-    ensures ok { OnOk result (vectors.new ≡ records_after inserted_vector modified_vector vectors.old change.now) }
-    ensures err { OnErr result (vectors.new ≡ vectors.old) }
-{
-    match change.ruin {
-        INSERT => {
-            let vector = inserted_vector(alloc, copy_of(change)?)?;
-            vectors.insert_new(change.target, vector)
-        }
-        DELETE => vectors.remove(change.target),
-        _ => vectors.edit(change.target, Modification { alloc, change }),
-    }
-}
-
-/// The same by a change that is given away: a vector record that it inserts takes over its lists.
-fn change_vectors_owned(
     alloc: Global,
     vectors: &mut VectorMap,
     change: UpdateRecord,
@@ -49,36 +30,25 @@ fn change_vectors_owned(
     ensures ok { OnOk result (vectors.new ≡ records_after inserted_vector modified_vector vectors.old change) }
     ensures err { OnErr result (vectors.new ≡ vectors.old) }
 {
-    if change.ruin != INSERT {
-        return change_vectors(alloc, vectors, &change);
-    }
     let name = change.target;
-    let vector = inserted_vector(alloc, change)?;
-    vectors.insert_new(name, vector)
-}
-
-/// Changes a feature record of a cell. Where there is no memory nothing changes.
-fn change_features(
-    alloc: Global,
-    features: &mut FeatureMap,
-    change: &UpdateRecord,
-) -> Result<(), AllocError>
-    requires { spec.fault_by (option_map spec.held_feature (map.get features.old change.now.target)) change.now ≡ None }
-    ensures ok { OnOk result (features.new ≡ records_after inserted_feature modified_feature features.old change.now) }
-    ensures err { OnErr result (features.new ≡ features.old) }
-{
     match change.ruin {
         INSERT => {
-            let feature = inserted_feature(alloc, copy_of(change)?)?;
-            features.insert_new(change.target, feature)
+            let vector = inserted_vector(alloc, change)?;
+            vectors.insert_new(name, vector)
         }
-        DELETE => features.remove(change.target),
-        _ => features.edit(change.target, Modification { alloc, change }),
+        DELETE => vectors.remove(name),
+        _ => vectors.edit(
+            name,
+            Modification {
+                alloc,
+                change: &change,
+            },
+        ),
     }
 }
 
-/// The same by a change that is given away: a feature that it inserts takes over its lists.
-fn change_features_owned(
+/// The same of a feature record.
+fn change_features(
     alloc: Global,
     features: &mut FeatureMap,
     change: UpdateRecord,
@@ -87,21 +57,37 @@ fn change_features_owned(
     ensures ok { OnOk result (features.new ≡ records_after inserted_feature modified_feature features.old change) }
     ensures err { OnErr result (features.new ≡ features.old) }
 {
-    if change.ruin != INSERT {
-        return change_features(alloc, features, &change);
-    }
     let name = change.target;
-    let feature = inserted_feature(alloc, change)?;
-    features.insert_new(name, feature)
+    match change.ruin {
+        INSERT => {
+            let feature = inserted_feature(alloc, change)?;
+            features.insert_new(name, feature)
+        }
+        DELETE => features.remove(name),
+        _ => features.edit(
+            name,
+            Modification {
+                alloc,
+                change: &change,
+            },
+        ),
+    }
 }
 
-/// Judges a change of a cell, and takes what it may move from the budget of moves.
+/// Judges a change of a cell, and takes what it may move from the budget of moves. It changes nothing of the cell.
 ///
 /// # Errors
 ///
 /// The first fault of the change; `NoMemory` where there is none and the budget is spent.
-fn judge(cell: &Cell, change: &UpdateRecord, moves: &mut Moves) -> Result<(), ChangeFault>
+pub fn judge_change(
+    cell: &Cell,
+    change: &UpdateRecord,
+    moves: &mut Moves,
+) -> Result<(), ChangeFault>
     ensures fault { spec.Judges result (spec.fault_of cell.now change.now) }
+    ensures passes { OnOk result (spec.fault_of cell.now change.now ≡ None) }
+
+    // A change that passes spends what it may move, and is within what was left; no other spends anything.
     ensures spent { OnOk result (moves.old
         ≡ moves.new + cost_of (spec.held_under cell.now change.now.target) change.now) }
     ensures unspent { OnErr result (moves.new ≡ moves.old) }
@@ -113,57 +99,18 @@ fn judge(cell: &Cell, change: &UpdateRecord, moves: &mut Moves) -> Result<(), Ch
     moves.take(held, change).map_err(|_| ChangeFault::NoMemory)
 }
 
-/// Makes a change of one record to a cell, as far as the budget of moves lets it. On any refusal the cell is as it
-/// was.
-///
-/// The fault that is told is the first of the change; want of memory comes only where there is none.
-pub fn apply_within(
-    alloc: Global,
-    cell: &mut Cell,
-    change: &UpdateRecord,
-    moves: &mut Moves,
-) -> Result<(), ChangeFault>
-    ensures ok { OnOk result (cell.new ≡ cell_after cell.old change.now) }
+/// Makes a change that has no fault, and is given away: a record that it inserts takes over its lists. Where there is
+/// no memory the cell is as it was.
+pub fn make_change(alloc: Global, cell: &mut Cell, change: UpdateRecord) -> Result<(), AllocError>
+    requires { spec.fault_of cell.old change ≡ None }
+    ensures ok { OnOk result (cell.new ≡ cell_after cell.old change) }
     ensures err { OnErr result (cell.new ≡ cell.old) }
-    ensures fault { spec.Judges result (spec.fault_of cell.old change.now) }
-
-    // A change that is made spends what it may move, and is within what was left; no other spends more.
-    ensures spent { OnOk result (moves.old
-        ≡ moves.new + cost_of (spec.held_under cell.old change.now.target) change.now) }
-    ensures no_more { OnErr result (moves.new ≤ moves.old) }
 {
-    judge(cell, change, moves)?;
-    let done = if change.target.rcnm == FEATURE {
+    if change.target.rcnm == FEATURE {
         change_features(alloc, &mut cell.features, change)
     } else {
         change_vectors(alloc, &mut cell.vectors, change)
-    };
-    done.map_err(|_| ChangeFault::NoMemory)
-}
-
-/// Makes a change of one record that is given away, as [`apply_within`] does: a record that it inserts takes over its
-/// lists.
-pub fn apply_owned(
-    alloc: Global,
-    cell: &mut Cell,
-    change: UpdateRecord,
-    moves: &mut Moves,
-) -> Result<(), ChangeFault>
-    ensures ok { OnOk result (cell.new ≡ cell_after cell.old change) }
-    ensures err { OnErr result (cell.new ≡ cell.old) }
-    ensures fault { spec.Judges result (spec.fault_of cell.old change) }
-
-    // A change that is made spends what it may move, and is within what was left; no other spends more.
-    ensures spent { OnOk result (moves.old ≡ moves.new + cost_of (spec.held_under cell.old change.target) change) }
-    ensures no_more { OnErr result (moves.new ≤ moves.old) }
-{
-    judge(cell, &change, moves)?;
-    let done = if change.target.rcnm == FEATURE {
-        change_features_owned(alloc, &mut cell.features, change)
-    } else {
-        change_vectors_owned(alloc, &mut cell.vectors, change)
-    };
-    done.map_err(|_| ChangeFault::NoMemory)
+    }
 }
 
 /// Makes a change of one record to a cell. On any refusal the cell is as it was.
@@ -181,5 +128,9 @@ pub fn apply_record(
     // A change that may move more items than the budget of a whole file isn't made.
     ensures within { OnOk result (cost_of (spec.held_under cell.old change.now.target) change.now ≤ 268435456) }
 {
-    apply_within(alloc, cell, change, &mut Moves::of_file())
+    judge_change(cell, change, &mut Moves::of_file())?;
+    let Ok(copy) = copy_of(change) else {
+        return Err(ChangeFault::NoMemory);
+    };
+    make_change(alloc, cell, copy).map_err(|_| ChangeFault::NoMemory)
 }

@@ -12,7 +12,8 @@ mod laws;
 mod moves;
 mod record;
 
-pub use apply::{apply_owned, apply_record, apply_within};
+pub use apply::{apply_record, judge_change, make_change};
 pub use fault::ChangeFault;
 pub use laws::{cells_are_kept, headers_are_kept, one_cell_follows};
 pub use moves::Moves;
+pub use record::copy_of;

@@ -1,10 +1,9 @@
 -- Changes, one after the other.
-use Rattle.std.proofs.Common.{arith, ◌≡◌, ◌≢◌, ℕ, ◌+◌, ◌<◌, List, [], ◌∷◌, ◌++◌, length, get_or, drop, Option, Some, None, Result, Ok, Err, refl, sym, ◌∙◌, ap}
+use Rattle.std.proofs.Common.{◌≡◌, ◌≢◌, List, [], ◌∷◌, ◌++◌, Option, Some, None, Result, Ok, Err, refl, sym, ◌∙◌, ap}
 use Rattle.std.specs.Option.{option_map}
 use Rattle.chart_model.specs.Cell.{CellValue}
 use Rattle.chart_model.specs.Change.{Change}
-use Rattle.update_apply.specs.Fault.{Judges, fault_of, held_under}
-use Rattle.update_apply.specs.Moves.{cost_of}
+use Rattle.update_apply.specs.Fault.{Judges, fault_of}
 use Rattle.update_apply.specs.Changed.{cell_after}
 use Rattle.update_apply.specs.declared.fault.ChangeFault.{ChangeFault}
 use Rattle.update_apply.specs.declared.fault.ChangeFault.TheVariants as of_change
@@ -13,8 +12,6 @@ use Rattle.update_sequence.specs.declared.fault.BuildFault.TheVariants as of_bui
 use Rattle.update_sequence.specs.Answers.{GivesBuilt, fault_of_change}
 use Rattle.chart_model.specs.Answers.{unless, ◌>>=◌}
 use Rattle.update_sequence.specs.Built.{folded, folded_after}
-use Rattle.update_sequence.specs.Moves.{MOST_MOVES, moves_of}
-use Rattle.update_sequence.proofs.Places.{from_place}
 
 -- what a change and those after it make, by the fault of the change
 abbrev pub after_change : CellValue → Change → List Change → Option ChangeFault → Result CellValue BuildFault
@@ -50,14 +47,13 @@ folded-append cell (change ∷ first) rest =
     (λ i. made >>= (λ after. folded-append after first rest i))
     ∙ bind-bind made (λ after. folded after first) (λ after. folded after rest)
 
-pub folded-made : (cell after : CellValue) (changes : List Change) (i : ℕ) (change : Change) → i < length changes → change ≡ get_or changes i change →
-    None ≡ fault_of cell change → after ≡ cell_after cell change
-    → folded after (drop (i + 1) changes) ≡ folded cell (drop i changes)
-folded-made cell after changes i change h e none made =
-    ap (λ (x : CellValue). folded x (drop (i + 1) changes)) made
-    ∙ ap (after_change cell change (drop (i + 1) changes)) none
-    ∙ sym (folded-cons cell change (drop (i + 1) changes))
-    ∙ ap (folded cell) (sym (from_place changes i change h e))
+-- a change that has no fault is made
+pub folded-step : (cell after : CellValue) (change : Change) (rest : List Change) → None ≡ fault_of cell change →
+    after ≡ cell_after cell change → folded cell (change ∷ rest) ≡ folded after rest
+folded-step cell after change rest none made =
+    folded-cons cell change rest
+    ∙ ap (after_change cell change rest) (sym none)
+    ∙ ap (λ (x : CellValue). folded x rest) (sym made)
 
 -- a fault of a change that is told is one of the chart
 as-change : (fault : ChangeFault) → fault_of_change fault ≢ of_build.NoMemory → of_build.Change fault ≡ fault_of_change fault
@@ -75,24 +71,3 @@ pub folded-refused : (cell : CellValue) (change : Change) (rest : List Change) (
     → GivesBuilt {X = CellValue} (Err (fault_of_change fault)) (folded cell (change ∷ rest))
 folded-refused cell change rest fault found =
     rw (folded-cons cell change rest) (refused_first fault (fault_of cell change) cell change rest found)
-
-pub folded-refused_at : (cell : CellValue) (changes : List Change) (i : ℕ) (change : Change) (fault : ChangeFault) → i < length changes → change ≡ get_or changes i change →
-    Judges (Err fault) (fault_of cell change) → GivesBuilt {X = CellValue} (Err (fault_of_change fault)) (folded cell (drop i changes))
-folded-refused_at cell changes i change fault h e found =
-    rw (from_place changes i change h e) (folded-refused cell change (drop (i + 1) changes) fault found)
-
--- ---- moves
-
--- what all changes may move is what those from a place on may move and what is spent, and so at the next place
-pub moves_of-made : (cell after : CellValue) (changes : List Change) (i left next total : ℕ) (change : Change)
-    → i < length changes → change ≡ get_or changes i change → after ≡ cell_after cell change
-    → left ≡ next + cost_of (held_under cell change.target) change
-    → total + left ≡ moves_of cell (drop i changes) + MOST_MOVES
-    → total + next ≡ moves_of after (drop (i + 1) changes) + MOST_MOVES
-moves_of-made cell after changes i left next total change h e made spent before =
-    let cost : ℕ = cost_of (held_under cell change.target) change in
-    let here : moves_of cell (drop i changes) ≡ cost + moves_of (cell_after cell change) (drop (i + 1) changes) =
-    ap (moves_of cell) (from_place changes i change h e) in
-    let there : moves_of after (drop (i + 1) changes) ≡ moves_of (cell_after cell change) (drop (i + 1) changes) =
-    ap (λ (x : CellValue). moves_of x (drop (i + 1) changes)) made in
-    omega (arith, here, there, spent, before)

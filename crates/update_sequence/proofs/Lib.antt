@@ -4,6 +4,7 @@ mod Lists
 mod Places
 mod Folding
 mod Charts
+mod Drafts
 mod Rebuilding
 mod Sequences
 mod SequenceTests
@@ -11,6 +12,7 @@ pub mod Accepted
 mod Held
 mod OneName
 mod LocalChanges
+mod Asked
 mod OtherRecords
 mod NamedRecords
 mod NameLists

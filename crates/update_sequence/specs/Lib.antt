@@ -7,4 +7,5 @@ pub mod Moves
 pub mod Rebuilt
 pub mod Sequence
 pub mod Extended
+pub mod Draft
 pub mod Others

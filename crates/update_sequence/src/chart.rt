@@ -1,23 +1,20 @@
 //! The chart that a data set builds.
 //!
-//! Changes that are given away become records, and are not copied; those of an update are lent,
-//! since the names that it changes are asked for later.
+//! Changes are judged while they are lent, and then given away: the records that they insert take over their lists.
 
 ghost use Rattle.std.specs.Prelude.{◌≡◌, ◌↔◌, ◌≤◌, true, false, None, IfOk, OnOk};
-ghost use Rattle.std.specs.Option.{option_copied, option_map};
-ghost use Rattle.chart_closure.specs.Closed.{closure_fault};
-ghost use Rattle.chart_model.specs.Answers.{unless};
+ghost use Rattle.std.specs.Option.{option_copied};
 ghost use Rattle.chart_model.specs.Cell.{IsChartHeader};
 ghost use Rattle.update_sequence.specs.Answers.{GivesBuilt};
-ghost use Rattle.update_sequence.specs.declared.fault.BuildFault.TheVariants as of_build;
 ghost use Rattle.update_sequence.specs.Built.{begun, built, folded, header_after};
 ghost use Rattle.update_sequence.specs.Moves.{MOST_MOVES, moves_of};
 
+use crate::draft::Draft;
 use crate::fault::BuildFault;
-use chart_closure::check;
 use chart_model::{Cell, ChangeList, Dataset, Header, UpdateRecord};
 use std::alloc::{AllocError, Global};
-use update_apply::{Moves, apply_owned, apply_within};
+use std::collections::VecDeque;
+use update_apply::{Moves, copy_of, judge_change, make_change};
 
 /// The header of a chart after an update: key, agency and scale of the base; edition, update and date
 /// of issue of the update.
@@ -45,53 +42,40 @@ pub(crate) fn begin(alloc: Global, chart: Option<Cell>, header: &Header) -> Cell
     cell
 }
 
-/// Makes the changes, one after the other. Where they would move more items of lists than the budget of a file has,
-/// memory is wanting.
+/// Makes the changes, one after the other. Where they would move more items of lists than the budget lets them, memory
+/// is wanting.
 #[tactic(auto, unfolding(crate::specs::Built::folded))]
 pub(crate) fn make_all(
     alloc: Global,
     cell: Cell,
-    changes: &[UpdateRecord],
+    changes: VecDeque<UpdateRecord>,
+    moves: Moves,
 ) -> Result<Cell, BuildFault>
-    ensures made { GivesBuilt result (folded cell changes.now) }
-    ensures within { OnOk result (moves_of cell changes.now ≤ MOST_MOVES) }
+    ensures made { GivesBuilt result (folded cell changes.items) }
+    ensures within { OnOk result (moves_of cell changes.items ≤ moves) }
 {
     let mut cell = cell;
-    let mut moves = Moves::of_file();
+    let mut moves = moves;
     for change in changes {
-        apply_within(alloc, &mut cell, change, &mut moves)?;
+        judge_change(&cell, &change, &mut moves)?;
+        make_change(alloc, &mut cell, change)?;
     }
     Ok(cell)
 }
 
-/// The same by changes that are given away: the records that they insert take over their lists.
-#[tactic(auto, unfolding(crate::specs::Built::folded))]
-pub(crate) fn make_all_owned(
-    alloc: Global,
-    cell: Cell,
-    changes: ChangeList,
-) -> Result<Cell, BuildFault>
-    ensures made { GivesBuilt result (folded cell changes) }
-    ensures within { OnOk result (moves_of cell changes ≤ MOST_MOVES) }
+/// Equal changes.
+fn copies_of(alloc: Global, changes: &[UpdateRecord]) -> Result<ChangeList, AllocError>
+    ensures { IfOk result (λ copies. copies ≡ changes.now) }
 {
-    let mut cell = cell;
-    let mut moves = Moves::of_file();
-    for change in changes.into_vec() {
-        apply_owned(alloc, &mut cell, change, &mut moves)?;
+    let mut copies = Vec::with_capacity(alloc, changes.len())?;
+    for change in changes {
+        copies.push(copy_of(change)?)?;
     }
-    Ok(cell)
-}
-
-/// The chart that changes have left, where it is closed. It takes no memory.
-fn closed(cell: Cell) -> Result<Cell, BuildFault>
-    ensures { GivesBuilt result (unless (option_map of_build.Closure (closure_fault cell)) cell) }
-{
-    check(&cell)?;
-    Ok(cell)
+    Ok(ChangeList::from_vec(copies))
 }
 
 /// A copy of the chart that is held.
-fn copy_of(alloc: Global, chart: Option<&Cell>) -> Result<Option<Cell>, AllocError>
+fn copy_of_chart(alloc: Global, chart: Option<&Cell>) -> Result<Option<Cell>, AllocError>
     ensures { IfOk result (λ copy. copy ≡ option_copied chart.entry) }
 {
     match chart {
@@ -107,7 +91,7 @@ fn copy_of(alloc: Global, chart: Option<&Cell>) -> Result<Option<Cell>, AllocErr
 /// # Errors
 ///
 /// The fault of the first change that can't be made, or else that of closure; `NoMemory`.
-#[tactic(auto, unfolding(crate::specs::Built::built))]
+#[tactic(auto, unfolding(crate::specs::Built::built, crate::specs::Draft::finished))]
 pub fn build(alloc: Global, chart: Option<&Cell>, dataset: &Dataset) -> Result<Cell, BuildFault>
     requires stands { dataset.now.cancels ≡ false }
     requires held { (option_copied chart ≡ None) ↔ (dataset.now.base ≡ true) }
@@ -117,24 +101,7 @@ pub fn build(alloc: Global, chart: Option<&Cell>, dataset: &Dataset) -> Result<C
     ensures within { OnOk result
         (moves_of (begun (option_copied chart.entry) dataset.now.header) dataset.now.changes ≤ MOST_MOVES) }
 {
-    let chart = copy_of(alloc, chart)?;
-    let cell = begin(alloc, chart, &dataset.header);
-    closed(make_all(alloc, cell, dataset.changes.as_slice())?)
-}
-
-/// Builds the chart of a base file, as `build` does, of a data set that is given away: the records of the chart take
-/// over the lists of its changes.
-///
-/// # Errors
-///
-/// As `build`.
-#[tactic(auto, unfolding(crate::specs::Built::built))]
-pub fn build_owned(alloc: Global, dataset: Dataset) -> Result<Cell, BuildFault>
-    requires stands { dataset.cancels ≡ false }
-    requires base { dataset.base ≡ true }
-    ensures built { GivesBuilt result (built None dataset) }
-    ensures within { OnOk result (moves_of (begun None dataset.header) dataset.changes ≤ MOST_MOVES) }
-{
-    let cell = begin(alloc, None, &dataset.header);
-    closed(make_all_owned(alloc, cell, dataset.changes)?)
+    let chart = copy_of_chart(alloc, chart)?;
+    let changes = copies_of(alloc, dataset.changes.as_slice())?;
+    Draft::begun(alloc, chart, dataset.header, changes).finish(alloc)
 }

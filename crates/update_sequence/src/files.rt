@@ -7,7 +7,7 @@ ghost use Rattle.update_sequence.specs.Built.{built};
 ghost use Rattle.update_sequence.specs.Rebuilt.{chart_with, rebuilt, data_records_of};
 ghost use Rattle.update_sequence.specs.Sequence.{IsUpdateSequence};
 
-use crate::chart::{begin, make_all_owned};
+use crate::draft::Draft;
 use crate::read::read_data_set;
 use chart_model::{Cell, Dataset, FileList};
 use chart_ports::Steps;
@@ -23,8 +23,8 @@ fn follow(alloc: Global, chart: Option<Cell>, dataset: Dataset) -> Result<Option
     if dataset.cancels {
         return Ok(None);
     }
-    let cell = begin(alloc, chart, &dataset.header);
-    match make_all_owned(alloc, cell, dataset.changes) {
+    let draft = Draft::begun(alloc, chart, dataset.header, dataset.changes);
+    match draft.make_rest(alloc) {
         Ok(cell) => Ok(Some(cell)),
         Err(_) => Err(AllocError),
     }

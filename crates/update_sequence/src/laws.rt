@@ -3,7 +3,7 @@
 //! The crates above cite these of charts and of files, and no lemma of this crate.
 
 ghost use Rattle.std.specs.Prelude.{◌≡◌, ◌≢◌, ◌⊎◌, ◌↔◌, ℕ, true, false, List, [], ◌∷◌};
-ghost use Rattle.std.specs.Prelude.{◌++◌, Option, Some, None, Ok, All, Contains, map, IfSome};
+ghost use Rattle.std.specs.Prelude.{◌+◌, ◌++◌, Option, Some, None, Ok, All, Contains, map, IfSome};
 ghost use Rattle.std.specs.Option.{option_map};
 ghost use Rattle.std.specs.Result.{IsOk, result_ok};
 ghost use Rattle.chart_closure.specs.Closed.{IsClosed};
@@ -20,7 +20,9 @@ ghost use Rattle.update_apply.specs.Changed.{cell_after};
 ghost use Rattle.update_apply.specs.Fault.{fault_of};
 ghost use Rattle.update_sequence.specs.declared.fault.BuildFault.TheVariants as of_build;
 ghost use Rattle.update_sequence.specs.Built.{built, folded, folded_after, header_after};
+ghost use Rattle.update_sequence.specs.Draft.{Advances, DraftValue, finished, first_draft};
 ghost use Rattle.update_sequence.specs.Judged.{judged};
+ghost use Rattle.update_sequence.specs.Moves.{moves_of};
 ghost use Rattle.update_sequence.specs.declared.effect.Effect.TheVariants.{Replace, Extend, Cancel};
 ghost use Rattle.update_sequence.specs.Rebuilt.{cancelled_numbers, chart_after, held_after, held_by, numbers_of};
 ghost use Rattle.update_sequence.specs.Rebuilt.{rebuilt};
@@ -151,4 +153,22 @@ pub fn named_records_differ()
     ensures { (chart after : CellValue) (dataset : DatasetValue) (name : Name) → built (Some chart) dataset ≡ Ok after →
         delete_none dataset.changes ≡ true → Contains (map (λ change. change.target) dataset.changes) name →
         HasOther chart after name }
+{}
+
+/// The chart that a data set builds is the one that its draft comes to.
+pub fn drafts_build_charts()
+    ensures { (chart : Option CellValue) (dataset : DatasetValue) →
+        built chart dataset ≡ finished (first_draft chart dataset) }
+{}
+
+/// Changes that are made leave what a draft comes to as it was, and what all its changes may move beside its budget.
+/// Those of one call and those of the next are made in turn.
+pub fn drafts_advance()
+    ensures comes { (before after : DraftValue) (made : ℕ) → Advances before after made →
+        finished after ≡ finished before }
+    ensures budget { (before after : DraftValue) (made : ℕ) → Advances before after made →
+        moves_of before.cell before.rest + after.moves ≡ moves_of after.cell after.rest + before.moves }
+    ensures none { (draft : DraftValue) → Advances draft draft 0 }
+    ensures turn { (first second third : DraftValue) (made more : ℕ) → Advances first second made →
+        Advances second third more → Advances first third (made + more) }
 {}

@@ -6,6 +6,7 @@
 #![tactic(auto)]
 
 mod chart;
+mod draft;
 mod effect;
 mod extension;
 mod fault;
@@ -15,15 +16,15 @@ mod laws;
 mod local;
 mod read;
 
-pub use chart::{build, build_owned};
+pub use chart::build;
+pub use draft::Draft;
 pub use effect::{Effect, judge};
-pub use extension::extend;
 pub use fault::{BuildFault, ReadFault, SequenceFault};
 pub use files::rebuild;
 pub use info::{FileInfo, read_info};
 pub use laws::{
     accepted_files_follow, changes_are_made_in_turn, charts_are_cells, charts_are_closed,
-    files_are_data_sets, headers_follow, named_records_differ, one_file_more, other_records_stay,
-    sequences_are_held, sequences_are_tested, sequences_grow,
+    drafts_advance, drafts_build_charts, files_are_data_sets, headers_follow, named_records_differ,
+    one_file_more, other_records_stay, sequences_are_held, sequences_are_tested, sequences_grow,
 };
 pub use read::read_data_set;

@@ -1,19 +1,19 @@
 //! What changes make of one record, and why they are refused.
 //!
-//! Each case is tried with a change that is lent and with one that is given away, whose lists are taken over: the two
-//! have to answer alike. A change that is refused has to leave the record as it was.
+//! Each case is tried with a change that is lent, and with one that is judged and then given away, whose lists are
+//! taken over: the two have to answer alike. A change that is refused has to leave the record as it was.
 
 mod identifiers;
 mod lists;
 mod settings;
 mod versions;
 
-use chart_model::{AttrMap, Cell, Feature, Name, Vector};
+use chart_model::{AttrMap, Cell, Feature, Name, UpdateRecord, Vector};
 use sample_rows::{Item, Row, Setting, change, chart, feature, name, vector};
 use std::alloc::Global;
 use std::process::Abort;
 use std::test::Fail;
-use update_apply::{ChangeFault, Moves, apply_owned, apply_record};
+use update_apply::{ChangeFault, Moves, apply_record, judge_change, make_change};
 
 /// Items of these numbers.
 macro_rules! items {
@@ -123,6 +123,12 @@ fn chart_of(alloc: Global, row: &Option<Row>) -> Result<Cell, Fail> {
     }
 }
 
+/// Judges a change that is given away, and makes it where it has no fault.
+fn judge_and_make(alloc: Global, cell: &mut Cell, change: UpdateRecord) -> Result<(), ChangeFault> {
+    judge_change(cell, &change, &mut Moves::of_file())?;
+    make_change(alloc, cell, change).map_err(|_| ChangeFault::NoMemory)
+}
+
 /// Holds what a change answers against the case of this number.
 fn hold(rt: &impl Abort, alloc: Global, number: usize, case: &Case) -> Result<(), Fail> {
     let mut cell = chart_of(alloc, &case.before)?;
@@ -134,7 +140,7 @@ fn hold(rt: &impl Abort, alloc: Global, number: usize, case: &Case) -> Result<()
     assert!(rt; has_alone(alloc, &cell, &case.after)?, "case {number}");
     let mut cell = chart_of(alloc, &case.before)?;
     assert!(rt;
-        apply_owned(alloc, &mut cell, change, &mut Moves::of_file()) == case.answer,
+        judge_and_make(alloc, &mut cell, change) == case.answer,
         "case {number}, given away"
     );
     assert!(rt;

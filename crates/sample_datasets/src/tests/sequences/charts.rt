@@ -1,7 +1,8 @@
-//! A small chart, extended.
+//! A small chart, built and extended.
 //!
-//! `extend` and `build` make the same chart of an update, so both are held against one table. Of a chart a few numbers
-//! are looked at, of which each record of these updates changes at least one.
+//! A draft and `build` make the same chart of a data set, however many changes of the draft are made one by one, so all
+//! are held against one table. Of a chart a few numbers are looked at, of which each record of these updates changes at
+//! least one.
 
 ghost use Rattle.std.specs.Prelude.{IfOk};
 ghost use Rattle.chart_closure.specs.Closed.{IsClosed};
@@ -12,9 +13,10 @@ use super::files::{
 use chart_closure::ClosureFault;
 use chart_model::{Cell, Name};
 use std::alloc::Global;
+use std::process::Abort;
 use std::test::Fail;
 use update_apply::ChangeFault;
-use update_sequence::{BuildFault, build, build_owned, charts_are_closed, extend};
+use update_sequence::{BuildFault, Draft, build, charts_are_closed};
 
 const NODE: Name = Name { rcnm: 110, rcid: 1 };
 
@@ -31,7 +33,7 @@ fn base_chart(alloc: Global) -> Result<Cell, Fail>
     if dataset.cancels || !dataset.base {
         return Err("it is a base file".into());
     }
-    Ok(build_owned(alloc, dataset)?)
+    Ok(build(alloc, None, &dataset)?)
 }
 
 /// What is looked at of a chart.
@@ -48,27 +50,91 @@ pub(crate) fn seen(chart: &Cell) -> Seen {
     )
 }
 
-/// The chart extended by an update with these data records, or why it isn't.
-fn extended(alloc: Global, records: &[&[u8]]) -> Result<Result<Seen, BuildFault>, Fail> {
+/// The draft of the chart of the base file.
+fn base_draft(alloc: Global) -> Result<Draft, Fail> {
+    let dataset = data_set_of(alloc, &[BASE])?;
+    if dataset.cancels || !dataset.base {
+        return Err("it is a base file".into());
+    }
+    Ok(Draft::of_base(alloc, dataset))
+}
+
+/// The draft of what an update with these data records makes of the chart of the base file.
+fn draft_of(alloc: Global, records: &[&[u8]]) -> Result<Draft, Fail> {
     let chart = base_chart(alloc)?;
     let dataset = data_set_of(alloc, records)?;
     if dataset.cancels || dataset.base {
         return Err("it is an update".into());
     }
-    match extend(alloc, &chart, &dataset) {
-        Ok(after) => Ok(Ok(seen(&after))),
-        Err(fault) => Ok(Err(fault)),
+    Ok(Draft::of_update(alloc, &chart, dataset)?)
+}
+
+/// Makes so many changes of a draft one by one, or as many as there are, and then the others at once.
+fn finished(alloc: Global, draft: Draft, steps: usize) -> Result<Cell, BuildFault> {
+    let mut draft = draft;
+    for _ in 0..steps {
+        if draft.left() > 0 {
+            draft.make_next(alloc)?;
+        }
     }
+    draft.finish(alloc)
+}
+
+/// The chart that an update with these data records builds on the chart of the base file.
+fn built(alloc: Global, records: &[&[u8]]) -> Result<Result<Cell, BuildFault>, Fail> {
+    let chart = base_chart(alloc)?;
+    let dataset = data_set_of(alloc, records)?;
+    if dataset.cancels || dataset.base {
+        return Err("it is an update".into());
+    }
+    Ok(build(alloc, Some(&chart), &dataset))
+}
+
+/// What is looked at of the chart, or why there is none.
+fn seen_or_fault(made: Result<Cell, BuildFault>) -> Result<Seen, BuildFault> {
+    Ok(seen(&made?))
+}
+
+/// Holds what an update with these data records makes of the chart of the base file: built, and drafted in steps.
+fn hold(
+    rt: &impl Abort,
+    alloc: Global,
+    records: &[&[u8]],
+    wanted: Result<Seen, BuildFault>,
+) -> Result<(), Fail> {
+    assert!(rt; seen_or_fault(built(alloc, records)?) == wanted);
+    for steps in 0..4 {
+        let draft = draft_of(alloc, records)?;
+        assert!(rt;
+            seen_or_fault(finished(alloc, draft, steps)) == wanted,
+            "{steps} steps"
+        );
+    }
+    Ok(())
 }
 
 #[test]
-fn a_chart_is_extended(rt: HostRuntime) -> Result<(), Fail> {
+fn a_chart_is_drafted(rt: HostRuntime) -> Result<(), Fail> {
     let alloc = rt.alloc();
-    assert_eq!(rt; extended(alloc, &[GENERAL, MOVED])?, Ok((1, 1, 1, Some(8))));
-    assert_eq!(rt;
-        extended(alloc, &[GENERAL, MOVED, SECOND, POINTING])?,
-        Ok((1, 2, 2, Some(8)))
-    );
+    let wanted = seen(&base_chart(alloc)?);
+    for steps in 0..4 {
+        let chart = finished(alloc, base_draft(alloc)?, steps)?;
+        assert_eq!(rt; seen(&chart), wanted);
+    }
+    Ok(())
+}
+
+#[test]
+fn a_refused_change_stays(rt: HostRuntime) -> Result<(), Fail> {
+    let alloc = rt.alloc();
+    let present = BuildFault::Change(ChangeFault::Present { name: NODE });
+    let mut draft = draft_of(alloc, &[GENERAL, MOVED, INSERTED])?;
+    for (left, made) in [(2, Ok(())), (1, Err(present)), (1, Err(present))] {
+        assert_eq!(rt; draft.left(), left);
+        if draft.left() > 0 {
+            assert!(rt; draft.make_next(alloc) == made);
+        }
+    }
     Ok(())
 }
 
@@ -76,43 +142,35 @@ fn a_chart_is_extended(rt: HostRuntime) -> Result<(), Fail> {
 fn an_update_is_refused(rt: HostRuntime) -> Result<(), Fail> {
     let alloc = rt.alloc();
     let present = BuildFault::Change(ChangeFault::Present { name: NODE });
-    assert_eq!(rt; extended(alloc, &[GENERAL, MOVED, INSERTED])?, Err(present));
+    hold(&rt, alloc, &[GENERAL, MOVED, INSERTED], Err(present))?;
     let dangling = ClosureFault::Dangling(Name { rcnm: 100, rcid: 2 }, Name { rcnm: 110, rcid: 2 });
-    assert_eq!(rt;
-        extended(alloc, &[GENERAL, MOVED, POINTING])?,
-        Err(BuildFault::Closure(dangling))
-    );
+    hold(
+        &rt,
+        alloc,
+        &[GENERAL, MOVED, POINTING],
+        Err(BuildFault::Closure(dangling)),
+    )?;
     let lost = ClosureFault::Dangling(Name { rcnm: 100, rcid: 1 }, NODE);
-    assert_eq!(rt;
-        extended(alloc, &[GENERAL, DELETED])?,
-        Err(BuildFault::Closure(lost))
-    );
-    Ok(())
-}
-
-/// The chart that an update with these data records builds on the chart of the base file.
-fn built(alloc: Global, records: &[&[u8]]) -> Result<Seen, Fail> {
-    let chart = base_chart(alloc)?;
-    let dataset = data_set_of(alloc, records)?;
-    if dataset.cancels || dataset.base {
-        return Err("it is an update".into());
-    }
-    let after = build(alloc, Some(&chart), &dataset)?;
-    Ok(seen(&after))
+    hold(
+        &rt,
+        alloc,
+        &[GENERAL, DELETED],
+        Err(BuildFault::Closure(lost)),
+    )
 }
 
 /// The data records of an update, and what it makes of the chart of the base file.
-static UPDATES: [(&[&[u8]], Seen); 3] = [
+static UPDATES: [(&[&[u8]], Seen); 4] = [
     (&[GENERAL, MOVED], (1, 1, 1, Some(8))),
+    (&[GENERAL, MOVED, SECOND, POINTING], (1, 2, 2, Some(8))),
     (&[GENERAL, HIDDEN], (1, 1, 0, Some(100))),
     (&[GENERAL, HIDDEN, DELETED, SECOND], (1, 1, 0, None)),
 ];
 
 #[test]
-fn a_chart_is_built_on_another(rt: HostRuntime) -> Result<(), Fail> {
+fn a_chart_is_extended(rt: HostRuntime) -> Result<(), Fail> {
     for (records, wanted) in &UPDATES {
-        assert_eq!(rt; built(rt.alloc(), records)?, *wanted);
-        assert_eq!(rt; extended(rt.alloc(), records)?, Ok(*wanted));
+        hold(&rt, rt.alloc(), records, Ok(*wanted))?;
     }
     Ok(())
 }

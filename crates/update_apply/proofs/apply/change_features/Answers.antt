@@ -7,7 +7,7 @@ use Rattle.update_apply.proofs.apply.change_features.Goals as goal
 
 pub edit-requires-clause-fits : goal.edit-requires-clause-fits
 edit-requires-clause-fits c =
-    let change : Change = c.args.change.now in
+    let change : Change = c.args.change in
     let three : c.change.inside.ruin ≡ 3 = omega (arith, c.change.invariant.ruin) in
     subst (λ (named : Change). IfSome (map.get c.args.features.now named.target) (FitsFeature change)) (sym c.change.view_is)
     (feature-fits change (subst IsChange c.change.view_is c.change.invariant) (sym (ap (λ (said : Change). said.ruin) c.change.view_is) ∙ three) _ c.requires)
