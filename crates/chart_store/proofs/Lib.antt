@@ -23,3 +23,6 @@ mod Staying
 mod Leaving
 mod FilesLeft
 mod Opened
+mod Drafting
+mod Stepping
+mod Stages

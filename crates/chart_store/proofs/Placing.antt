@@ -96,6 +96,7 @@ may-build key before dataset Replace is holds closed judges =
     record {
       stands = λ _. stands_by_base dataset is says;
       base = λ _. says;
+      update = λ e. absurd cc;
       there = λ e. absurd cc;
       closed = closed-chart key before closed;
     }
@@ -104,12 +105,14 @@ may-build key before dataset Extend is holds closed judges =
     record {
       stands = λ _. says.stands;
       base = λ e. absurd cc;
+      update = λ _. says.update;
       there = λ _. has_chart key before says.here holds says.is says.lives;
       closed = closed-chart key before closed;
     }
 may-build key before dataset Cancel is holds closed judges = record {
   stands = λ other. absurd (other refl);
   base = λ e. absurd cc;
+  update = λ e. absurd cc;
   there = λ e. absurd cc;
   closed = closed-chart key before closed;
 }

@@ -30,6 +30,7 @@ use Rattle.chart_store.specs.declared.refusal.Refusal.TheVariants.{BankFull, Fil
 use Rattle.chart_store.specs.declared.store.Store.{Store}
 use Rattle.chart_store.specs.declared.submit_fault.SubmitFault.{SubmitFault}
 use Rattle.chart_store.specs.declared.submit_fault.SubmitFault.TheVariants.{Refused, DeskFault, NoMemory}
+use Rattle.chart_store.specs.Keeping as keeping
 use Rattle.chart_store.specs.Images.{AreAccepted, AreSpelled, Holds, Lead, StandFor}
 use Rattle.chart_store.specs.Loaded.{Outcome, come_to, loaded, outcome_of_data_set}
 use Rattle.chart_store.specs.Outcome.{Room, BANK_LIMIT, accepted, bank_within, other_within, record_size, outcome}
@@ -160,6 +161,15 @@ module _ (state : StateValue) (command : Command) (pair : PairValue) where
       lack_for pair (record_size command) ≡ None
   appended-within more result needs none tells =
       ap (λ (n : ℕ). lack_for pair n) (sym needs) ∙ lacks_none result pair more tells none
+
+-- what is answered once the cell is made is what is answered to the command
+pub kept-as : (state : StateValue) (command : Command) (pair : PairValue) (more : ℕ) (done : Outcome) →
+    outcome state command ≡ Ok done → more ≡ record_size command →
+    keeping.with_room (room_by pair) more done ≡ accepted state (room_by pair) command
+unfolding accepted
+kept-as state command pair more done leaves needs =
+    ap (λ (n : ℕ). keeping.with_room (room_by pair) n done) needs
+    ∙ ap (λ (r : Result Outcome Refusal). r >>= λ d. keeping.with_room (room_by pair) (record_size command) d) (sym leaves)
 
 -- a pair that is seen as before lacks what it lacked before
 pub same-tells : (result : Result (Unit {0}) AppendFault) (before after : PairValue) (need : ℕ) → after ≡ before →

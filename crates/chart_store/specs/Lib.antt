@@ -16,3 +16,7 @@ pub mod Saving
 pub mod Submitted
 pub mod Opened
 pub mod Prepared
+pub mod Staging
+pub mod Begun
+pub mod Keeping
+pub mod Staged

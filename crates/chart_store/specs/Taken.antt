@@ -18,5 +18,6 @@ replaced_bytes before Cancel = 0
 pub record MayBuild (chart : Option CellValue) (effect : Effect) (dataset : DatasetValue) : Type 0 where
   pub stands : effect ≢ Cancel → dataset.cancels ≡ false
   pub base : effect ≡ Replace → dataset.base ≡ true
+  pub update : effect ≡ Extend → dataset.base ≡ false
   pub there : effect ≡ Extend → IsSome chart
   pub closed : IfSome chart IsClosed

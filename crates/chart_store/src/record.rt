@@ -4,8 +4,10 @@
 
 ghost use Rattle.std.specs.Prelude.{◌≡◌, IfOk, IfErr, IsErrOf, OnOk, length};
 ghost use Rattle.bank_journal.specs.Bank.{frame_of, IsBodyLength};
+ghost use Rattle.chart_model.specs.State.{IsFileLength};
+ghost use Rattle.chart_model.specs.declared.command.Command.TheVariants.{Load};
 ghost use Rattle.command_codec.specs.Spelling.{spelling, Spells};
-ghost use Rattle.chart_store.specs.declared.submit_fault.SubmitFault.TheVariants.{DeskFault};
+ghost use Rattle.chart_store.specs.declared.submit_fault.SubmitFault.TheVariants.{DeskFault, NoMemory};
 ghost use Rattle.chart_store.specs.declared.refusal.Refusal.TheVariants.{FileLong};
 ghost use Rattle.chart_store.specs.Outcome.{record_size};
 ghost use Rattle.chart_store.specs.Submitted.{IsTooLong, RefusedHas};
@@ -14,7 +16,7 @@ use crate::load::FILE_LIMIT;
 use crate::refusal::Refusal;
 use crate::submit_fault::SubmitFault;
 use bank_journal::{Framed, frame};
-use chart_model::Command;
+use chart_model::{Command, Octets};
 use command_codec::encode_command;
 use std::alloc::Global;
 
@@ -39,4 +41,22 @@ pub(crate) fn record_of(alloc: Global, command: &Command) -> Result<Framed, Subm
     }
     let body = encode_command(alloc, command)?;
     Ok(frame(alloc, body.as_slice())?)
+}
+
+/// The record that the load of a file is kept as, and the file again.
+pub(crate) fn record_of_load(alloc: Global, file: Octets) -> Result<(Framed, Octets), SubmitFault>
+    requires { IsFileLength (length file) }
+    ensures file { IfOk result (λ both. both.1 ≡ file) }
+    ensures framed { IfOk result (λ both. both.0 ≡ frame_of (spelling (Load file))) }
+    ensures need { IfOk result (λ both. length both.0 ≡ record_size (Load file)) }
+    ensures spelled { OnOk result (Spells (spelling (Load file)) (Load file)) }
+    ensures length { OnOk result (IsBodyLength (length (spelling (Load file)))) }
+    ensures memory { IfErr result (λ fault. fault ≡ NoMemory) }
+{
+    let command = Command::Load(file);
+    let framed = record_of(alloc, &command)?;
+    match command {
+        Command::Load(file) => Ok((framed, file)),
+        _ => unreachable!(),
+    }
 }

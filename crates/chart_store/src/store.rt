@@ -14,7 +14,7 @@ use crate::live::LiveCells;
 use crate::next::{Naming, Next};
 use crate::record::record_of;
 use crate::submit_fault::SubmitFault;
-use bank_journal::AppendFault;
+use bank_journal::{AppendFault, Framed};
 use bank_pair::Pair;
 use chart_model::{Command, State};
 use chart_ports::{Desk, Steps};
@@ -34,7 +34,7 @@ pub struct Store {
 
 impl Store {
     ghost use Rattle.std.specs.Prelude.{◌≡◌, ◌≢◌, ◌↔◌, ◌+◌, ◌<◌, ◌≤◌, List, ℕ, true, false, Err, IfOk, IsTrue, OnOk};
-    ghost use Rattle.std.specs.Prelude.{IfSome, None, OnErr, Some};
+    ghost use Rattle.std.specs.Prelude.{IfSome, None, OnErr, Some, length};
     ghost use Rattle.std.specs.FinMap as map;
     ghost use Rattle.bank_journal.specs.Fault.{HasDeskCause};
     ghost use Rattle.bank_pair.specs.Handle.{value_of};
@@ -47,8 +47,10 @@ impl Store {
     ghost use Rattle.chart_ports.specs.declared.images.Images.{Images};
     ghost use Rattle.chart_store.specs.declared.submit_fault.SubmitFault.TheVariants.{DeskFault, NoMemory};
     ghost use Rattle.chart_store.specs.Images.{IsReached, StandFor};
+    ghost use Rattle.chart_store.specs.Keeping.{IsRecordOf, with_room};
     ghost use Rattle.chart_store.specs.Live.{AreLive, state_or};
     ghost use Rattle.chart_store.specs.Loaded.{come_to};
+    ghost use Rattle.chart_store.specs.Next.{IsNext, outcome_by};
     ghost use Rattle.chart_store.specs.Outcome.{accepted, most_steps, record_size, room_after};
     ghost use Rattle.chart_store.specs.Store.{IsKept, StandsForEither, count_of, pair_of};
     ghost use Rattle.chart_store.specs.Store.{is_sound, room_of, save_of, state_of, store_of};
@@ -80,6 +82,13 @@ impl Store {
     {
         commands_leave_what_is_held();
         self.live.state()
+    }
+
+    /// How many commands were accepted since it was opened. It takes no memory.
+    pub fn count(&self) -> u64
+        ensures { result ≡ count_of self.now }
+    {
+        self.count
     }
 
     /// Whether no call of the desk has failed. It takes no memory.
@@ -157,13 +166,68 @@ impl Store {
         ensures at_most { steps.new ≤ steps.old + most_steps (state_of self.old) command }
     {
         let framed = record_of(alloc, &command)?;
+        let next = next_of(alloc, &self.live, command, Naming::Named, steps)?;
+        self.keep(framed, next, desk)
+    }
+
+    /// Writes the record of a command, and then puts in place what it leaves. All memory is taken before.
+    ///
+    /// # Errors
+    ///
+    /// `BankFull`; `NoMemory`. Then all is as it was, on the disk too. `DeskFault` only where the desk's count rose.
+    pub(crate) fn keep<D: Desk>(
+        &mut self,
+        framed: Framed,
+        next: Next,
+        desk: &mut D,
+    ) -> Result<Accepted, SubmitFault>
+        requires sound { IsTrue (is_sound self.old) }
+        requires count { count_of self.old < 9223372036854775808 }
+        requires kept { IsTrue D.tells → IsKept (D.contents desk.old) (D.may_leave desk.old) self.old }
+        requires next { IsNext (state_of self.old) next }
+        requires named { AreChanged (chart_of (map.get (state_of self.old).cells next.key)) (chart_of next.holding)
+            next.changed }
+        requires record { IsRecordOf (state_of self.old) next framed }
+
+        ensures outcome { GivesAccepted result (state_of self.new)
+            (with_room (room_of self.old) (length framed) (outcome_by (state_of self.old) next)) }
+        ensures changed { IfOk result (λ done. AreChanged (chart_of (map.get (state_of self.old).cells done.key))
+            (chart_of (map.get (state_of self.new).cells done.key)) done.changed) }
+        ensures old { IfOk result (λ done. done.old ≡ chart_of (map.get (state_of self.old).cells done.key)) }
+        ensures count { IfOk result (λ done. (done.count ≡ count_of self.old + 1) × (count_of self.new ≡ done.count)) }
+        ensures room { OnOk result (room_of self.new ≡ room_after (room_of self.old) (length framed)) }
+        ensures save { OnOk result (IfSome (save_of self.old) (λ save. (frame : List ℕ) ×
+            (save_of self.new ≡ Some (with_frame frame save)))) }
+        ensures unchanged { result ≢ Err DeskFault →
+            OnErr result ((store_of self.new ≡ store_of self.old) × (desk.new ≡ desk.old)) }
+        ensures held { OnErr result ((state_of self.new ≡ state_of self.old)
+            × (count_of self.new ≡ count_of self.old)) }
+        ensures sound { (is_sound self.new ≡ false) ↔ (result ≡ Err DeskFault) }
+        ensures kept { IsTrue D.tells → result ≢ Err DeskFault →
+            IsKept (D.contents desk.new) (D.may_leave desk.new) self.new }
+        ensures stands { IsTrue D.tells → StandFor (images_of (D.contents desk.old)) (state_of self.old) →
+            result ≢ Err DeskFault → (images : Images) →
+            MayBeLeft (D.may_leave desk.new) images → StandFor images (state_of self.new) }
+        ensures stood { IsTrue D.tells → StandFor (images_of (D.contents desk.old)) (state_of self.old) →
+            result ≢ Err DeskFault → StandFor (images_of (D.contents desk.new)) (state_of self.new) }
+        ensures moments { IsTrue D.tells → StandFor (images_of (D.contents desk.old)) (state_of self.old) →
+            LeavesOnly D.clock D.might desk.old desk.new (StandsForEither (D.said desk.old) (state_of self.old)
+            (state_or (state_of self.old)
+            (with_room (room_of self.old) (length framed) (outcome_by (state_of self.old) next)))) }
+        ensures others { IsTrue D.tells →
+            SameOthers (pair_of self.old).file (D.contents desk.old) (D.contents desk.new) }
+        ensures crash_others { IsTrue D.tells →
+            LeavesNoMoreOfOthers (pair_of self.old).file (D.may_leave desk.old) (D.may_leave desk.new) }
+        ensures said { IsTrue D.tells → D.said desk.new ≡ D.said desk.old }
+        ensures cause { HasDeskCause DeskFault (D.faults desk.old) (D.faults desk.new) result }
+    {
         let Next {
             key,
             held,
             holding,
             bytes,
             changed,
-        } = next_of(alloc, &self.live, command, Naming::Named, steps)?;
+        } = next;
         self.pair.reserve()?;
         let prepared = self.live.prepare(key, holding, bytes)?;
         if let Err(fault) = self.pair.append(desk, framed) {

@@ -1,18 +1,9 @@
--- The step is the one of the data set that the file is.
-use Rattle.std.proofs.Common.{◌≡◌, ◌≤◌, List, ℕ, length, Ok, Result, sym, ◌∙◌, ap, subst}
-use Rattle.update_sequence.specs.Reading.{data_set_in}
-use Rattle.chart_store.specs.Loaded.{Outcome, FILE_LIMIT}
-use Rattle.chart_store.specs.Next.{GivesNext}
-use Rattle.chart_store.specs.declared.refusal.Refusal.{Refusal}
-use Rattle.chart_store.proofs.Accepting.{loaded-reads}
+-- A file that isn't staged isn't loaded.
+use Rattle.chart_store.specs.Next.{outcome_by}
+use Rattle.chart_store.proofs.Stages.{fails-loaded, passed-on}
 use Rattle.chart_store.proofs.load.next_of_file.Goals as goal
 
-pub returns-clause-after : goal.returns-clause-after
-returns-clause-after g c =
-    let short : length c.args.file ≤ FILE_LIMIT =
-    subst (λ (l : List ℕ). length l ≤ FILE_LIMIT) c.as_slice.ensures c.if-as_slice-gt-FILE_LIMIT.false in
-    let reads : data_set_in c.args.file ≡ Ok c.in_ok-dataset.dataset =
-    ap data_set_in (sym c.as_slice-2.ensures) ∙ c.in_ok-dataset.ensures.exact in
-    subst (λ (wanted : Result Outcome Refusal). GivesNext c.next_of_data_set.result c.args.live.now wanted) (sym
-    (loaded-reads c.args.live.now c.args.file c.in_ok-dataset.dataset short reads))
-    c.next_of_data_set.ensures.after
+pub returns-in_err-file-clause-after : goal.returns-in_err-file-clause-after
+returns-in_err-file-clause-after g c =
+    passed-on (outcome_by c.args.live.now) c.from_residual.result c.in_err-file.field-0.0 _ c.from_residual.ensures.1
+    (fails-loaded c.args.live.now c.args.file c.in_err-file.field-0.0 c.in_err-file.ensures.staged)
