@@ -1,4 +1,5 @@
 mod areas;
 mod charts;
 mod figures;
+mod replies;
 mod search;

@@ -5,7 +5,7 @@ use Rattle.std.specs.List.{join_with_byte}
 use Rattle.std.proofs.lemmas.Bool.{false_from_ne_true, true≢false, eqb-true, eq-eqb}
 use Rattle.common_lemmas.proofs.Choices.{chosen, some_is}
 use Rattle.script_reader.specs.declared.event.Event.{Event}
-use Rattle.script_reader.specs.declared.event.Event.TheVariants.{Info, Load, Rollback, Drop, Cells, Draw, Route, Save, SaveStep, Refresh, Paint, Panel, ClosePanel, Make, Reissue}
+use Rattle.script_reader.specs.declared.event.Event.TheVariants.{Info, Load, Rollback, Drop, Cells, Draw, Route, Save, SaveStep, Refresh, Paint, Panel, ClosePanel, Make, Reissue, Begin, Step, Commit, Cover}
 use Rattle.script_reader.specs.declared.fault.LineFault.{LineFault}
 use Rattle.script_reader.specs.declared.fault.LineFault.TheVariants.{BadLine, NoMemory}
 use Rattle.script_reader.specs.Line.{AskFor, NamesFile, Spells, IsBad}
@@ -44,6 +44,10 @@ asked_speaks (Panel panel) words a = ap (λ (w : List (List ℕ)). is_silent (jo
 asked_speaks (ClosePanel panel) words a = ap (λ (w : List (List ℕ)). is_silent (join_with_byte 32 w)) a.spoken
 asked_speaks (Make areas update) words a = ap (λ (w : List (List ℕ)). is_silent (join_with_byte 32 w)) a.spoken
 asked_speaks (Reissue cell) words a = ap (λ (w : List (List ℕ)). is_silent (join_with_byte 32 w)) a.0
+asked_speaks (Begin name) words a = ap (λ (w : List (List ℕ)). is_silent (join_with_byte 32 w)) a.0
+asked_speaks (Step changes) words a = ap (λ (w : List (List ℕ)). is_silent (join_with_byte 32 w)) a.spoken
+asked_speaks Commit words a = ap (λ (w : List (List ℕ)). is_silent (join_with_byte 32 w)) a
+asked_speaks (Cover name) words a = ap (λ (w : List (List ℕ)). is_silent (join_with_byte 32 w)) a.0
 
 pub spelled_speaks : (line : List ℕ) (event : Event) → Spells line event → is_silent line ≡ false
 spelled_speaks line event s = ap is_silent s.parted ∙ asked_speaks event s.words s.asking

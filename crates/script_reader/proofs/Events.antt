@@ -12,9 +12,9 @@ use Rattle.text_scan.specs.Number.{value_of}
 use Rattle.script_reader.specs.Word.{is_word}
 use Rattle.script_reader.specs.Number.{IsShortNumber, is_short_number}
 use Rattle.script_reader.specs.declared.event.Event.{Event}
-use Rattle.script_reader.specs.declared.event.Event.TheVariants.{Info, Load, Rollback, Drop, Cells, Draw, Route, Save, SaveStep, Refresh, Paint, Panel, ClosePanel, Make, Reissue}
-use Rattle.script_reader.specs.Line.{AreInRange, AskFor, AskForPanel, CanBeMade, Spells}
-use Rattle.script_reader.specs.Reading.{info_in, load_in, rollback_in, drop_in, draw_in, route_in, save_step_with, save_step_in, refresh_in, paint_with, paint_in, panel_in, close_panel_in, can_be_made, make_with, make_in, reissue_in, event_alone, event_with_number, event_with_one, event_with_two, event_of}
+use Rattle.script_reader.specs.declared.event.Event.TheVariants.{Info, Load, Rollback, Drop, Cells, Draw, Route, Save, SaveStep, Refresh, Paint, Panel, ClosePanel, Make, Reissue, Begin, Step, Commit, Cover}
+use Rattle.script_reader.specs.Line.{AreInRange, AskFor, AskForPanel, AskForSteps, CanBeMade, Spells}
+use Rattle.script_reader.specs.Reading.{info_in, load_in, rollback_in, drop_in, draw_in, route_in, save_step_with, save_step_in, refresh_in, paint_with, paint_in, panel_in, close_panel_in, can_be_made, make_with, make_in, reissue_in, begin_in, step_with, step_in, cover_in, event_alone, event_with_number, event_with_cell, event_with_one, event_with_two, event_of}
 use Rattle.script_reader.proofs.WordTests.{KeysAreTested, Decides-word, Decides-short, Decides-some, Decides-made}
 use Rattle.text_lines.specs.Lines.{words_of}
 use Rattle.text_lines.proofs.Parting.{digits_lack, one_part}
@@ -60,19 +60,42 @@ found_reissue tested verb word event v e =
     let t = taken (is_key word) (Reissue word) event e in
     subst (λ (x : Event). AskFor x (verb ∷ word ∷ [])) t.1 (ap (λ (l : List ℕ). l ∷ word ∷ []) v, (tested word).0 t.0)
 
+found_begin : (verb word : List ℕ) (event : Event) → verb ≡ codes "begin" → begin_in word ≡ Some event → AskFor event (verb ∷ word ∷ [])
+found_begin verb word event v e =
+    let t = taken (is_word word) (Begin word) event e in
+    subst (λ (x : Event). AskFor x (verb ∷ word ∷ [])) t.1 (ap (λ (l : List ℕ). l ∷ word ∷ []) v, (Decides-word word).0 t.0)
+
+found_cover : (verb word : List ℕ) (event : Event) → verb ≡ codes "cover" → cover_in word ≡ Some event → AskFor event (verb ∷ word ∷ [])
+found_cover verb word event v e =
+    let t = taken (is_word word) (Cover word) event e in
+    subst (λ (x : Event). AskFor x (verb ∷ word ∷ [])) t.1 (ap (λ (l : List ℕ). l ∷ word ∷ []) v, (Decides-word word).0 t.0)
+
+-- a verb and a number of steps
+asked_steps : (verb word text : List ℕ) → verb ≡ text → is_short_number word ≡ true → nat_le 1 (value_of word) ≡ true
+    → AskForSteps text (value_of word) (verb ∷ word ∷ [])
+asked_steps verb word text v h some = record {
+  digits = word;
+  spoken = ap (λ (l : List ℕ). l ∷ word ∷ []) v;
+  short = (Decides-short word).0 h;
+  value = refl;
+  some = (Decides-some (value_of word)).0 some;
+}
+
 found_save_step : (verb word : List ℕ) (event : Event) → verb ≡ codes "save-step" → save_step_in word ≡ Some event → AskFor event (verb ∷ word ∷ [])
 found_save_step verb word event v e =
     elim (chosen (is_short_number word) (save_step_with (value_of word)) None (Some event) e) [
       | inl h ↦
           let t = taken (nat_le 1 (value_of word)) (SaveStep (value_of word)) event h.1 in
-          subst (λ (x : Event). AskFor x (verb ∷ word ∷ [])) t.1
-          (record {
-            digits = word;
-            spoken = ap (λ (l : List ℕ). l ∷ word ∷ []) v;
-            short = (Decides-short word).0 h.0;
-            value = refl;
-            some = (Decides-some (value_of word)).0 t.0;
-          })
+          subst (λ (x : Event). AskFor x (verb ∷ word ∷ [])) t.1 (asked_steps verb word (codes "save-step") v h.0 t.0)
+      | inr h ↦ absurd (let none = h.1 in cc)
+    ]
+
+found_step : (verb word : List ℕ) (event : Event) → verb ≡ codes "step" → step_in word ≡ Some event → AskFor event (verb ∷ word ∷ [])
+found_step verb word event v e =
+    elim (chosen (is_short_number word) (step_with (value_of word)) None (Some event) e) [
+      | inl h ↦
+          let t = taken (nat_le 1 (value_of word)) (Step (value_of word)) event h.1 in
+          subst (λ (x : Event). AskFor x (verb ∷ word ∷ [])) t.1 (asked_steps verb word (codes "step") v h.0 t.0)
       | inr h ↦ absurd (let none = h.1 in cc)
     ]
 
@@ -159,9 +182,13 @@ found_alone verb event e =
     elim (chosen (bytes_eq verb (codes "cells")) (Some Cells) _ (Some event) e) [
       | inl h ↦
           subst (λ (x : Event). AskFor x (verb ∷ [])) (some_is Cells event h.1) (ap (λ (l : List ℕ). l ∷ []) (is_verb verb (codes "cells") h.0))
-      | inr h ↦
-          let t = taken (bytes_eq verb (codes "save")) Save event h.1 in
-          subst (λ (x : Event). AskFor x (verb ∷ [])) t.1 (ap (λ (l : List ℕ). l ∷ []) (is_verb verb (codes "save") t.0))
+      | inr h ↦ elim (chosen (bytes_eq verb (codes "save")) (Some Save) _ (Some event) h.1) [
+        | inl i ↦
+            subst (λ (x : Event). AskFor x (verb ∷ [])) (some_is Save event i.1) (ap (λ (l : List ℕ). l ∷ []) (is_verb verb (codes "save") i.0))
+        | inr i ↦
+            let t = taken (bytes_eq verb (codes "commit")) Commit event i.1 in
+            subst (λ (x : Event). AskFor x (verb ∷ [])) t.1 (ap (λ (l : List ℕ). l ∷ []) (is_verb verb (codes "commit") t.0))
+      ]
     ]
 
 found_with_number : (verb word : List ℕ) (event : Event) → event_with_number verb word ≡ Some event → AskFor event (verb ∷ word ∷ [])
@@ -172,10 +199,26 @@ found_with_number verb word event e =
         | inl i ↦ found_refresh verb word event (is_verb verb (codes "refresh") i.0) i.1
         | inr i ↦ elim (chosen (bytes_eq verb (codes "panel")) (panel_in word) _ (Some event) i.1) [
           | inl j ↦ found_panel verb word event (is_verb verb (codes "panel") j.0) j.1
-          | inr j ↦ elim (chosen (bytes_eq verb (codes "close-panel")) (close_panel_in word) None (Some event) j.1) [
+          | inr j ↦ elim (chosen (bytes_eq verb (codes "close-panel")) (close_panel_in word) _ (Some event) j.1) [
             | inl k ↦ found_close_panel verb word event (is_verb verb (codes "close-panel") k.0) k.1
-            | inr k ↦ absurd (let none = k.1 in cc)
+            | inr k ↦ elim (chosen (bytes_eq verb (codes "step")) (step_in word) None (Some event) k.1) [
+              | inl l ↦ found_step verb word event (is_verb verb (codes "step") l.0) l.1
+              | inr l ↦ absurd (let none = l.1 in cc)
+            ]
           ]
+        ]
+      ]
+    ]
+
+found_with_cell : KeysAreTested → (verb word : List ℕ) (event : Event) → event_with_cell verb word ≡ Some event → AskFor event (verb ∷ word ∷ [])
+found_with_cell tested verb word event e =
+    elim (chosen (bytes_eq verb (codes "drop")) (drop_in word) _ (Some event) e) [
+      | inl h ↦ found_drop tested verb word event (is_verb verb (codes "drop") h.0) h.1
+      | inr h ↦ elim (chosen (bytes_eq verb (codes "draw")) (draw_in word) _ (Some event) h.1) [
+        | inl i ↦ found_draw tested verb word event (is_verb verb (codes "draw") i.0) i.1
+        | inr i ↦ elim (chosen (bytes_eq verb (codes "reissue")) (reissue_in word) _ (Some event) i.1) [
+          | inl j ↦ found_reissue tested verb word event (is_verb verb (codes "reissue") j.0) j.1
+          | inr j ↦ found_with_number verb word event j.1
         ]
       ]
     ]
@@ -186,16 +229,13 @@ found_with_one tested verb word event e =
       | inl h ↦ found_info verb word event (is_verb verb (codes "info") h.0) h.1
       | inr h ↦ elim (chosen (bytes_eq verb (codes "load")) (load_in word) _ (Some event) h.1) [
         | inl i ↦ found_load verb word event (is_verb verb (codes "load") i.0) i.1
-        | inr i ↦ elim (chosen (bytes_eq verb (codes "drop")) (drop_in word) _ (Some event) i.1) [
-          | inl j ↦ found_drop tested verb word event (is_verb verb (codes "drop") j.0) j.1
-          | inr j ↦ elim (chosen (bytes_eq verb (codes "draw")) (draw_in word) _ (Some event) j.1) [
-            | inl k ↦ found_draw tested verb word event (is_verb verb (codes "draw") k.0) k.1
-            | inr k ↦ elim (chosen (bytes_eq verb (codes "route")) (route_in word) _ (Some event) k.1) [
-              | inl l ↦ found_route verb word event (is_verb verb (codes "route") l.0) l.1
-              | inr l ↦ elim (chosen (bytes_eq verb (codes "reissue")) (reissue_in word) _ (Some event) l.1) [
-                | inl m ↦ found_reissue tested verb word event (is_verb verb (codes "reissue") m.0) m.1
-                | inr m ↦ found_with_number verb word event m.1
-              ]
+        | inr i ↦ elim (chosen (bytes_eq verb (codes "route")) (route_in word) _ (Some event) i.1) [
+          | inl j ↦ found_route verb word event (is_verb verb (codes "route") j.0) j.1
+          | inr j ↦ elim (chosen (bytes_eq verb (codes "begin")) (begin_in word) _ (Some event) j.1) [
+            | inl k ↦ found_begin verb word event (is_verb verb (codes "begin") k.0) k.1
+            | inr k ↦ elim (chosen (bytes_eq verb (codes "cover")) (cover_in word) _ (Some event) k.1) [
+              | inl l ↦ found_cover verb word event (is_verb verb (codes "cover") l.0) l.1
+              | inr l ↦ found_with_cell tested verb word event l.1
             ]
           ]
         ]
@@ -236,6 +276,9 @@ found tested line event e = record {
 save_step_again : (slices : ℕ) (digits : List ℕ) → IsShortNumber digits → slices ≡ value_of digits → 1 ≤ slices → save_step_in digits ≡ Some (SaveStep slices)
 save_step_again slices digits short is some = rw ((Decides-short digits).1 short, sym is, (Decides-some slices).1 some) refl
 
+step_again : (changes : ℕ) (digits : List ℕ) → IsShortNumber digits → changes ≡ value_of digits → 1 ≤ changes → step_in digits ≡ Some (Step changes)
+step_again changes digits short is some = rw ((Decides-short digits).1 short, sym is, (Decides-some changes).1 some) refl
+
 pub refresh_again : (panel : ℕ) (digits : List ℕ) → IsShortNumber digits → panel ≡ value_of digits → refresh_in digits ≡ Some (Refresh panel)
 refresh_again panel digits short is = rw ((Decides-short digits).1 short, sym is) refl
 
@@ -274,11 +317,21 @@ asked_again tested (ClosePanel panel) words a = ap event_of a.spoken ∙ close_p
 asked_again tested (Make areas update) words a =
     ap event_of a.spoken ∙ make_again areas update a.area_digits a.update_digits a.areas_short a.update_short a.areas_value a.update_value a.ranges
 asked_again tested (Reissue cell) words a = ap event_of a.0 ∙ rw ((tested cell).1 a.1) refl
+asked_again tested (Begin name) words a = ap event_of a.0 ∙ rw ((Decides-word name).1 a.1) refl
+asked_again tested (Step changes) words a = ap event_of a.spoken ∙ step_again changes a.digits a.short a.value a.some
+asked_again tested Commit words a = ap event_of a
+asked_again tested (Cover name) words a = ap event_of a.0 ∙ rw ((Decides-word name).1 a.1) refl
 asked_again tested Cells words a = ap event_of a
 
 split_panel : (verb : List ℕ) (panel : ℕ) (words : List (List ℕ)) → list_all (λ b. not (eqb b 32)) verb ≡ true → AskForPanel verb panel words
     → words_of (join_with_byte 32 words) ≡ words
 split_panel verb panel words h a =
+    ap (λ (w : List (List ℕ)). words_of (join_with_byte 32 w)) a.spoken
+    ∙ split_two verb a.digits (tested_lack verb h) (digits_lack a.digits a.short.0.1) ∙ sym a.spoken
+
+split_steps : (verb : List ℕ) (steps : ℕ) (words : List (List ℕ)) → list_all (λ b. not (eqb b 32)) verb ≡ true → AskForSteps verb steps words
+    → words_of (join_with_byte 32 words) ≡ words
+split_steps verb steps words h a =
     ap (λ (w : List (List ℕ)). words_of (join_with_byte 32 w)) a.spoken
     ∙ split_two verb a.digits (tested_lack verb h) (digits_lack a.digits a.short.0.1) ∙ sym a.spoken
 
@@ -304,9 +357,7 @@ split_again (Route name) words a =
     ∙ split_two (codes "route") name (tested_lack (codes "route") refl) (visible_lack name a.1.visible) ∙ sym a.0
 split_again Save words a =
     ap (λ (w : List (List ℕ)). words_of (join_with_byte 32 w)) a ∙ one_part 32 (codes "save") (tested_lack (codes "save") refl) ∙ sym a
-split_again (SaveStep slices) words a =
-    ap (λ (w : List (List ℕ)). words_of (join_with_byte 32 w)) a.spoken
-    ∙ split_two (codes "save-step") a.digits (tested_lack (codes "save-step") refl) (digits_lack a.digits a.short.0.1) ∙ sym a.spoken
+split_again (SaveStep slices) words a = split_steps (codes "save-step") slices words refl a
 split_again (Refresh panel) words a = split_panel (codes "refresh") panel words refl a
 split_again (Paint panel calls) words a =
     ap (λ (w : List (List ℕ)). words_of (join_with_byte 32 w)) a.spoken
@@ -321,6 +372,15 @@ split_again (Make areas update) words a =
 split_again (Reissue cell) words a =
     ap (λ (w : List (List ℕ)). words_of (join_with_byte 32 w)) a.0
     ∙ split_two (codes "reissue") cell (tested_lack (codes "reissue") refl) (visible_lack cell a.1.visible) ∙ sym a.0
+split_again (Begin name) words a =
+    ap (λ (w : List (List ℕ)). words_of (join_with_byte 32 w)) a.0
+    ∙ split_two (codes "begin") name (tested_lack (codes "begin") refl) (visible_lack name a.1.visible) ∙ sym a.0
+split_again (Step changes) words a = split_steps (codes "step") changes words refl a
+split_again Commit words a =
+    ap (λ (w : List (List ℕ)). words_of (join_with_byte 32 w)) a ∙ one_part 32 (codes "commit") (tested_lack (codes "commit") refl) ∙ sym a
+split_again (Cover name) words a =
+    ap (λ (w : List (List ℕ)). words_of (join_with_byte 32 w)) a.0
+    ∙ split_two (codes "cover") name (tested_lack (codes "cover") refl) (visible_lack name a.1.visible) ∙ sym a.0
 split_again Cells words a =
     ap (λ (w : List (List ℕ)). words_of (join_with_byte 32 w)) a ∙ one_part 32 (codes "cells") (tested_lack (codes "cells") refl) ∙ sym a
 
@@ -361,6 +421,13 @@ asked_short (Make areas update) words a =
     omega (arith, ap (λ (w : List (List ℕ)). length (join_with_byte 32 w)) a.spoken, length-append (codes "make") (32 ∷ (a.area_digits ++ 32 ∷ a.update_digits)), length-append a.area_digits (32 ∷ a.update_digits), a.areas_short.1, a.update_short.1)
 asked_short (Reissue cell) words a =
     omega (arith, ap (λ (w : List (List ℕ)). length (join_with_byte 32 w)) a.0, length-append (codes "reissue") (32 ∷ cell), a.1.short)
+asked_short (Begin name) words a =
+    omega (arith, ap (λ (w : List (List ℕ)). length (join_with_byte 32 w)) a.0, length-append (codes "begin") (32 ∷ name), a.1.short)
+asked_short (Step changes) words a =
+    omega (arith, ap (λ (w : List (List ℕ)). length (join_with_byte 32 w)) a.spoken, length-append (codes "step") (32 ∷ a.digits), a.short.1)
+asked_short Commit words a = omega (arith, ap (λ (w : List (List ℕ)). length (join_with_byte 32 w)) a)
+asked_short (Cover name) words a =
+    omega (arith, ap (λ (w : List (List ℕ)). length (join_with_byte 32 w)) a.0, length-append (codes "cover") (32 ∷ name), a.1.short)
 asked_short Cells words a = omega (arith, ap (λ (w : List (List ℕ)). length (join_with_byte 32 w)) a)
 
 pub spelled_short : (line : List ℕ) (event : Event) → Spells line event → length line ≤ 1024
@@ -383,6 +450,10 @@ asked_in_range (Panel panel) words a = tt
 asked_in_range (ClosePanel panel) words a = tt
 asked_in_range (Make areas update) words a = a.ranges
 asked_in_range (Reissue cell) words a = tt
+asked_in_range (Begin name) words a = tt
+asked_in_range (Step changes) words a = a.some
+asked_in_range Commit words a = tt
+asked_in_range (Cover name) words a = tt
 
 pub spelled_in_range : (line : List ℕ) (event : Event) → Spells line event → AreInRange event
 spelled_in_range line event s = asked_in_range event s.words s.asking

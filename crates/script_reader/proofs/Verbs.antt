@@ -9,9 +9,9 @@ use Rattle.text_scan.specs.Number.{value_of}
 use Rattle.script_reader.specs.Word.{IsWord}
 use Rattle.script_reader.specs.Number.{IsShortNumber, is_short_number}
 use Rattle.script_reader.specs.declared.event.Event.{Event}
-use Rattle.script_reader.specs.declared.event.Event.TheVariants.{Info, Load, Rollback, Route, Refresh, Panel, ClosePanel}
+use Rattle.script_reader.specs.declared.event.Event.TheVariants.{Info, Load, Rollback, Route, Refresh, Panel, ClosePanel, Begin, Cover}
 use Rattle.script_reader.specs.Line.{NamesFile}
-use Rattle.script_reader.specs.Reading.{info_in, load_in, rollback_in, route_in, save_step_with, save_step_in, refresh_in, paint_with, paint_in, panel_in, close_panel_in, make_with, make_in, event_with_one}
+use Rattle.script_reader.specs.Reading.{info_in, load_in, rollback_in, route_in, save_step_with, save_step_in, refresh_in, paint_with, paint_in, panel_in, close_panel_in, make_with, make_in, begin_in, step_with, step_in, cover_in, event_with_one}
 use Rattle.script_reader.proofs.WordTests.{KeysAreTested, Decides-word, Decides-short, no_short}
 use Rattle.script_reader.proofs.Events.{refresh_again, panel_again, close_panel_again}
 
@@ -32,6 +32,12 @@ route_read word name is same = rw (same, (Decides-word word).1 is) refl
 pub load_read : (word name : List ℕ) → IsWord word → name ≡ word → Some (Load name) ≡ load_in word
 load_read word name is same = rw (same, (Decides-word word).1 is) refl
 
+pub begin_read : (word name : List ℕ) → IsWord word → name ≡ word → Some (Begin name) ≡ begin_in word
+begin_read word name is same = rw (same, (Decides-word word).1 is) refl
+
+pub cover_read : (word name : List ℕ) → IsWord word → name ≡ word → Some (Cover name) ≡ cover_in word
+cover_read word name is same = rw (same, (Decides-word word).1 is) refl
+
 pub info_again : (word : List ℕ) → IsWord word → info_in word ≡ Some (Info word)
 info_again word is = rw ((Decides-word word).1 is) refl
 
@@ -40,6 +46,12 @@ route_again word is = rw ((Decides-word word).1 is) refl
 
 pub load_again : (word : List ℕ) → IsWord word → load_in word ≡ Some (Load word)
 load_again word is = rw ((Decides-word word).1 is) refl
+
+pub begin_again : (word : List ℕ) → IsWord word → begin_in word ≡ Some (Begin word)
+begin_again word is = rw ((Decides-word word).1 is) refl
+
+pub cover_again : (word : List ℕ) → IsWord word → cover_in word ≡ Some (Cover word)
+cover_again word is = rw ((Decides-word word).1 is) refl
 
 pub rollback_read : KeysAreTested → (cell digits key : List ℕ) (number : ℕ) → IsKey cell → key ≡ cell → IsShortNumber digits → number ≡ value_of digits
     → Some (Rollback key number) ≡ rollback_in cell digits
@@ -54,6 +66,9 @@ rollback_missed cell digits other =
 
 pub save_step_read : (digits : List ℕ) (number : ℕ) → IsShortNumber digits → number ≡ value_of digits → save_step_with number ≡ save_step_in digits
 save_step_read digits number short is = rw (is, (Decides-short digits).1 short) refl
+
+pub step_read : (digits : List ℕ) (number : ℕ) → IsShortNumber digits → number ≡ value_of digits → step_with number ≡ step_in digits
+step_read digits number short is = rw (is, (Decides-short digits).1 short) refl
 
 -- where one number isn't one, nothing is asked for
 pub number_missed : (event : Option Event) (digits : List ℕ) → ¬ IsShortNumber digits → None ≡ cond (is_short_number digits) event None
@@ -99,6 +114,16 @@ pub load_failed : {T E : Type 0} (verb word : List ℕ) (r : Result T E) → byt
 load_failed verb word r other is h = on_err_weaker r (λ e. (Load word, rw (other, is) e, tt)) h
 
 pub route_failed : {T E : Type 0} (verb word : List ℕ) (r : Result T E) → bytes_eq verb (codes "info") ≡ false → bytes_eq verb (codes "load") ≡ false
-    → bytes_eq verb (codes "drop") ≡ false → bytes_eq verb (codes "draw") ≡ false → bytes_eq verb (codes "route") ≡ true
-    → OnErr r (route_in word ≡ Some (Route word)) → OnErr r ((event : Event) × (event_with_one verb word ≡ Some event) × NamesFile event)
-route_failed verb word r info load drop draw is h = on_err_weaker r (λ e. (Route word, rw (info, load, drop, draw, is) e, tt)) h
+    → bytes_eq verb (codes "route") ≡ true → OnErr r (route_in word ≡ Some (Route word))
+    → OnErr r ((event : Event) × (event_with_one verb word ≡ Some event) × NamesFile event)
+route_failed verb word r info load is h = on_err_weaker r (λ e. (Route word, rw (info, load, is) e, tt)) h
+
+pub begin_failed : {T E : Type 0} (verb word : List ℕ) (r : Result T E) → bytes_eq verb (codes "info") ≡ false → bytes_eq verb (codes "load") ≡ false
+    → bytes_eq verb (codes "route") ≡ false → bytes_eq verb (codes "begin") ≡ true → OnErr r (begin_in word ≡ Some (Begin word))
+    → OnErr r ((event : Event) × (event_with_one verb word ≡ Some event) × NamesFile event)
+begin_failed verb word r info load route is h = on_err_weaker r (λ e. (Begin word, rw (info, load, route, is) e, tt)) h
+
+pub cover_failed : {T E : Type 0} (verb word : List ℕ) (r : Result T E) → bytes_eq verb (codes "info") ≡ false → bytes_eq verb (codes "load") ≡ false
+    → bytes_eq verb (codes "route") ≡ false → bytes_eq verb (codes "begin") ≡ false → bytes_eq verb (codes "cover") ≡ true
+    → OnErr r (cover_in word ≡ Some (Cover word)) → OnErr r ((event : Event) × (event_with_one verb word ≡ Some event) × NamesFile event)
+cover_failed verb word r info load route begin is h = on_err_weaker r (λ e. (Cover word, rw (info, load, route, begin, is) e, tt)) h

@@ -10,7 +10,7 @@ use Rattle.script_reader.specs.Number.{IsShortNumber}
 use Rattle.script_reader.specs.declared.event.Event.{Event}
 use Rattle.script_reader.specs.declared.event.Event.TheVariants.{Info, Load, Rollback, Drop, Cells, Draw, Route}
 use Rattle.script_reader.specs.declared.event.Event.TheVariants.{Save, SaveStep, Refresh, Paint, Panel}
-use Rattle.script_reader.specs.declared.event.Event.TheVariants.{ClosePanel, Make, Reissue}
+use Rattle.script_reader.specs.declared.event.Event.TheVariants.{ClosePanel, Make, Reissue, Begin, Step, Commit, Cover}
 
 -- `rollback`, a cell and the digits of an update's number
 pub record AskForRollback (cell : List ℕ) (update : ℕ) (words : List (List ℕ)) : Type 0 where
@@ -20,13 +20,13 @@ pub record AskForRollback (cell : List ℕ) (update : ℕ) (words : List (List �
   pub short : IsShortNumber digits
   pub value : update ≡ value_of digits
 
--- `save-step` and the digits of a number of slices, 1 at least
-pub record AskForSaveStep (slices : ℕ) (words : List (List ℕ)) : Type 0 where
+-- a verb and the digits of a number of steps, 1 at least
+pub record AskForSteps (verb : List ℕ) (steps : ℕ) (words : List (List ℕ)) : Type 0 where
   pub digits : List ℕ
-  pub spoken : words ≡ codes "save-step" ∷ digits ∷ []
+  pub spoken : words ≡ verb ∷ digits ∷ []
   pub short : IsShortNumber digits
-  pub value : slices ≡ value_of digits
-  pub some : 1 ≤ slices
+  pub value : steps ≡ value_of digits
+  pub some : 1 ≤ steps
 
 -- a verb and the digits of a panel's number
 pub record AskForPanel (verb : List ℕ) (panel : ℕ) (words : List (List ℕ)) : Type 0 where
@@ -72,13 +72,17 @@ AskFor Cells words = words ≡ codes "cells" ∷ []
 AskFor (Draw cell) words = (words ≡ codes "draw" ∷ cell ∷ []) × IsKey cell
 AskFor (Route name) words = (words ≡ codes "route" ∷ name ∷ []) × IsWord name
 AskFor Save words = words ≡ codes "save" ∷ []
-AskFor (SaveStep slices) words = AskForSaveStep slices words
+AskFor (SaveStep slices) words = AskForSteps (codes "save-step") slices words
 AskFor (Refresh panel) words = AskForPanel (codes "refresh") panel words
 AskFor (Paint panel calls) words = AskForPaint panel calls words
 AskFor (Panel panel) words = AskForPanel (codes "panel") panel words
 AskFor (ClosePanel panel) words = AskForPanel (codes "close-panel") panel words
 AskFor (Make areas update) words = AskForMake areas update words
 AskFor (Reissue cell) words = (words ≡ codes "reissue" ∷ cell ∷ []) × IsKey cell
+AskFor (Begin name) words = (words ≡ codes "begin" ∷ name ∷ []) × IsWord name
+AskFor (Step changes) words = AskForSteps (codes "step") changes words
+AskFor Commit words = words ≡ codes "commit" ∷ []
+AskFor (Cover name) words = (words ≡ codes "cover" ∷ name ∷ []) × IsWord name
 
 -- the events that name a file
 abbrev pub NamesFile : Event → Type 0
@@ -97,6 +101,10 @@ NamesFile (Panel panel) = ⊥
 NamesFile (ClosePanel panel) = ⊥
 NamesFile (Make areas update) = ⊥
 NamesFile (Reissue cell) = ⊥
+NamesFile (Begin name) = ⊤
+NamesFile (Step changes) = ⊥
+NamesFile Commit = ⊥
+NamesFile (Cover name) = ⊤
 
 -- the numbers of an event are in the ranges that its line has
 abbrev pub AreInRange : Event → Type 0
@@ -115,6 +123,10 @@ AreInRange (Panel panel) = ⊤
 AreInRange (ClosePanel panel) = ⊤
 AreInRange (Make areas update) = CanBeMade areas update
 AreInRange (Reissue cell) = ⊤
+AreInRange (Begin name) = ⊤
+AreInRange (Step changes) = 1 ≤ changes
+AreInRange Commit = ⊤
+AreInRange (Cover name) = ⊤
 
 -- the line is such words, parted by single spaces, with nothing before the first and nothing behind the last
 pub record Spells (line : List ℕ) (event : Event) : Type 0 where

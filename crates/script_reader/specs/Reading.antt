@@ -10,7 +10,7 @@ use Rattle.script_reader.specs.Number.{is_short_number}
 use Rattle.script_reader.specs.declared.event.Event.{Event}
 use Rattle.script_reader.specs.declared.event.Event.TheVariants.{Info, Load, Rollback, Drop, Cells, Draw, Route}
 use Rattle.script_reader.specs.declared.event.Event.TheVariants.{Save, SaveStep, Refresh, Paint, Panel}
-use Rattle.script_reader.specs.declared.event.Event.TheVariants.{ClosePanel, Make, Reissue}
+use Rattle.script_reader.specs.declared.event.Event.TheVariants.{ClosePanel, Make, Reissue, Begin, Step, Commit, Cover}
 use Rattle.script_reader.specs.declared.fault.LineFault.{LineFault}
 use Rattle.script_reader.specs.Line.{NamesFile}
 use Rattle.script_reader.specs.declared.fault.LineFault.TheVariants.{BadLine, NoMemory}
@@ -70,11 +70,24 @@ make_in areas update =
 abbrev pub reissue_in : List ℕ → Option Event
 reissue_in cell = if is_key cell then Some (Reissue cell) else None
 
--- a verb that takes no word, one number, one word, or two
+abbrev pub begin_in : List ℕ → Option Event
+begin_in name = if is_word name then Some (Begin name) else None
+
+abbrev pub step_with : ℕ → Option Event
+step_with changes = if nat_le 1 changes then Some (Step changes) else None
+
+abbrev pub step_in : List ℕ → Option Event
+step_in digits = if is_short_number digits then step_with (value_of digits) else None
+
+abbrev pub cover_in : List ℕ → Option Event
+cover_in name = if is_word name then Some (Cover name) else None
+
+-- a verb that takes no word, one number, a cell, one word, or two
 abbrev pub event_alone : List ℕ → Option Event
 event_alone verb =
     if bytes_eq verb (codes "cells") then Some Cells
     else if bytes_eq verb (codes "save") then Some Save
+    else if bytes_eq verb (codes "commit") then Some Commit
     else None
 
 abbrev pub event_with_number : List ℕ → List ℕ → Option Event
@@ -83,17 +96,24 @@ event_with_number verb digits =
     else if bytes_eq verb (codes "refresh") then refresh_in digits
     else if bytes_eq verb (codes "panel") then panel_in digits
     else if bytes_eq verb (codes "close-panel") then close_panel_in digits
+    else if bytes_eq verb (codes "step") then step_in digits
     else None
+
+abbrev pub event_with_cell : List ℕ → List ℕ → Option Event
+event_with_cell verb cell =
+    if bytes_eq verb (codes "drop") then drop_in cell
+    else if bytes_eq verb (codes "draw") then draw_in cell
+    else if bytes_eq verb (codes "reissue") then reissue_in cell
+    else event_with_number verb cell
 
 abbrev pub event_with_one : List ℕ → List ℕ → Option Event
 event_with_one verb word =
     if bytes_eq verb (codes "info") then info_in word
     else if bytes_eq verb (codes "load") then load_in word
-    else if bytes_eq verb (codes "drop") then drop_in word
-    else if bytes_eq verb (codes "draw") then draw_in word
     else if bytes_eq verb (codes "route") then route_in word
-    else if bytes_eq verb (codes "reissue") then reissue_in word
-    else event_with_number verb word
+    else if bytes_eq verb (codes "begin") then begin_in word
+    else if bytes_eq verb (codes "cover") then cover_in word
+    else event_with_cell verb word
 
 abbrev pub event_with_two : List ℕ → List ℕ → List ℕ → Option Event
 event_with_two verb first second =

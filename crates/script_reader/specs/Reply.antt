@@ -5,7 +5,8 @@ use Rattle.text_scan.specs.Written.{decimal_of}
 use Rattle.script_reader.specs.declared.reply.Reply.{Reply}
 use Rattle.script_reader.specs.declared.reply.Reply.TheVariants.{Info, Load, Cancel, Rollback, Drop, Cells, Draw}
 use Rattle.script_reader.specs.declared.reply.Reply.TheVariants.{Route, Save, SaveStep, Saved, Refresh, Paint, Panel}
-use Rattle.script_reader.specs.declared.reply.Reply.TheVariants.{ClosePanel, Make, Reissue, Refused}
+use Rattle.script_reader.specs.declared.reply.Reply.TheVariants.{ClosePanel, Make, Reissue, Begin, Step, Commit, Cover}
+use Rattle.script_reader.specs.declared.reply.Reply.TheVariants.{Refused}
 
 -- the decimal text of a number
 abbrev pub number : ℕ → List ℕ
@@ -47,4 +48,10 @@ bytes_of_reply (Make key edition update records) =
     line_of (codes "ok" ∷ codes "make" ∷ key ∷ number edition ∷ number update ∷ number records ∷ [])
 bytes_of_reply (Reissue key edition update) =
     line_of (codes "ok" ∷ codes "reissue" ∷ key ∷ number edition ∷ number update ∷ [])
+bytes_of_reply (Begin key total) = line_of (codes "ok" ∷ codes "begin" ∷ key ∷ number total ∷ [])
+bytes_of_reply (Step done total) = line_of (codes "ok" ∷ codes "step" ∷ number done ∷ number total ∷ [])
+bytes_of_reply (Commit key edition update) =
+    line_of (codes "ok" ∷ codes "commit" ∷ key ∷ number edition ∷ number update ∷ [])
+bytes_of_reply (Cover legs count lines) =
+    line_of (codes "ok" ∷ codes "cover" ∷ number legs ∷ number count ∷ []) ++ lines
 bytes_of_reply (Refused code values) = line_of (codes "no" ∷ number code ∷ words_if values)

@@ -4,13 +4,14 @@
 
 ghost use Rattle.std.specs.Prelude.{◌≡◌, IfOk, OnErr, Some};
 ghost use Rattle.script_reader.specs.declared.event.Event.{Event as EventValue};
-ghost use Rattle.script_reader.specs.declared.event.Event.TheVariants.{Info, Load, Route};
+ghost use Rattle.script_reader.specs.declared.event.Event.TheVariants.{Info, Load, Route, Begin, Cover};
 ghost use Rattle.script_reader.specs.Line.{NamesFile};
 ghost use Rattle.script_reader.specs.Reading.{info_in, load_in, rollback_in, drop_in, draw_in, route_in};
 ghost use Rattle.script_reader.specs.Reading.{make_in, make_with, reissue_in, save_step_in, save_step_with};
 ghost use Rattle.script_reader.specs.Reading.{refresh_in, paint_in, paint_with, panel_in, close_panel_in};
-ghost use Rattle.script_reader.specs.Reading.{event_alone, event_with_number, event_with_one, event_with_two};
-ghost use Rattle.script_reader.specs.Reading.{event_of};
+ghost use Rattle.script_reader.specs.Reading.{begin_in, step_with, step_in, cover_in};
+ghost use Rattle.script_reader.specs.Reading.{event_alone, event_with_number, event_with_cell, event_with_one};
+ghost use Rattle.script_reader.specs.Reading.{event_with_two, event_of};
 ghost use Rattle.text_lines.specs.Lines.{words_of};
 
 use crate::word::Word;
@@ -59,6 +60,14 @@ pub enum Event {
     Make(u32, u32),
     /// The chart of the cell is written as a base file, which is taken over.
     Reissue(Key),
+    /// The file of this name is read and judged, and its changes are to be made step by step.
+    Begin(Word),
+    /// The next changes of the file that was begun are made, so many, 1 at least, or those that are left.
+    Step(u32),
+    /// The file that was begun is taken over.
+    Commit,
+    /// The legs of the route of the file of this name that no coverage area covers are listed.
+    Cover(Word),
 }
 
 /// What a verb alone asks for.
@@ -69,6 +78,8 @@ fn event_alone(verb: &[u8]) -> Option<Event>
         Some(Event::Cells)
     } else if verb == b"save".as_slice() {
         Some(Event::Save)
+    } else if verb == b"commit".as_slice() {
+        Some(Event::Commit)
     } else {
         None
     }
@@ -227,6 +238,47 @@ fn reissue_of(cell: &[u8]) -> Option<Event>
     Some(Event::Reissue(cell))
 }
 
+/// `begin` and the name of a file.
+fn begin_of(alloc: Global, word: &[u8]) -> Result<Option<Event>, AllocError>
+    ensures event { IfOk result (λ event. event ≡ begin_in word.now) }
+    ensures memory { OnErr result (begin_in word.now ≡ Some (Begin word.now)) }
+{
+    match Word::from_bytes(alloc, word)? {
+        Some(name) => Ok(Some(Event::Begin(name))),
+        None => Ok(None),
+    }
+}
+
+/// So many changes, where they are 1 at least.
+fn step_with(changes: u32) -> Option<Event>
+    ensures { result ≡ step_with changes }
+{
+    if 1 <= changes {
+        Some(Event::Step(changes))
+    } else {
+        None
+    }
+}
+
+/// `step` and a number of changes.
+fn step_of(changes: &[u8]) -> Option<Event>
+    ensures { result ≡ step_in changes.now }
+{
+    let changes = read_short(changes)?;
+    step_with(changes)
+}
+
+/// `cover` and the name of a file.
+fn cover_of(alloc: Global, word: &[u8]) -> Result<Option<Event>, AllocError>
+    ensures event { IfOk result (λ event. event ≡ cover_in word.now) }
+    ensures memory { OnErr result (cover_in word.now ≡ Some (Cover word.now)) }
+{
+    match Word::from_bytes(alloc, word)? {
+        Some(name) => Ok(Some(Event::Cover(name))),
+        None => Ok(None),
+    }
+}
+
 /// What a verb and one number ask for.
 fn event_with_number(verb: &[u8], digits: &[u8]) -> Option<Event>
     ensures { result ≡ event_with_number verb.now digits.now }
@@ -239,8 +291,25 @@ fn event_with_number(verb: &[u8], digits: &[u8]) -> Option<Event>
         panel_of(digits)
     } else if verb == b"close-panel".as_slice() {
         close_panel_of(digits)
+    } else if verb == b"step".as_slice() {
+        step_of(digits)
     } else {
         None
+    }
+}
+
+/// What a verb and a cell, or one number, ask for.
+fn event_with_cell(verb: &[u8], cell: &[u8]) -> Option<Event>
+    ensures { result ≡ event_with_cell verb.now cell.now }
+{
+    if verb == b"drop".as_slice() {
+        drop_of(cell)
+    } else if verb == b"draw".as_slice() {
+        draw_of(cell)
+    } else if verb == b"reissue".as_slice() {
+        reissue_of(cell)
+    } else {
+        event_with_number(verb, cell)
     }
 }
 
@@ -254,16 +323,14 @@ fn event_with_one(alloc: Global, verb: &[u8], word: &[u8]) -> Result<Option<Even
         info_of(alloc, word)
     } else if verb == b"load".as_slice() {
         load_of(alloc, word)
-    } else if verb == b"drop".as_slice() {
-        Ok(drop_of(word))
-    } else if verb == b"draw".as_slice() {
-        Ok(draw_of(word))
     } else if verb == b"route".as_slice() {
         route_of(alloc, word)
-    } else if verb == b"reissue".as_slice() {
-        Ok(reissue_of(word))
+    } else if verb == b"begin".as_slice() {
+        begin_of(alloc, word)
+    } else if verb == b"cover".as_slice() {
+        cover_of(alloc, word)
     } else {
-        Ok(event_with_number(verb, word))
+        Ok(event_with_cell(verb, word))
     }
 }
 

@@ -21,7 +21,11 @@
 //! - `close-panel K`: the panel K is taken out, and those behind it move down by one, `ok close-panel K`;
 //! - `make N U`: a file of the cell for trials with N areas is made and taken over, its base file where U is 0, or else
 //!   its update U, `ok make KEY EDITION UPDATE RECORDS`;
-//! - `reissue CELL`: the chart of the cell is written and taken over, `ok reissue KEY EDITION UPDATE`.
+//! - `reissue CELL`: the chart of the cell is written and taken over, `ok reissue KEY EDITION UPDATE`;
+//! - `begin NAME`: the file is read and judged, and its changes are to be made step by step, `ok begin KEY TOTAL`;
+//! - `step N`: the next N of these changes are made, or those that are left, `ok step DONE TOTAL`;
+//! - `commit`: the file that was begun is taken over, `ok commit KEY EDITION UPDATE`, or `ok cancel KEY`;
+//! - `cover NAME`: the legs of a route that no coverage area covers, `ok cover LEGS COUNT` and a line for each of them.
 //!
 //! Nothing is replied to an empty line, nor to one that begins with `#`. Any other line is a bad line. A
 //! refusal is `no CODE`, and behind a space what it names, where it names anything.

@@ -49,6 +49,15 @@ pub enum Reply {
     Make(Key, u32, u32, u64),
     /// The chart of this cell was written and taken over: the edition and the update that are held now.
     Reissue(Key, u32, u32),
+    /// A file of this cell is begun: so many changes are to be made.
+    Begin(Key, u32),
+    /// So many changes of the file that was begun are made, of so many.
+    Step(u32, u32),
+    /// The file that was begun, of this cell, was taken over: the edition and the update that are held now.
+    Commit(Key, u32, u32),
+    /// So many legs of a route were looked at, and so many of them no coverage area covers, with the lines that follow,
+    /// each ended by a line feed.
+    Cover(u64, u64, Octets),
     /// The line is refused: the refusal's code, and what it names, parted by single spaces.
     Refused(u8, Octets),
 }
@@ -139,12 +148,18 @@ fn print_drawing(alloc: Global, key: &Key, count: u64, lines: &Octets) -> Result
     Ok(line)
 }
 
-/// The line of the numbers of legs and of dangers of a route, and those that follow it.
-fn print_route(alloc: Global, legs: u64, count: u64, lines: &Octets) -> Result<Octets, AllocError>
+/// The line of a verb, the number of a route's legs and the number of what is told of them, and those that follow it.
+fn print_route(
+    alloc: Global,
+    verb: &[u8],
+    legs: u64,
+    count: u64,
+    lines: &Octets,
+) -> Result<Octets, AllocError>
     ensures { IfOk result (λ line. line
-        ≡ line_of (codes "ok" ∷ codes "route" ∷ number legs ∷ number count ∷ []) ++ lines.now) }
+        ≡ line_of (codes "ok" ∷ verb.now ∷ number legs ∷ number count ∷ []) ++ lines.now) }
 {
-    let mut line = accepted(alloc, b"route")?;
+    let mut line = accepted(alloc, verb)?;
     push_number(alloc, &mut line, legs)?;
     push_number(alloc, &mut line, count)?;
     end_line(&mut line)?;
@@ -162,14 +177,26 @@ fn print_save(alloc: Global, slices: u32) -> Result<Octets, AllocError>
     Ok(line)
 }
 
-/// The line of the number of slices of a save that are written, and of all.
-fn print_save_step(alloc: Global, done: u32, slices: u32) -> Result<Octets, AllocError>
+/// The line of a verb, the number of steps that are done, and that of all.
+fn print_step(alloc: Global, verb: &[u8], done: u32, total: u32) -> Result<Octets, AllocError>
     ensures { IfOk result (λ line. line
-        ≡ line_of (codes "ok" ∷ codes "save-step" ∷ number done ∷ number slices ∷ [])) }
+        ≡ line_of (codes "ok" ∷ verb.now ∷ number done ∷ number total ∷ [])) }
 {
-    let mut line = accepted(alloc, b"save-step")?;
+    let mut line = accepted(alloc, verb)?;
     push_number(alloc, &mut line, done as u64)?;
-    push_number(alloc, &mut line, slices as u64)?;
+    push_number(alloc, &mut line, total as u64)?;
+    end_line(&mut line)?;
+    Ok(line)
+}
+
+/// The line of a cell whose file is begun, and the number of its changes.
+fn print_begin(alloc: Global, key: &Key, total: u32) -> Result<Octets, AllocError>
+    ensures { IfOk result (λ line. line
+        ≡ line_of (codes "ok" ∷ codes "begin" ∷ key.now ∷ number total ∷ [])) }
+{
+    let mut line = accepted(alloc, b"begin")?;
+    push_word(&mut line, key.as_slice())?;
+    push_number(alloc, &mut line, total as u64)?;
     end_line(&mut line)?;
     Ok(line)
 }
@@ -239,8 +266,8 @@ fn print_refusal(alloc: Global, code: u8, values: &Octets) -> Result<Octets, All
     Ok(line)
 }
 
-/// The bytes of the reply: its words, parted by single spaces, and a line feed; behind `ok cells`, `ok draw` and
-/// `ok route` the lines that follow, as they are. Numbers are plain decimals.
+/// The bytes of the reply: its words, parted by single spaces, and a line feed; behind `ok cells`, `ok draw`, `ok route`
+/// and `ok cover` the lines that follow, as they are. Numbers are plain decimals.
 #[tactic(auto, unfolding(crate::specs::Reply::bytes_of_reply))]
 pub fn print_reply(alloc: Global, reply: &Reply) -> Result<Octets, AllocError>
     ensures { IfOk result (λ bytes. bytes ≡ bytes_of_reply reply.now) }
@@ -257,9 +284,9 @@ pub fn print_reply(alloc: Global, reply: &Reply) -> Result<Octets, AllocError>
         Reply::Drop(key) => print_cell(alloc, b"drop", key),
         Reply::Cells(count, lines) => print_cells(alloc, *count, lines),
         Reply::Draw(key, count, lines) => print_drawing(alloc, key, *count, lines),
-        Reply::Route(legs, count, lines) => print_route(alloc, *legs, *count, lines),
+        Reply::Route(legs, count, lines) => print_route(alloc, b"route", *legs, *count, lines),
         Reply::Save(slices) => print_save(alloc, *slices),
-        Reply::SaveStep(done, slices) => print_save_step(alloc, *done, *slices),
+        Reply::SaveStep(done, slices) => print_step(alloc, b"save-step", *done, *slices),
         Reply::Saved => print_saved(alloc),
         Reply::Refresh(panel, calls) => print_refresh(alloc, *panel, *calls),
         Reply::Paint(panel, done, calls) => print_panel(alloc, b"paint", *panel, *done, *calls),
@@ -271,6 +298,12 @@ pub fn print_reply(alloc: Global, reply: &Reply) -> Result<Octets, AllocError>
         Reply::Reissue(key, edition, update) => {
             print_held(alloc, b"reissue", key, *edition, *update)
         }
+        Reply::Begin(key, total) => print_begin(alloc, key, *total),
+        Reply::Step(done, total) => print_step(alloc, b"step", *done, *total),
+        Reply::Commit(key, edition, update) => {
+            print_held(alloc, b"commit", key, *edition, *update)
+        }
+        Reply::Cover(legs, count, lines) => print_route(alloc, b"cover", *legs, *count, lines),
         Reply::Refused(code, values) => print_refusal(alloc, *code, values),
     }
 }

@@ -46,6 +46,10 @@ fn shown(alloc: Global, event: &Event) -> Result<Vec<u8>, AllocError> {
             text.extend_from_slice(cell.as_slice())?;
             Ok(text)
         }
+        Event::Begin(name) => Ok(format!(in alloc; "begin {}", name.as_str())?.into_bytes()),
+        Event::Step(changes) => Ok(format!(in alloc; "{changes} changes")?.into_bytes()),
+        Event::Commit => Vec::from_slice(alloc, b"commit"),
+        Event::Cover(name) => Ok(format!(in alloc; "cover {}", name.as_str())?.into_bytes()),
     }
 }
 
@@ -69,7 +73,7 @@ fn with_letters(alloc: Global, front: &[u8], count: usize) -> Result<Vec<u8>, Al
 }
 
 /// A line, and what it is read as.
-static LINES: [(&[u8], &[u8]); 103] = [
+static LINES: [(&[u8], &[u8]); 42] = [
     (b"", b"nothing"),
     (b"#", b"nothing"),
     (b"# cells", b"nothing"),
@@ -108,75 +112,99 @@ static LINES: [(&[u8], &[u8]); 103] = [
     (b"panel 0", b"what 0 shows"),
     (b"close-panel 999999999", b"999999999 taken out"),
     (b"close-panel 00", b"0 taken out"),
-    // no words, or not these
-    (b" ", b"bad 7"),
-    (b"\r", b"bad 7"),
-    (b" #", b"bad 7"),
-    (b" cells", b"bad 7"),
-    (b"cells ", b"bad 7"),
-    (b"cells x", b"bad 7"),
-    (b"Cells", b"bad 7"),
-    (b"cell", b"bad 7"),
-    (b"load", b"bad 7"),
-    (b"load ", b"bad 7"),
-    (b"load  T", b"bad 7"),
-    (b"load T ", b"bad 7"),
-    (b"load T U", b"bad 7"),
-    (b"load\tT", b"bad 7"),
-    (b"load T\xE9", b"bad 7"),
-    (b"drop 123456789012345678901234567890123", b"bad 7"),
-    (b"draw", b"bad 7"),
-    (b"draw X 1", b"bad 7"),
-    (b"Draw X", b"bad 7"),
-    (b"route", b"bad 7"),
-    (b"route X Y", b"bad 7"),
-    (b"routes X", b"bad 7"),
-    (b"make", b"bad 7"),
-    (b"make 1", b"bad 7"),
-    (b"make 0 0", b"bad 7"),
-    (b"make 20001 0", b"bad 7"),
-    (b"make 1 1000", b"bad 7"),
-    (b"make 0000000001 0", b"bad 7"),
-    (b"make 1 0000000000", b"bad 7"),
-    (b"make 1 -1", b"bad 7"),
-    (b"make 1 ", b"bad 7"),
-    (b"make 1 0 0", b"bad 7"),
-    (b"reissue", b"bad 7"),
-    (b"reissue X 1", b"bad 7"),
-    (b"reissue 123456789012345678901234567890123", b"bad 7"),
-    (b"save 1", b"bad 7"),
-    (b"saved", b"bad 7"),
-    (b"save-step", b"bad 7"),
-    (b"save-step 0", b"bad 7"),
-    (b"save-step 0000000001", b"bad 7"),
-    (b"save-step 1 1", b"bad 7"),
-    (b"save_step 1", b"bad 7"),
-    (b"refresh", b"bad 7"),
-    (b"refresh x", b"bad 7"),
-    (b"refresh 0000000001", b"bad 7"),
-    (b"refresh 1 1", b"bad 7"),
-    (b"paint", b"bad 7"),
-    (b"paint 1", b"bad 7"),
-    (b"paint 1 0", b"bad 7"),
-    (b"paint x 1", b"bad 7"),
-    (b"paint 1 x", b"bad 7"),
-    (b"paint 0000000001 1", b"bad 7"),
-    (b"paint 1 0000000001", b"bad 7"),
-    (b"paint 1 1 1", b"bad 7"),
-    (b"panel", b"bad 7"),
-    (b"panel x", b"bad 7"),
-    (b"panel 1234567890", b"bad 7"),
-    (b"panel 1 1", b"bad 7"),
-    (b"close-panel", b"bad 7"),
-    (b"close-panel x", b"bad 7"),
-    (b"close-panel 1234567890", b"bad 7"),
-    (b"close-panel 1 1", b"bad 7"),
-    (b"close_panel 1", b"bad 7"),
-    (b"rollback X", b"bad 7"),
-    (b"rollback X 1234567890", b"bad 7"),
-    (b"rollback X +1", b"bad 7"),
-    (b"rollback  1", b"bad 7"),
-    (b"rollback X 1 2", b"bad 7"),
+    (b"begin ENC/AA5TEST1.001", b"begin ENC/AA5TEST1.001"),
+    (b"begin begin", b"begin begin"),
+    (b"step 1", b"1 changes"),
+    (b"step 000000017", b"17 changes"),
+    (b"step 999999999", b"999999999 changes"),
+    (b"commit", b"commit"),
+    (b"cover passages/1", b"cover passages/1"),
+];
+
+/// Lines without words, or with other words.
+static BAD_LINES: [&[u8]; 82] = [
+    b" ",
+    b"\r",
+    b" #",
+    b" cells",
+    b"cells ",
+    b"cells x",
+    b"Cells",
+    b"cell",
+    b"load",
+    b"load ",
+    b"load  T",
+    b"load T ",
+    b"load T U",
+    b"load\tT",
+    b"load T\xE9",
+    b"drop 123456789012345678901234567890123",
+    b"draw",
+    b"draw X 1",
+    b"Draw X",
+    b"route",
+    b"route X Y",
+    b"routes X",
+    b"make",
+    b"make 1",
+    b"make 0 0",
+    b"make 20001 0",
+    b"make 1 1000",
+    b"make 0000000001 0",
+    b"make 1 0000000000",
+    b"make 1 -1",
+    b"make 1 ",
+    b"make 1 0 0",
+    b"reissue",
+    b"reissue X 1",
+    b"reissue 123456789012345678901234567890123",
+    b"save 1",
+    b"saved",
+    b"save-step",
+    b"save-step 0",
+    b"save-step 0000000001",
+    b"save-step 1 1",
+    b"save_step 1",
+    b"refresh",
+    b"refresh x",
+    b"refresh 0000000001",
+    b"refresh 1 1",
+    b"paint",
+    b"paint 1",
+    b"paint 1 0",
+    b"paint x 1",
+    b"paint 1 x",
+    b"paint 0000000001 1",
+    b"paint 1 0000000001",
+    b"paint 1 1 1",
+    b"panel",
+    b"panel x",
+    b"panel 1234567890",
+    b"panel 1 1",
+    b"close-panel",
+    b"close-panel x",
+    b"close-panel 1234567890",
+    b"close-panel 1 1",
+    b"close_panel 1",
+    b"begin",
+    b"begin ",
+    b"begin X Y",
+    b"step",
+    b"step 0",
+    b"step 000000000",
+    b"step 0000000001",
+    b"step x",
+    b"step 1 1",
+    b"commit X",
+    b"commit ",
+    b"cover",
+    b"cover X Y",
+    b"covers X",
+    b"rollback X",
+    b"rollback X 1234567890",
+    b"rollback X +1",
+    b"rollback  1",
+    b"rollback X 1 2",
 ];
 
 #[test]
@@ -184,6 +212,15 @@ fn lines(rt: HostRuntime) -> Result<(), Fail> {
     for (at, (line, read)) in LINES.iter().enumerate() {
         let text = answer(rt.alloc(), line)?;
         assert!(rt; text.as_slice() == *read, "case {at}");
+    }
+    Ok(())
+}
+
+#[test]
+fn bad_lines(rt: HostRuntime) -> Result<(), Fail> {
+    for (at, line) in BAD_LINES.iter().enumerate() {
+        let text = answer(rt.alloc(), line)?;
+        assert!(rt; text.as_slice() == b"bad 7".as_slice(), "case {at}");
     }
     Ok(())
 }
@@ -223,7 +260,7 @@ fn octets(alloc: Global, text: &[u8]) -> Result<Octets, AllocError> {
 #[test]
 fn replies(rt: HostRuntime) -> Result<(), Fail> {
     let key = Key::from_bytes(b"AA5TEST1").ok_or("a key")?;
-    let cases: [(Reply, &[u8]); 14] = [
+    let cases: [(Reply, &[u8]); 17] = [
         (
             Reply::Info(key, 1, 2, 18_446_744_073_709_551_615),
             b"ok info AA5TEST1 1 2 18446744073709551615\n",
@@ -253,6 +290,12 @@ fn replies(rt: HostRuntime) -> Result<(), Fail> {
         ),
         (Reply::Make(key, 1, 10, 435), b"ok make AA5TEST1 1 10 435\n"),
         (Reply::Reissue(key, 1, 2), b"ok reissue AA5TEST1 1 2\n"),
+        (
+            Reply::Begin(key, 4_294_967_295),
+            b"ok begin AA5TEST1 4294967295\n",
+        ),
+        (Reply::Step(3, 39_002), b"ok step 3 39002\n"),
+        (Reply::Commit(key, 1, 2), b"ok commit AA5TEST1 1 2\n"),
     ];
     for (at, (reply, bytes)) in cases.iter().enumerate() {
         let text = print_reply(rt.alloc(), reply)?;
@@ -268,7 +311,8 @@ fn replies_with_lines(rt: HostRuntime) -> Result<(), Fail> {
     let cells = octets(alloc, b"cell AA5TEST1 1 0 1 2\n")?;
     let items = octets(alloc, b"item 5 P 3 whole SY(QUESMRK1)\n")?;
     let dangers = octets(alloc, b"danger 2 AA5TEST1 4 1\n")?;
-    let cases: [(Reply, &[u8]); 3] = [
+    let uncovered = octets(alloc, b"uncovered 2\n")?;
+    let cases: [(Reply, &[u8]); 4] = [
         (
             Reply::Cells(1, cells),
             b"ok cells 1\ncell AA5TEST1 1 0 1 2\n",
@@ -280,6 +324,10 @@ fn replies_with_lines(rt: HostRuntime) -> Result<(), Fail> {
         (
             Reply::Route(2, 1, dangers),
             b"ok route 2 1\ndanger 2 AA5TEST1 4 1\n",
+        ),
+        (
+            Reply::Cover(2, 1, uncovered),
+            b"ok cover 2 1\nuncovered 2\n",
         ),
     ];
     for (at, (reply, bytes)) in cases.iter().enumerate() {

@@ -54,7 +54,7 @@ const EAST: Row = Row {
 };
 
 /// The key of a chart, and its features; or a cancelled cell.
-type Chart = (&'static [u8], Option<&'static [Row]>);
+pub(super) type Chart = (&'static [u8], Option<&'static [Row]>);
 
 /// The charts that are held, the half-widths of a route, its points, and the legs that aren't covered.
 type Case = (&'static [Chart], [u32; 2], &'static [Place], &'static [u64]);
@@ -66,7 +66,7 @@ const OUT: &[Place] = &[[10, 50], [190, 50], [250, 50]];
 const ACROSS: &[Place] = &[[10, 50], [90, 50], [110, 50], [190, 50]];
 
 /// One chart with the whole rectangle as an area of coverage.
-const ONE: &[Chart] = &[(b"AA5TEST1", Some(&[WHOLE]))];
+pub(super) const ONE: &[Chart] = &[(b"AA5TEST1", Some(&[WHOLE]))];
 
 /// The same with a feature that differs from it.
 macro_rules! other {
@@ -226,7 +226,7 @@ fn hold_cancelled(alloc: Global, state: &mut State, key: Key) -> Result<(), Allo
 }
 
 /// The charts of a case.
-fn all_held(alloc: Global, charts: &[Chart]) -> Result<State, Fail> {
+pub(super) fn all_held(alloc: Global, charts: &[Chart]) -> Result<State, Fail> {
     let mut state = nothing_held(alloc);
     for (key, features) in charts {
         let key = Key::from_bytes(key).ok_or("a key")?;

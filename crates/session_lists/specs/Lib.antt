@@ -1,0 +1,4 @@
+pub mod Cells
+pub mod Draw
+pub mod Route
+pub mod Cover
