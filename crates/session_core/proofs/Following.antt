@@ -17,10 +17,10 @@ use Rattle.session_core.specs.declared.refusal.LineRefusal.{LineRefusal}
 use Rattle.session_core.specs.declared.refusal.LineRefusal.TheVariants.{Busy, Store}
 use Rattle.session_core.specs.Draw.{draw_of}
 use Rattle.session_core.specs.Info.{info_of}
-use Rattle.session_core.specs.Listing.{cells_reply}
-use Rattle.session_core.specs.Order.{drop_order, load_order, make_order, reissue_order, reply_to, rollback_order}
-use Rattle.session_core.specs.Model.{Model, Portrayal, Progress, model_with, with_scenes}
-use Rattle.session_core.specs.Route.{ROUTE_LIMIT, route_of}
+use Rattle.session_lists.specs.Cells.{cells_reply}
+use Rattle.session_core.specs.Order.{commit_order, decision_turn, drop_order, load_order, make_order, order_turn, reissue_order, reply_to, rollback_order}
+use Rattle.session_core.specs.Model.{Model, Portrayal, Progress, Staging, model_with, staging_past, with_scenes, with_staging}
+use Rattle.session_core.specs.Route.{ROUTE_LIMIT, cover_of, route_of}
 use Rattle.session_core.specs.Save.{bank_bytes, is_done_by, is_too_long, model_saving, room_saved, slices_of, written_more}
 use Rattle.std.specs.Prelude.{is_some}
 use Rattle.panel_port.specs.declared.summary.Summary.{Summary}
@@ -29,243 +29,60 @@ use Rattle.panel_scenes.specs.Scene.{SceneValue}
 use Rattle.session_core.specs.Outside.{FromOutside}
 use Rattle.session_core.specs.Panels.{IsOfPanel, begun_turn, close_turn, panel_turn, refresh_turn, target_of}
 use Rattle.session_core.specs.Replied.{Turn, refusal_turn, reply_turn}
-use Rattle.session_core.specs.Turn.{IsOfSave, begin_turn, decision_turn, order_turn, save_turn, step_turn, turn_of}
-
--- ---- commands
-
-by_outcome : (found : Result Outcome of_store.Refusal) (room : Result (Unit {0}) of_store.Refusal) (done : Outcome)
-    → (found >>= λ left. room >>= λ none. Ok left) ≡ Ok done → found ≡ Ok done
-by_outcome (Err refusal) room done e = absurd cc
-by_outcome (Ok left) (Err refusal) done e = absurd cc
-by_outcome (Ok left) (Ok none) done e = e
-
--- what is accepted leaves what its command leaves
-accepted-leaves : (state : StateValue) (room : Room) (command : Command) (done : Outcome) → accepted state room command ≡ Ok done
-    → done.state ≡ state_with state command
-unfolding accepted
-accepted-leaves state room command done e =
-    sym (ap (state_or state) (by_outcome (outcome state command) (room_within room (record_size command)) done e))
-
-module _ (model : Model) (own : Command) (reply : Outcome → Reply) where
-  decided-none : (r : Result Outcome of_store.Refusal) → (decision_turn model own reply r).command ≡ None
-      → (decision_turn model own reply r).model ≡ model
-  decided-none (Ok done) e = absurd (let f : ◌≡◌ {A = Option Command} (Some own) None = e in cc)
-  decided-none (Err refusal) e = refl
-
-  decided-some : (r : Result Outcome of_store.Refusal) (command : Command) → accepted model.state model.room own ≡ r
-      → (decision_turn model own reply r).command ≡ Some command
-      → (decision_turn model own reply r).model ≡ model_with model command (state_with model.state command)
-  decided-some (Ok done) command is e =
-      let same : own ≡ command = let f : Some own ≡ Some command = e in cc in
-      ap (model_with model own) (accepted-leaves model.state model.room own done is)
-      ∙ ap (λ (given : Command). model_with model given (state_with model.state given)) same
-  decided-some (Err refusal) command is e = absurd (let f : ◌≡◌ {A = Option Command} None (Some command) = e in cc)
-
-  decided-live : ((state : StateValue) (command : Command) → AreLive state.cells → AreLive (state_with state command).cells)
-      → (r : Result Outcome of_store.Refusal) → accepted model.state model.room own ≡ r → AreLive model.state.cells
-      → AreLive (decision_turn model own reply r).model.state.cells
-  decided-live more (Ok done) is live =
-      subst (λ (state : StateValue). AreLive state.cells) (sym (accepted-leaves model.state model.room own done is))
-      (more model.state own live)
-  decided-live more (Err refusal) is live = live
-
-  decided-drawn : (r : Result Outcome of_store.Refusal) → (decision_turn model own reply r).model.portrayal ≡ model.portrayal
-  decided-drawn (Ok done) = refl
-  decided-drawn (Err refusal) = refl
-
-  decided-scenes : (r : Result Outcome of_store.Refusal) → (decision_turn model own reply r).model.scenes ≡ model.scenes
-  decided-scenes (Ok done) = refl
-  decided-scenes (Err refusal) = refl
-
--- ---- questions
-
-replied-same : (model : Model) (r : Result Reply LineRefusal) → (reply_turn model r).model ≡ model
-replied-same model (Ok reply) = refl
-replied-same model (Err refusal) = refl
-
-replied-none : (model : Model) (r : Result Reply LineRefusal) → (reply_turn model r).command ≡ None
-replied-none model (Ok reply) = refl
-replied-none model (Err refusal) = refl
-
-nothing-some : {X : Type 0} (o : Option Command) (command : Command) → o ≡ None → o ≡ Some command → X
-nothing-some o command none some = absurd (let f : ◌≡◌ {A = Option Command} None (Some command) = sym none ∙ some in cc)
-
--- ---- orders
-
-abbrev reply_by : Order → Outcome → Reply
-reply_by order done = reply_to order.success done.key done.held
-
-abbrev pub More : Type 0
-More = (state : StateValue) (command : Command) → AreLive state.cells → AreLive (state_with state command).cells
-
-module _ (model : Model) where
-  ordered-none : (order : Result Order LineRefusal) → (order_turn model order).command ≡ None → (order_turn model order).model ≡ model
-  ordered-none (Ok order) e = decided-none model order.command (reply_by order) (accepted model.state model.room order.command) e
-  ordered-none (Err refusal) e = refl
-
-  ordered-some : (order : Result Order LineRefusal) (command : Command) → (order_turn model order).command ≡ Some command
-      → (order_turn model order).model ≡ model_with model command (state_with model.state command)
-  ordered-some (Ok order) command e =
-      decided-some model order.command (reply_by order) (accepted model.state model.room order.command) command refl e
-  ordered-some (Err refusal) command e = nothing-some None command refl e
-
-  ordered-live : More → (order : Result Order LineRefusal) → AreLive model.state.cells → AreLive (order_turn model order).model.state.cells
-  ordered-live more (Ok order) live =
-      decided-live model order.command (reply_by order) more (accepted model.state model.room order.command) refl live
-  ordered-live more (Err refusal) live = live
-
-  ordered-drawn : (order : Result Order LineRefusal) → (order_turn model order).model.portrayal ≡ model.portrayal
-  ordered-drawn (Ok order) = decided-drawn model order.command (reply_by order) (accepted model.state model.room order.command)
-  ordered-drawn (Err refusal) = refl
-
-  ordered-scenes : (order : Result Order LineRefusal) → (order_turn model order).model.scenes ≡ model.scenes
-  ordered-scenes (Ok order) = decided-scenes model order.command (reply_by order) (accepted model.state model.room order.command)
-  ordered-scenes (Err refusal) = refl
-
-  replied-some : (reply : Result Reply LineRefusal) (command : Command) → (reply_turn model reply).command ≡ Some command
-      → (reply_turn model reply).model ≡ model_with model command (state_with model.state command)
-  replied-some reply command e = nothing-some (reply_turn model reply).command command (replied-none model reply) e
-
-  replied-live : (reply : Result Reply LineRefusal) → AreLive model.state.cells → AreLive (reply_turn model reply).model.state.cells
-  replied-live reply live = subst (λ (m : Model). AreLive m.state.cells) (sym (replied-same model reply)) live
-
--- ---- saves
-
-abbrev held-in : Model → StateValue
-held-in model = model.state
-
-abbrev drawn-by : Model → Portrayal
-drawn-by model = model.portrayal
-
-abbrev scenes-in : Model → List SceneValue
-scenes-in model = model.scenes
-
--- what comes of it where none is under way
-abbrev begun_by : Model → Bool → Turn
-begun_by model b = cond b (refusal_turn model (Store (refuses.BankFull 0 (bank_bytes model.state))))
-    (save_turn (replies.Save (slices_of model.state)) (model_saving model))
-
-begun-state : (model : Model) (save : Option Progress) → (begin_turn model save).model.state ≡ model.state
-begun-state model (Some save) = refl
-begun-state model None =
-    elim (is_too_long model.state) as (λ b. (begun_by model b).model.state ≡ model.state) [ true ↦ refl | false ↦ refl ]
-
-begun-drawn : (model : Model) (save : Option Progress) → (begin_turn model save).model.portrayal ≡ model.portrayal
-begun-drawn model (Some save) = refl
-begun-drawn model None =
-    elim (is_too_long model.state) as (λ b. (begun_by model b).model.portrayal ≡ model.portrayal) [ true ↦ refl | false ↦ refl ]
-
-begun-scenes : (model : Model) (save : Option Progress) → (begin_turn model save).model.scenes ≡ model.scenes
-begun-scenes model (Some save) = refl
-begun-scenes model None =
-    elim (is_too_long model.state) as (λ b. (begun_by model b).model.scenes ≡ model.scenes) [ true ↦ refl | false ↦ refl ]
-
-begun-none : (model : Model) (save : Option Progress) → (begin_turn model save).command ≡ None
-begun-none model (Some save) = refl
-begun-none model None = elim (is_too_long model.state) as (λ b. (begun_by model b).command ≡ None) [ true ↦ refl | false ↦ refl ]
-
-stepped-state : (model : Model) (n : ℕ) (save : Option Progress) → (step_turn model n save).model.state ≡ model.state
-stepped-state model n None = refl
-stepped-state model n (Some save) =
-    elim (is_done_by save n) as (λ b. (cond b (record model { room = room_saved model.room; save = None }) (record model { save = Some (written_more save n) })).state ≡ model.state) [
-      | true ↦ refl
-      | false ↦ refl
-    ]
-
-stepped-drawn : (model : Model) (n : ℕ) (save : Option Progress) → (step_turn model n save).model.portrayal ≡ model.portrayal
-stepped-drawn model n None = refl
-stepped-drawn model n (Some save) =
-    elim (is_done_by save n) as (λ b. (cond b (record model { room = room_saved model.room; save = None }) (record model { save = Some (written_more save n) })).portrayal ≡ model.portrayal) [
-      | true ↦ refl
-      | false ↦ refl
-    ]
-
-stepped-scenes : (model : Model) (n : ℕ) (save : Option Progress) → (step_turn model n save).model.scenes ≡ model.scenes
-stepped-scenes model n None = refl
-stepped-scenes model n (Some save) =
-    elim (is_done_by save n) as (λ b. (cond b (record model { room = room_saved model.room; save = None }) (record model { save = Some (written_more save n) })).scenes ≡ model.scenes) [
-      | true ↦ refl
-      | false ↦ refl
-    ]
-
-stepped-none : (model : Model) (n : ℕ) (save : Option Progress) → (step_turn model n save).command ≡ None
-stepped-none model n None = refl
-stepped-none model n (Some save) = refl
-
--- ---- panels
-
--- a line about panels accepts no command, and changes what is known of panels alone
-abbrev OfPanel : Model → Turn → Type 0
-OfPanel model turn = (turn.command ≡ None) × (turn.model ≡ with_scenes model turn.model.scenes)
-
-refreshed-alone : (model : Model) (k : ℕ) (scene : Option SceneValue) → OfPanel model (refresh_turn model k scene)
-refreshed-alone model k None = (refl, refl)
-refreshed-alone model k (Some scene) =
-    elim (is_some scene.refresh) as (λ b. OfPanel model (cond b (refusal_turn model Busy) (begun_turn model k (target_of model.portrayal model.state.cells) scene))) [
-      | true ↦ (refl, refl)
-      | false ↦ (refl, refl)
-    ]
-
-asked-alone : (model : Model) (k : ℕ) (numbers : Summary) (scene : Option SceneValue) → OfPanel model (panel_turn model k numbers scene)
-asked-alone model k numbers None = (refl, refl)
-asked-alone model k numbers (Some scene) = (refl, refl)
-
-closed-alone : (model : Model) (k : ℕ) (scene : Option SceneValue) → OfPanel model (close_turn model k scene)
-closed-alone model k None = (refl, refl)
-closed-alone model k (Some scene) = (refl, refl)
-
-of-panel : (outside : FromOutside) (model : Model) (event : Event) → IsOfPanel event → OfPanel model (turn_of outside model event)
-unfolding turn_of
-of-panel outside model (asks.Refresh k) is = refreshed-alone model k (numbered k model.scenes)
-of-panel outside model (asks.Paint k n) is = (refl, refl)
-of-panel outside model (asks.Panel k) is = asked-alone model k outside.numbers (numbered k model.scenes)
-of-panel outside model (asks.ClosePanel k) is = closed-alone model k (numbered k model.scenes)
-of-panel outside model other is = absurd is
-
-pub turn-of-panel : (outside : FromOutside) (model : Model) (event : Event) → IsOfPanel event
-    → (turn_of outside model event).model ≡ with_scenes model (turn_of outside model event).model.scenes
-turn-of-panel outside model event is = (of-panel outside model event is).1
+use Rattle.session_core.specs.Staging.{IsOfStaging, change_turn, commit_turn, stage_turn, unstaged}
+use Rattle.session_core.specs.Turn.{IsOfSave, MayAccept, begin_turn, save_turn, step_turn, turn_of}
+use Rattle.session_core.proofs.Stages.{by-change, by-commit, by-stage}
+use Rattle.session_core.proofs.Leaving.{Leaves, More, ordered-staging, begun-drawn, begun-none, begun-scenes, begun-staging, begun-state, drawn-by, file-order, held-in, leaves-all, nothing-some, of-panel, ordered-drawn, ordered-live, ordered-none, ordered-scenes, ordered-some, panel-staging, replied-live, replied-none, replied-same, replied-some, replied-staging, rests-staging, scenes-in, staged-by, stepped-drawn, stepped-none, stepped-scenes, stepped-staging, stepped-state}
 
 -- ---- turns
 
-pub turn-same : (outside : FromOutside) (model : Model) (event : Event) → (turn_of outside model event).command ≡ None → ¬ IsOfSave event → ¬ IsOfPanel event
+pub turn-same : (outside : FromOutside) (model : Model) (event : Event) → (turn_of outside model event).command ≡ None → ¬ IsOfSave event → ¬ IsOfStaging event → ¬ IsOfPanel event
     → (turn_of outside model event).model ≡ model
 unfolding turn_of
-turn-same outside model (asks.Info name) e other none = replied-same model (info_of name (outside.fetches FILE_LIMIT name))
-turn-same outside model asks.Cells e other none = refl
-turn-same outside model (asks.Draw key) e other none = replied-same model (draw_of model.portrayal model.state.cells key)
-turn-same outside model (asks.Route name) e other none =
+turn-same outside model (asks.Info name) e other apart none = replied-same model (info_of name (outside.fetches FILE_LIMIT name))
+turn-same outside model asks.Cells e other apart none = refl
+turn-same outside model (asks.Draw key) e other apart none = replied-same model (draw_of model.portrayal model.state.cells key)
+turn-same outside model (asks.Route name) e other apart none =
     replied-same model (route_of model.portrayal.settings model.state name (outside.fetches ROUTE_LIMIT name))
-turn-same outside model (asks.Load name) e other none = ordered-none model (load_order name (outside.fetches FILE_LIMIT name)) e
-turn-same outside model (asks.Rollback key update) e other none = ordered-none model (Ok (rollback_order key update)) e
-turn-same outside model (asks.Drop key) e other none = ordered-none model (Ok (drop_order key)) e
-turn-same outside model asks.Save e other none = absurd (other tt)
-turn-same outside model (asks.SaveStep slices) e other none = absurd (other tt)
-turn-same outside model (asks.Refresh k) e other none = absurd (none tt)
-turn-same outside model (asks.Paint k n) e other none = absurd (none tt)
-turn-same outside model (asks.Panel k) e other none = absurd (none tt)
-turn-same outside model (asks.ClosePanel k) e other none = absurd (none tt)
-turn-same outside model (asks.Make areas update) e other none = ordered-none model (make_order areas update) e
-turn-same outside model (asks.Reissue key) e other none = ordered-none model (reissue_order model.state.cells key) e
+turn-same outside model (asks.Cover name) e other apart none =
+    replied-same model (cover_of model.state name (outside.fetches ROUTE_LIMIT name))
+turn-same outside model (asks.Load name) e other apart none = ordered-none model (load_order name (outside.fetches FILE_LIMIT name)) e
+turn-same outside model (asks.Rollback key update) e other apart none = ordered-none model (Ok (rollback_order key update)) e
+turn-same outside model (asks.Drop key) e other apart none = ordered-none model (Ok (drop_order key)) e
+turn-same outside model (asks.Begin name) e other apart none = absurd (apart tt)
+turn-same outside model (asks.Step n) e other apart none = absurd (apart tt)
+turn-same outside model asks.Commit e other apart none = absurd (apart tt)
+turn-same outside model asks.Save e other apart none = absurd (other tt)
+turn-same outside model (asks.SaveStep slices) e other apart none = absurd (other tt)
+turn-same outside model (asks.Refresh k) e other apart none = absurd (none tt)
+turn-same outside model (asks.Paint k n) e other apart none = absurd (none tt)
+turn-same outside model (asks.Panel k) e other apart none = absurd (none tt)
+turn-same outside model (asks.ClosePanel k) e other apart none = absurd (none tt)
+turn-same outside model (asks.Make areas update) e other apart none = ordered-none model (make_order areas update) e
+turn-same outside model (asks.Reissue key) e other apart none = ordered-none model (reissue_order model.state.cells key) e
 
 pub turn-none : (outside : FromOutside) (model : Model) (event : Event) → (turn_of outside model event).command ≡ None
     → (turn_of outside model event).model.state ≡ model.state
 unfolding turn_of
+turn-none outside model (asks.Begin name) e = ap held-in (staged-by model outside (asks.Begin name) tt e)
+turn-none outside model (asks.Step n) e = ap held-in (staged-by model outside (asks.Step n) tt e)
+turn-none outside model asks.Commit e = ap held-in (staged-by model outside asks.Commit tt e)
 turn-none outside model asks.Save e = begun-state model model.save
 turn-none outside model (asks.SaveStep slices) e = stepped-state model slices model.save
-turn-none outside model (asks.Info name) e = ap held-in (turn-same outside model (asks.Info name) e (λ no. no) (λ no. no))
+turn-none outside model (asks.Info name) e = ap held-in (turn-same outside model (asks.Info name) e (λ no. no) (λ no. no) (λ no. no))
 turn-none outside model asks.Cells e = refl
-turn-none outside model (asks.Draw key) e = ap held-in (turn-same outside model (asks.Draw key) e (λ no. no) (λ no. no))
-turn-none outside model (asks.Route name) e = ap held-in (turn-same outside model (asks.Route name) e (λ no. no) (λ no. no))
-turn-none outside model (asks.Load name) e = ap held-in (turn-same outside model (asks.Load name) e (λ no. no) (λ no. no))
-turn-none outside model (asks.Rollback key update) e = ap held-in (turn-same outside model (asks.Rollback key update) e (λ no. no) (λ no. no))
-turn-none outside model (asks.Drop key) e = ap held-in (turn-same outside model (asks.Drop key) e (λ no. no) (λ no. no))
+turn-none outside model (asks.Draw key) e = ap held-in (turn-same outside model (asks.Draw key) e (λ no. no) (λ no. no) (λ no. no))
+turn-none outside model (asks.Route name) e = ap held-in (turn-same outside model (asks.Route name) e (λ no. no) (λ no. no) (λ no. no))
+turn-none outside model (asks.Cover name) e = ap held-in (turn-same outside model (asks.Cover name) e (λ no. no) (λ no. no) (λ no. no))
+turn-none outside model (asks.Load name) e = ap held-in (turn-same outside model (asks.Load name) e (λ no. no) (λ no. no) (λ no. no))
+turn-none outside model (asks.Rollback key update) e = ap held-in (turn-same outside model (asks.Rollback key update) e (λ no. no) (λ no. no) (λ no. no))
+turn-none outside model (asks.Drop key) e = ap held-in (turn-same outside model (asks.Drop key) e (λ no. no) (λ no. no) (λ no. no))
 turn-none outside model (asks.Refresh k) e = ap held-in (of-panel outside model (asks.Refresh k) tt).1
 turn-none outside model (asks.Paint k n) e = refl
 turn-none outside model (asks.Panel k) e = ap held-in (of-panel outside model (asks.Panel k) tt).1
 turn-none outside model (asks.ClosePanel k) e = ap held-in (of-panel outside model (asks.ClosePanel k) tt).1
-turn-none outside model (asks.Make areas update) e = ap held-in (turn-same outside model (asks.Make areas update) e (λ no. no) (λ no. no))
-turn-none outside model (asks.Reissue key) e = ap held-in (turn-same outside model (asks.Reissue key) e (λ no. no) (λ no. no))
+turn-none outside model (asks.Make areas update) e = ap held-in (turn-same outside model (asks.Make areas update) e (λ no. no) (λ no. no) (λ no. no))
+turn-none outside model (asks.Reissue key) e = ap held-in (turn-same outside model (asks.Reissue key) e (λ no. no) (λ no. no) (λ no. no))
 
 pub turn-portrayal : (outside : FromOutside) (model : Model) (event : Event) → (turn_of outside model event).model.portrayal ≡ model.portrayal
 unfolding turn_of
@@ -274,9 +91,18 @@ turn-portrayal outside model asks.Cells = refl
 turn-portrayal outside model (asks.Draw key) = ap drawn-by (replied-same model (draw_of model.portrayal model.state.cells key))
 turn-portrayal outside model (asks.Route name) =
     ap drawn-by (replied-same model (route_of model.portrayal.settings model.state name (outside.fetches ROUTE_LIMIT name)))
+turn-portrayal outside model (asks.Cover name) =
+    ap drawn-by (replied-same model (cover_of model.state name (outside.fetches ROUTE_LIMIT name)))
 turn-portrayal outside model (asks.Load name) = ordered-drawn model (load_order name (outside.fetches FILE_LIMIT name))
 turn-portrayal outside model (asks.Rollback key update) = ordered-drawn model (Ok (rollback_order key update))
 turn-portrayal outside model (asks.Drop key) = ordered-drawn model (Ok (drop_order key))
+turn-portrayal outside model (asks.Begin name) =
+    by-stage (λ turn. turn.model.portrayal ≡ model.portrayal) model name (outside.fetches FILE_LIMIT name) model.staging (λ refusal. refl) (λ begun none. refl)
+turn-portrayal outside model (asks.Step n) =
+    by-change (λ turn. turn.model.portrayal ≡ model.portrayal) model n model.staging (λ none. refl) (λ begun staged some done. refl) (λ begun refusal some. refl)
+turn-portrayal outside model asks.Commit =
+    by-commit (λ turn. turn.model.portrayal ≡ model.portrayal) model model.staging (λ none. refl) (λ begun last some over. refl)
+    (λ begun some none. ordered-drawn (unstaged model) (file-order model begun))
 turn-portrayal outside model asks.Save = begun-drawn model model.save
 turn-portrayal outside model (asks.SaveStep slices) = stepped-drawn model slices model.save
 turn-portrayal outside model (asks.Refresh k) = ap drawn-by (of-panel outside model (asks.Refresh k) tt).1
@@ -294,9 +120,18 @@ turn-scenes outside model asks.Cells none = refl
 turn-scenes outside model (asks.Draw key) none = ap scenes-in (replied-same model (draw_of model.portrayal model.state.cells key))
 turn-scenes outside model (asks.Route name) none =
     ap scenes-in (replied-same model (route_of model.portrayal.settings model.state name (outside.fetches ROUTE_LIMIT name)))
+turn-scenes outside model (asks.Cover name) none =
+    ap scenes-in (replied-same model (cover_of model.state name (outside.fetches ROUTE_LIMIT name)))
 turn-scenes outside model (asks.Load name) none = ordered-scenes model (load_order name (outside.fetches FILE_LIMIT name))
 turn-scenes outside model (asks.Rollback key update) none = ordered-scenes model (Ok (rollback_order key update))
 turn-scenes outside model (asks.Drop key) none = ordered-scenes model (Ok (drop_order key))
+turn-scenes outside model (asks.Begin name) none =
+    by-stage (λ turn. turn.model.scenes ≡ model.scenes) model name (outside.fetches FILE_LIMIT name) model.staging (λ refusal. refl) (λ begun empty. refl)
+turn-scenes outside model (asks.Step n) none =
+    by-change (λ turn. turn.model.scenes ≡ model.scenes) model n model.staging (λ empty. refl) (λ begun staged some done. refl) (λ begun refusal some. refl)
+turn-scenes outside model asks.Commit none =
+    by-commit (λ turn. turn.model.scenes ≡ model.scenes) model model.staging (λ empty. refl) (λ begun last some over. refl)
+    (λ begun some empty. ordered-scenes (unstaged model) (file-order model begun))
 turn-scenes outside model asks.Save none = begun-scenes model model.save
 turn-scenes outside model (asks.SaveStep slices) none = stepped-scenes model slices model.save
 turn-scenes outside model (asks.Refresh k) none = absurd (none tt)
@@ -306,26 +141,133 @@ turn-scenes outside model (asks.ClosePanel k) none = absurd (none tt)
 turn-scenes outside model (asks.Make areas update) none = ordered-scenes model (make_order areas update)
 turn-scenes outside model (asks.Reissue key) none = ordered-scenes model (reissue_order model.state.cells key)
 
-pub turn-some : (outside : FromOutside) (model : Model) (event : Event) (command : Command)
+some-whole : (outside : FromOutside) (model : Model) (event : Event) (command : Command) → ¬ IsOfStaging event
     → (turn_of outside model event).command ≡ Some command
     → (turn_of outside model event).model ≡ model_with model command (state_with model.state command)
 unfolding turn_of
-turn-some outside model (asks.Info name) command e = replied-some model (info_of name (outside.fetches FILE_LIMIT name)) command e
-turn-some outside model asks.Cells command e = replied-some model (Ok (cells_reply model.state.cells)) command e
-turn-some outside model (asks.Draw key) command e = replied-some model (draw_of model.portrayal model.state.cells key) command e
-turn-some outside model (asks.Route name) command e =
+some-whole outside model (asks.Info name) command apart e = replied-some model (info_of name (outside.fetches FILE_LIMIT name)) command e
+some-whole outside model asks.Cells command apart e = replied-some model (Ok (cells_reply model.state.cells)) command e
+some-whole outside model (asks.Draw key) command apart e = replied-some model (draw_of model.portrayal model.state.cells key) command e
+some-whole outside model (asks.Route name) command apart e =
     replied-some model (route_of model.portrayal.settings model.state name (outside.fetches ROUTE_LIMIT name)) command e
-turn-some outside model (asks.Load name) command e = ordered-some model (load_order name (outside.fetches FILE_LIMIT name)) command e
-turn-some outside model (asks.Rollback key update) command e = ordered-some model (Ok (rollback_order key update)) command e
-turn-some outside model (asks.Drop key) command e = ordered-some model (Ok (drop_order key)) command e
-turn-some outside model asks.Save command e = nothing-some _ command (begun-none model model.save) e
-turn-some outside model (asks.SaveStep slices) command e = nothing-some _ command (stepped-none model slices model.save) e
-turn-some outside model (asks.Refresh k) command e = nothing-some _ command (of-panel outside model (asks.Refresh k) tt).0 e
-turn-some outside model (asks.Paint k n) command e = nothing-some _ command (of-panel outside model (asks.Paint k n) tt).0 e
-turn-some outside model (asks.Panel k) command e = nothing-some _ command (of-panel outside model (asks.Panel k) tt).0 e
-turn-some outside model (asks.ClosePanel k) command e = nothing-some _ command (of-panel outside model (asks.ClosePanel k) tt).0 e
-turn-some outside model (asks.Make areas update) command e = ordered-some model (make_order areas update) command e
-turn-some outside model (asks.Reissue key) command e = ordered-some model (reissue_order model.state.cells key) command e
+some-whole outside model (asks.Cover name) command apart e =
+    replied-some model (cover_of model.state name (outside.fetches ROUTE_LIMIT name)) command e
+some-whole outside model (asks.Load name) command apart e = ordered-some model (load_order name (outside.fetches FILE_LIMIT name)) command e
+some-whole outside model (asks.Rollback key update) command apart e = ordered-some model (Ok (rollback_order key update)) command e
+some-whole outside model (asks.Drop key) command apart e = ordered-some model (Ok (drop_order key)) command e
+some-whole outside model (asks.Begin name) command apart e = absurd (apart tt)
+some-whole outside model (asks.Step n) command apart e = absurd (apart tt)
+some-whole outside model asks.Commit command apart e = absurd (apart tt)
+some-whole outside model asks.Save command apart e = nothing-some _ command (begun-none model model.save) e
+some-whole outside model (asks.SaveStep slices) command apart e = nothing-some _ command (stepped-none model slices model.save) e
+some-whole outside model (asks.Refresh k) command apart e = nothing-some _ command (of-panel outside model (asks.Refresh k) tt).0 e
+some-whole outside model (asks.Paint k n) command apart e = nothing-some _ command (of-panel outside model (asks.Paint k n) tt).0 e
+some-whole outside model (asks.Panel k) command apart e = nothing-some _ command (of-panel outside model (asks.Panel k) tt).0 e
+some-whole outside model (asks.ClosePanel k) command apart e = nothing-some _ command (of-panel outside model (asks.ClosePanel k) tt).0 e
+some-whole outside model (asks.Make areas update) command apart e = ordered-some model (make_order areas update) command e
+some-whole outside model (asks.Reissue key) command apart e = ordered-some model (reissue_order model.state.cells key) command e
+
+pub turn-some : (outside : FromOutside) (model : Model) (event : Event) → Leaves model (turn_of outside model event)
+unfolding turn_of
+turn-some outside model (asks.Begin name) command e =
+    by-stage (Leaves model) model name (outside.fetches FILE_LIMIT name) model.staging (λ refusal given e. nothing-some None given refl e)
+    (λ begun none given e. nothing-some None given refl e) command e
+turn-some outside model (asks.Step n) command e =
+    by-change (Leaves model) model n model.staging (λ none given e. nothing-some None given refl e)
+    (λ begun staged some done given e. nothing-some None given refl e) (λ begun refusal some given e. nothing-some None given refl e) command e
+turn-some outside model asks.Commit command e =
+    by-commit (Leaves model) model model.staging (λ none given e. nothing-some None given refl e)
+    (λ begun last some over given e. nothing-some None given refl e)
+    (λ begun some none given e.
+    let is = ordered-some (unstaged model) (file-order model begun) given e in
+    is ∙ ap (λ (m : Model). with_staging (model_with model given (state_with model.state given)) m.staging) (sym is))
+    command e
+turn-some outside model (asks.Info name) command e =
+    leaves-all model command (turn_of outside model (asks.Info name)) (some-whole outside model (asks.Info name) command (λ no. no) e)
+turn-some outside model asks.Cells command e =
+    leaves-all model command (turn_of outside model asks.Cells) (some-whole outside model asks.Cells command (λ no. no) e)
+turn-some outside model (asks.Draw key) command e =
+    leaves-all model command (turn_of outside model (asks.Draw key)) (some-whole outside model (asks.Draw key) command (λ no. no) e)
+turn-some outside model (asks.Route name) command e =
+    leaves-all model command (turn_of outside model (asks.Route name)) (some-whole outside model (asks.Route name) command (λ no. no) e)
+turn-some outside model (asks.Cover name) command e =
+    leaves-all model command (turn_of outside model (asks.Cover name)) (some-whole outside model (asks.Cover name) command (λ no. no) e)
+turn-some outside model (asks.Load name) command e =
+    leaves-all model command (turn_of outside model (asks.Load name)) (some-whole outside model (asks.Load name) command (λ no. no) e)
+turn-some outside model (asks.Rollback key update) command e =
+    leaves-all model command (turn_of outside model (asks.Rollback key update)) (some-whole outside model (asks.Rollback key update) command (λ no. no) e)
+turn-some outside model (asks.Drop key) command e =
+    leaves-all model command (turn_of outside model (asks.Drop key)) (some-whole outside model (asks.Drop key) command (λ no. no) e)
+turn-some outside model asks.Save command e =
+    leaves-all model command (turn_of outside model asks.Save) (some-whole outside model asks.Save command (λ no. no) e)
+turn-some outside model (asks.SaveStep slices) command e =
+    leaves-all model command (turn_of outside model (asks.SaveStep slices)) (some-whole outside model (asks.SaveStep slices) command (λ no. no) e)
+turn-some outside model (asks.Refresh k) command e =
+    leaves-all model command (turn_of outside model (asks.Refresh k)) (some-whole outside model (asks.Refresh k) command (λ no. no) e)
+turn-some outside model (asks.Paint k n) command e =
+    leaves-all model command (turn_of outside model (asks.Paint k n)) (some-whole outside model (asks.Paint k n) command (λ no. no) e)
+turn-some outside model (asks.Panel k) command e =
+    leaves-all model command (turn_of outside model (asks.Panel k)) (some-whole outside model (asks.Panel k) command (λ no. no) e)
+turn-some outside model (asks.ClosePanel k) command e =
+    leaves-all model command (turn_of outside model (asks.ClosePanel k)) (some-whole outside model (asks.ClosePanel k) command (λ no. no) e)
+turn-some outside model (asks.Make areas update) command e =
+    leaves-all model command (turn_of outside model (asks.Make areas update)) (some-whole outside model (asks.Make areas update) command (λ no. no) e)
+turn-some outside model (asks.Reissue key) command e =
+    leaves-all model command (turn_of outside model (asks.Reissue key)) (some-whole outside model (asks.Reissue key) command (λ no. no) e)
+
+-- what is staged where a line isn't about it
+pub turn-staging : (outside : FromOutside) (model : Model) (event : Event) → ¬ IsOfStaging event
+    → (turn_of outside model event).model.staging ≡ staging_past model.count (turn_of outside model event).command model.staging
+unfolding turn_of
+turn-staging outside model (asks.Begin name) apart = absurd (apart tt)
+turn-staging outside model (asks.Step n) apart = absurd (apart tt)
+turn-staging outside model asks.Commit apart = absurd (apart tt)
+turn-staging outside model (asks.Info name) apart = replied-staging model (info_of name (outside.fetches FILE_LIMIT name))
+turn-staging outside model asks.Cells apart = refl
+turn-staging outside model (asks.Draw key) apart = replied-staging model (draw_of model.portrayal model.state.cells key)
+turn-staging outside model (asks.Route name) apart =
+    replied-staging model (route_of model.portrayal.settings model.state name (outside.fetches ROUTE_LIMIT name))
+turn-staging outside model (asks.Cover name) apart =
+    replied-staging model (cover_of model.state name (outside.fetches ROUTE_LIMIT name))
+turn-staging outside model (asks.Load name) apart = ordered-staging model (load_order name (outside.fetches FILE_LIMIT name))
+turn-staging outside model (asks.Rollback key update) apart = ordered-staging model (Ok (rollback_order key update))
+turn-staging outside model (asks.Drop key) apart = ordered-staging model (Ok (drop_order key))
+turn-staging outside model asks.Save apart = rests-staging model (begin_turn model model.save) (begun-none model model.save) (begun-staging model model.save)
+turn-staging outside model (asks.SaveStep slices) apart =
+    rests-staging model (step_turn model slices model.save) (stepped-none model slices model.save) (stepped-staging model slices model.save)
+turn-staging outside model (asks.Refresh k) apart = panel-staging outside model (asks.Refresh k) tt
+turn-staging outside model (asks.Paint k n) apart = refl
+turn-staging outside model (asks.Panel k) apart = panel-staging outside model (asks.Panel k) tt
+turn-staging outside model (asks.ClosePanel k) apart = panel-staging outside model (asks.ClosePanel k) tt
+turn-staging outside model (asks.Make areas update) apart = ordered-staging model (make_order areas update)
+turn-staging outside model (asks.Reissue key) apart = ordered-staging model (reissue_order model.state.cells key)
+
+-- a line that can't stand for a command accepts none
+pub turn-rests : (outside : FromOutside) (model : Model) (event : Event) → ¬ MayAccept event → (turn_of outside model event).command ≡ None
+unfolding turn_of
+turn-rests outside model (asks.Info name) other = replied-none model (info_of name (outside.fetches FILE_LIMIT name))
+turn-rests outside model asks.Cells other = refl
+turn-rests outside model (asks.Draw key) other = replied-none model (draw_of model.portrayal model.state.cells key)
+turn-rests outside model (asks.Route name) other =
+    replied-none model (route_of model.portrayal.settings model.state name (outside.fetches ROUTE_LIMIT name))
+turn-rests outside model (asks.Cover name) other =
+    replied-none model (cover_of model.state name (outside.fetches ROUTE_LIMIT name))
+turn-rests outside model (asks.Load name) other = absurd (other tt)
+turn-rests outside model (asks.Rollback key update) other = absurd (other tt)
+turn-rests outside model (asks.Drop key) other = absurd (other tt)
+turn-rests outside model (asks.Begin name) other =
+    by-stage (λ turn. turn.command ≡ None) model name (outside.fetches FILE_LIMIT name) model.staging (λ refusal. refl) (λ begun none. refl)
+turn-rests outside model (asks.Step n) other =
+    by-change (λ turn. turn.command ≡ None) model n model.staging (λ none. refl) (λ begun staged some done. refl) (λ begun refusal some. refl)
+turn-rests outside model asks.Commit other = absurd (other tt)
+turn-rests outside model asks.Save other = begun-none model model.save
+turn-rests outside model (asks.SaveStep slices) other = stepped-none model slices model.save
+turn-rests outside model (asks.Refresh k) other = (of-panel outside model (asks.Refresh k) tt).0
+turn-rests outside model (asks.Paint k n) other = refl
+turn-rests outside model (asks.Panel k) other = (of-panel outside model (asks.Panel k) tt).0
+turn-rests outside model (asks.ClosePanel k) other = (of-panel outside model (asks.ClosePanel k) tt).0
+turn-rests outside model (asks.Make areas update) other = absurd (other tt)
+turn-rests outside model (asks.Reissue key) other = absurd (other tt)
 
 panel-live : (outside : FromOutside) (model : Model) (event : Event) → IsOfPanel event → AreLive model.state.cells
     → AreLive (turn_of outside model event).model.state.cells
@@ -340,9 +282,18 @@ turn-live more outside model asks.Cells live = live
 turn-live more outside model (asks.Draw key) live = replied-live model (draw_of model.portrayal model.state.cells key) live
 turn-live more outside model (asks.Route name) live =
     replied-live model (route_of model.portrayal.settings model.state name (outside.fetches ROUTE_LIMIT name)) live
+turn-live more outside model (asks.Cover name) live =
+    replied-live model (cover_of model.state name (outside.fetches ROUTE_LIMIT name)) live
 turn-live more outside model (asks.Load name) live = ordered-live model more (load_order name (outside.fetches FILE_LIMIT name)) live
 turn-live more outside model (asks.Rollback key update) live = ordered-live model more (Ok (rollback_order key update)) live
 turn-live more outside model (asks.Drop key) live = ordered-live model more (Ok (drop_order key)) live
+turn-live more outside model (asks.Begin name) live =
+    by-stage (λ turn. AreLive turn.model.state.cells) model name (outside.fetches FILE_LIMIT name) model.staging (λ refusal. live) (λ begun none. live)
+turn-live more outside model (asks.Step n) live =
+    by-change (λ turn. AreLive turn.model.state.cells) model n model.staging (λ none. live) (λ begun staged some done. live) (λ begun refusal some. live)
+turn-live more outside model asks.Commit live =
+    by-commit (λ turn. AreLive turn.model.state.cells) model model.staging (λ none. live) (λ begun last some over. live)
+    (λ begun some none. ordered-live (unstaged model) more (file-order model begun) live)
 turn-live more outside model asks.Save live = subst (λ (s : StateValue). AreLive s.cells) (sym (begun-state model model.save)) live
 turn-live more outside model (asks.SaveStep slices) live =
     subst (λ (s : StateValue). AreLive s.cells) (sym (stepped-state model slices model.save)) live

@@ -1,8 +1,12 @@
 pub mod Joining
 pub mod Fetching
 pub mod Turning
+pub mod Begun
+pub mod Stages
+pub mod Leaving
 pub mod Following
 pub mod Replying
+pub mod Overtaking
 pub mod PanelTurns
 pub mod Painting
 pub mod Targets

@@ -30,10 +30,10 @@ use Rattle.session_core.specs.declared.refusal.LineRefusal.{LineRefusal}
 use Rattle.session_core.specs.declared.refusal.LineRefusal.TheVariants.{CellLong, RecordLong, Store}
 use Rattle.session_core.specs.Held.{chart_of}
 use Rattle.session_core.specs.Model.{Model}
-use Rattle.session_core.specs.Order.{order_of_file, reply_to}
+use Rattle.session_core.specs.Order.{decision_turn, order_of_file, order_turn, reply_to}
 use Rattle.session_core.specs.Reissue.{KeepsChart, LacksRoom, ReadsBack, ReissueKeepsChart}
 use Rattle.session_core.specs.Replied.{Turn, refusal_turn}
-use Rattle.session_core.specs.Turn.{decision_turn, order_turn, turn_of}
+use Rattle.session_core.specs.Turn.{turn_of}
 use Rattle.session_core.specs.Written.{or_refused, reissue_file}
 use Rattle.session_core.proofs.Fetching.{passed-is}
 

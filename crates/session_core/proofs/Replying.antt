@@ -2,6 +2,7 @@
 -- closed.
 use Rattle.std.proofs.Common.{◌≡◌, ℕ, zero, suc, ◌+◌, Bool, true, false, cond, List, length, Option, Some, None, Result, Ok, Err, refl, sym, ◌∙◌, ap, subst, arith}
 use Rattle.std.specs.Prelude.{is_some, nat_eq, ◌||◌}
+use Rattle.std.proofs.lemmas.Bool.Decides.{nat_tests}
 use Rattle.chart_model.specs.Answers.{◌>>=◌, or_fault, or_fault_as}
 use Rattle.chart_model.specs.Cell.{CellValue}
 use Rattle.chart_model.specs.declared.state.Held.{Held}
@@ -38,20 +39,29 @@ use Rattle.session_core.specs.declared.changes.order.Success.TheVariants as orde
 use Rattle.session_core.specs.declared.changes.written.MadeFile.{MadeFile}
 use Rattle.session_core.specs.declared.refusal.LineRefusal.{LineRefusal}
 use Rattle.session_core.specs.declared.refusal.LineRefusal.TheVariants as line
-use Rattle.session_core.specs.Draw.{draw_of, drawing_by, reply_with}
+use Rattle.session_core.specs.Draw.{draw_of}
 use Rattle.session_core.specs.Fetch.{file_in}
 use Rattle.session_core.specs.Held.{chart_of}
 use Rattle.session_core.specs.Info.{info_of, info_reply}
-use Rattle.session_core.specs.Listing.{cells_reply}
-use Rattle.session_core.specs.Model.{Model, Progress}
-use Rattle.session_core.specs.Order.{drop_order, make_order, order_of_file, reissue_order, reply_to, rollback_order}
+use Rattle.session_lists.specs.Cells.{cells_reply}
+use Rattle.session_lists.specs.Cover.{cover_reply, uncovered_reply}
+use Rattle.session_lists.specs.Draw.{draw_reply}
+use Rattle.session_lists.specs.Route.{report_reply, route_reply}
+use Rattle.coverage_points.specs.Uncovered.{uncovered_of}
+use Rattle.route_check.specs.Route.{legs_of}
+use Rattle.session_core.specs.Interleaved.{IsOvertaken}
+use Rattle.session_core.specs.Model.{Model, Progress, Staging}
+use Rattle.session_core.specs.Order.{commit_order, decision_turn, drop_order, make_order, order_of_file, order_turn, reissue_order, reply_to, rollback_order}
 use Rattle.session_core.specs.Outside.{FromOutside, starts_after}
 use Rattle.session_core.specs.Panels.{IsOfPanel, begun_turn, close_turn, painting_reply, panel_turn, refresh_turn, target_of}
 use Rattle.session_core.specs.Refusal.{code_of, reply_of, store_code}
 use Rattle.session_core.specs.Replied.{refusal_turn, reply_turn}
-use Rattle.session_core.specs.Route.{ROUTE_LIMIT, or_refused as or_unread, reply_along, route_of}
+use Rattle.session_core.specs.Route.{ROUTE_LIMIT, cover_of, or_refused as or_unread, route_of}
 use Rattle.session_core.specs.Save.{bank_bytes, is_done_by, is_too_long, model_saving, slices_of}
-use Rattle.session_core.specs.Turn.{begin_turn, decision_turn, order_turn, save_turn, step_turn, turn_of}
+use Rattle.session_core.specs.Staging.{change_turn, commit_turn, stage_turn, staged_in, staged_turn, unstaged}
+use Rattle.session_core.specs.Turn.{begin_turn, save_turn, step_turn, turn_of}
+use Rattle.chart_store.specs.Staging.{StagedValue, changes_in, key_in, staged_by}
+use Rattle.session_core.proofs.Stages.{by-change, by-commit}
 use Rattle.session_core.specs.Written.{file_with, made_file, update_of, or_refused as or_unwritten, reissue_file}
 
 -- ---- what holds of a reply to any line
@@ -63,22 +73,25 @@ IsTold (replies.Panel k blocks items) = ⊥
 IsTold (replies.ClosePanel k) = ⊥
 IsTold other = Unit {0}
 
--- nothing outside failed
+-- nothing outside failed, and nothing was overtaken
 abbrev IsOrdinary : LineRefusal → Type 0
 IsOrdinary line.ShelfFault = ⊥
 IsOrdinary (line.PanelFault k) = ⊥
+IsOrdinary (line.Overtaken begun last) = ⊥
 IsOrdinary other = Unit {0}
 
 -- a fact that holds of every reply that an event may have
-record OfReplies (outside : FromOutside) (event : Event) (P : Reply → Type 0) : Type 0 where
+record OfReplies (outside : FromOutside) (before : Model) (event : Event) (P : Reply → Type 0) : Type 0 where
   told : (reply : Reply) → IsTold reply → P reply
   refused : (refusal : LineRefusal) → IsOrdinary refusal → P (reply_of refusal)
   unfetched : (limit : ℕ) (name : List ℕ) → outside.fetches limit name ≡ None → P (reply_of line.ShelfFault)
   unpainted : (k n : ℕ) → event ≡ asks.Paint k n → outside.painting_failed ≡ true → P (reply_of (line.PanelFault k))
+  overtaken : (staging : Staging) (last : ℕ) → event ≡ asks.Commit → before.staging ≡ Some staging → staging.last ≡ Some last
+      → P (reply_of (line.Overtaken staging.begun last))
   asked : (k : ℕ) → event ≡ asks.Panel k → P (replies.Panel k outside.numbers.blocks outside.numbers.items)
   closed : (k : ℕ) → event ≡ asks.ClosePanel k → P (replies.ClosePanel k)
 
-module _ {outside : FromOutside} {event : Event} {P : Reply → Type 0} (h : OfReplies outside event P) where
+module _ {outside : FromOutside} {before : Model} {event : Event} {P : Reply → Type 0} (h : OfReplies outside before event P) where
   -- ---- refusals
 
   abbrev OfErr : {A : Type 0} → Result A LineRefusal → Type 0
@@ -99,13 +112,6 @@ module _ {outside : FromOutside} {event : Event} {P : Reply → Type 0} (h : OfR
   chart-err : (key : List ℕ) (o : Option CellValue) → OfErr (or_fault (line.Store (refuses.NoCell key)) o)
   chart-err key None = h.refused (line.Store (refuses.NoCell key)) tt
   chart-err key (Some chart) = tt
-
-  route-err : (r : Result Route RouteFault) → OfErr (or_unread r)
-  route-err (Ok route) = tt
-  route-err (Err (of_route.BadLine number)) = h.refused (line.RouteLine number) tt
-  route-err (Err (of_route.Few points)) = h.refused (line.RouteFew points) tt
-  route-err (Err (of_route.Many points)) = h.refused (line.RouteMany points) tt
-  route-err (Err of_route.NoMemory) = h.refused (line.RouteFew 0) tt
 
   write-err : {A : Type 0} (r : Result A WriteFault) → OfErr (or_unwritten r)
   write-err (Ok x) = tt
@@ -142,7 +148,14 @@ module _ {outside : FromOutside} {event : Event} {P : Reply → Type 0} (h : OfR
   draw-result model key =
       answered (or_fault (line.Store (refuses.NoCell key)) (chart_of model.state.cells key)) _
       (chart-err key (chart_of model.state.cells key)) (λ chart.
-      h.told (reply_with key (drawing_by model.portrayal chart)) tt)
+      h.told (draw_reply model.portrayal.table model.portrayal.settings key chart) tt)
+
+  along-route : (r : Result Route RouteFault) (f : Route → Reply) → ((route : Route) → IsTold (f route)) → OfResult (or_unread (r >>= λ route. Ok (f route)))
+  along-route (Ok route) f told = h.told (f route) (told route)
+  along-route (Err (of_route.BadLine number)) f told = h.refused (line.RouteLine number) tt
+  along-route (Err (of_route.Few points)) f told = h.refused (line.RouteFew points) tt
+  along-route (Err (of_route.Many points)) f told = h.refused (line.RouteMany points) tt
+  along-route (Err of_route.NoMemory) f told = h.refused (line.RouteFew 0) tt
 
   route-result : (model : Model) (name : List ℕ)
       → OfResult (route_of model.portrayal.settings model.state name (outside.fetches ROUTE_LIMIT name))
@@ -150,8 +163,14 @@ module _ {outside : FromOutside} {event : Event} {P : Reply → Type 0} (h : OfR
   route-result model name =
       answered (file_in ROUTE_LIMIT name (outside.fetches ROUTE_LIMIT name)) _
       (file-err ROUTE_LIMIT name (outside.fetches ROUTE_LIMIT name) refl) (λ bytes.
-      answered (or_unread (route_in bytes)) _ (route-err (route_in bytes)) (λ route.
-      h.told (reply_along route (report_of model.state model.portrayal.settings route)) tt))
+      along-route (route_in bytes) (λ route. report_reply route (report_of model.state model.portrayal.settings route)) (λ route. tt))
+
+  cover-result : (model : Model) (name : List ℕ) → OfResult (cover_of model.state name (outside.fetches ROUTE_LIMIT name))
+  unfolding cover_of
+  cover-result model name =
+      answered (file_in ROUTE_LIMIT name (outside.fetches ROUTE_LIMIT name)) _
+      (file-err ROUTE_LIMIT name (outside.fetches ROUTE_LIMIT name) refl) (λ bytes.
+      along-route (route_in bytes) (λ route. uncovered_reply route (uncovered_of model.state (legs_of route))) (λ route. tt))
 
   -- ---- orders
 
@@ -163,6 +182,11 @@ module _ {outside : FromOutside} {event : Event} {P : Reply → Type 0} (h : OfR
       ]
   succeeded orders.Rollback key held = h.told (replies.Rollback key held.edition held.update) tt
   succeeded orders.Drop key held = h.told (replies.Drop key) tt
+  succeeded orders.Commit key held =
+      elim held.cancelled as (λ b. P (cond b (replies.Cancel key) (replies.Commit key held.edition held.update))) [
+        | true ↦ h.told (replies.Cancel key) tt
+        | false ↦ h.told (replies.Commit key held.edition held.update) tt
+      ]
   succeeded (orders.Make records) key held = h.told (replies.Make key held.edition held.update records) tt
   succeeded orders.Reissue key held = h.told (replies.Reissue key held.edition held.update) tt
 
@@ -207,6 +231,29 @@ module _ {outside : FromOutside} {event : Event} {P : Reply → Type 0} (h : OfR
         by_chart None = h.refused (line.Store (refuses.NoCell key)) tt
         by_chart (Some chart) =
             ordered (or_unwritten (base_file_of chart)) (order_of_file orders.Reissue) (write-err (base_file_of chart))
+
+    -- ---- a file that is staged
+
+    staged-file : (r : Result (List ℕ) LineRefusal) → OfErr r → P (staged_turn model (staged_in model.count model.state r)).reply
+    staged-file (Err refusal) err = err
+    staged-file (Ok file) err = by (staged_by model.state file)
+      where
+        by : (r : Result StagedValue of_store.Refusal)
+            → P (staged_turn model (or_fault_as line.Store r >>= λ staged. Ok (record { staged = staged; begun = model.count; last = None }))).reply
+        by (Ok staged) = h.told (replies.Begin (key_in staged.file) (length (changes_in staged.file))) tt
+        by (Err refusal) = h.refused (line.Store refusal) tt
+
+    staged : (name : List ℕ) (staging : Option Staging) → P (stage_turn model name (outside.fetches FILE_LIMIT name) staging).reply
+    staged name (Some staging) = h.refused line.Busy tt
+    staged name None =
+        staged-file (file_in FILE_LIMIT name (outside.fetches FILE_LIMIT name))
+        (file-err FILE_LIMIT name (outside.fetches FILE_LIMIT name) refl)
+
+    changed : (n : ℕ) (staging : Option Staging) → P (change_turn model n staging).reply
+    changed n staging =
+        by-change (λ turn. P turn.reply) model n staging (λ none. h.refused line.NothingBegun tt)
+        (λ begun done some is. h.told (replies.Step done.done (length (changes_in done.file))) tt)
+        (λ begun refusal some. h.refused (line.Store refusal) tt)
 
     -- ---- saves
 
@@ -263,8 +310,16 @@ module _ {outside : FromOutside} {event : Event} {P : Reply → Type 0} (h : OfR
     taken-out k is None = h.refused (line.NoPanel k) tt
     taken-out k is (Some scene) = h.closed k is
 
+-- of a file that is staged, before the line
+committed : {outside : FromOutside} {P : Reply → Type 0} (before : Model) → OfReplies outside before asks.Commit P
+    → P (commit_turn before before.staging).reply
+committed {P = P} before h =
+    by-commit (λ turn. P turn.reply) before before.staging (λ none. h.refused line.NothingBegun tt)
+    (λ begun last some over. h.overtaken begun last refl some over)
+    (λ begun some none. sure h (unstaged before) (commit_order begun.staged.file))
+
 -- so it holds of the reply to the event
-reply-of : (outside : FromOutside) (model : Model) (event : Event) (P : Reply → Type 0) → OfReplies outside event P
+reply-of : (outside : FromOutside) (model : Model) (event : Event) (P : Reply → Type 0) → OfReplies outside model event P
     → P (turn_of outside model event).reply
 unfolding turn_of
 reply-of outside model (asks.Info name) P h =
@@ -275,11 +330,16 @@ reply-of outside model (asks.Draw key) P h =
 reply-of outside model (asks.Route name) P h =
     replied h model (route_of model.portrayal.settings model.state name (outside.fetches ROUTE_LIMIT name))
     (route-result h model name)
+reply-of outside model (asks.Cover name) P h =
+    replied h model (cover_of model.state name (outside.fetches ROUTE_LIMIT name)) (cover-result h model name)
 reply-of outside model (asks.Load name) P h =
     ordered h model (file_in FILE_LIMIT name (outside.fetches FILE_LIMIT name)) (order_of_file orders.Load)
     (file-err h FILE_LIMIT name (outside.fetches FILE_LIMIT name) refl)
 reply-of outside model (asks.Rollback key update) P h = sure h model (rollback_order key update)
 reply-of outside model (asks.Drop key) P h = sure h model (drop_order key)
+reply-of outside model (asks.Begin name) P h = staged h model name model.staging
+reply-of outside model (asks.Step n) P h = changed h model n model.staging
+reply-of outside model asks.Commit P h = committed model h
 reply-of outside model asks.Save P h = begun h model model.save
 reply-of outside model (asks.SaveStep slices) P h = stepped h model slices model.save
 reply-of outside model (asks.Refresh k) P h = refreshed h model k (numbered k model.scenes)
@@ -295,7 +355,7 @@ code_is : {a b : ℕ} {x y : List ℕ} → replies.Refused a x ≡ replies.Refus
 code_is e = cc
 
 abbrev is_mark : ℕ → Bool
-is_mark code = nat_eq code 72 || nat_eq code 78
+is_mark code = nat_eq code 72 || (nat_eq code 75 || nat_eq code 78)
 
 store-unmarked : (refusal : of_store.Refusal) → is_mark (store_code refusal) ≡ false
 store-unmarked refuses.NoGeneral = refl
@@ -304,6 +364,7 @@ store-unmarked other = refl
 unmarked : (refusal : LineRefusal) → IsOrdinary refusal → is_mark (code_of refusal) ≡ false
 unmarked line.ShelfFault ordinary = absurd ordinary
 unmarked (line.PanelFault k) ordinary = absurd ordinary
+unmarked (line.Overtaken begun last) ordinary = absurd ordinary
 unmarked (line.Store refusal) ordinary = store-unmarked refusal
 unmarked other ordinary = refl
 
@@ -315,8 +376,9 @@ module _ (code : ℕ) (values : List ℕ) (mark : is_mark code ≡ true) where
   refused-apart refusal ordinary is =
       let f : true ≡ false = sym mark ∙ sym (ap is_mark (code_is is)) ∙ unmarked refusal ordinary in cc
 
-apart-78-72 : ◌≡◌ {A = ℕ} 78 72 → ⊥
-apart-78-72 e = omega (arith, e)
+-- numbers that differ aren't equal
+apart : {a b : ℕ} → nat_eq a b ≡ false → a ≡ b → ⊥
+apart {a} {b} e is = grind (arith, nat_tests)
 
 pub turn-failed : (outside : FromOutside) (model : Model) (event : Event) (values : List ℕ)
     → (turn_of outside model event).reply ≡ replies.Refused 72 values
@@ -328,7 +390,8 @@ turn-failed outside model event values =
       told = λ reply told is. absurd (told-apart 72 values refl reply told is);
       refused = λ refusal ordinary is. absurd (refused-apart 72 values refl refusal ordinary is);
       unfetched = λ limit name none is. (limit, (name, none));
-      unpainted = λ k n asked failed is. absurd (apart-78-72 (code_is is));
+      unpainted = λ k n asked failed is. absurd (apart refl (code_is is));
+      overtaken = λ staging last asked some over is. absurd (apart refl (code_is is));
       asked = λ k asked is. cc;
       closed = λ k asked is. cc;
     })
@@ -343,8 +406,25 @@ turn-panel-failed outside model event values =
     (record {
       told = λ reply told is. absurd (told-apart 78 values refl reply told is);
       refused = λ refusal ordinary is. absurd (refused-apart 78 values refl refusal ordinary is);
-      unfetched = λ limit name none is. absurd (apart-78-72 (sym (code_is is)));
+      unfetched = λ limit name none is. absurd (apart refl (code_is is));
       unpainted = λ k n asked failed is. (k, (n, (asked, failed)));
+      overtaken = λ staging last asked some over is. absurd (apart refl (code_is is));
+      asked = λ k asked is. cc;
+      closed = λ k asked is. cc;
+    })
+
+pub turn-overtaken : (outside : FromOutside) (model : Model) (event : Event) (values : List ℕ)
+    → (turn_of outside model event).reply ≡ replies.Refused 75 values → (event ≡ asks.Commit) × IsOvertaken model values
+turn-overtaken outside model event values =
+    reply-of outside model event
+    (λ reply. reply ≡ replies.Refused 75 values → (event ≡ asks.Commit) × IsOvertaken model values)
+    (record {
+      told = λ reply told is. absurd (told-apart 75 values refl reply told is);
+      refused = λ refusal ordinary is. absurd (refused-apart 75 values refl refusal ordinary is);
+      unfetched = λ limit name none is. absurd (apart refl (code_is is));
+      unpainted = λ k n asked failed is. absurd (apart refl (code_is is));
+      overtaken = λ staging last asked some over is.
+          (asked, record { staging = staging; some = some; last = last; over = over; told = cc });
       asked = λ k asked is. cc;
       closed = λ k asked is. cc;
     })
@@ -363,6 +443,7 @@ turn-told outside model event k blocks items =
       refused = λ refusal ordinary is. cc;
       unfetched = λ limit name none is. cc;
       unpainted = λ panel n asked failed is. cc;
+      overtaken = λ staging last asked some over is. cc;
       asked = λ panel asked is.
           let same : panel ≡ k = cc in
           let same-blocks : outside.numbers.blocks ≡ blocks = cc in
@@ -389,6 +470,7 @@ starts-stay outside model event other =
       refused = λ refusal ordinary starts. refl;
       unfetched = λ limit name none starts. refl;
       unpainted = λ k n asked failed starts. refl;
+      overtaken = λ staging last asked some over starts. refl;
       asked = λ k asked starts. refl;
       closed = λ k asked starts. absurd (other (subst IsOfPanel (sym asked) tt));
     })

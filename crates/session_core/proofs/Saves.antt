@@ -25,14 +25,15 @@ use Rattle.panel_scenes.specs.Scene.{SceneValue}
 use Rattle.script_reader.specs.declared.reply.Reply.{Reply}
 use Rattle.script_reader.specs.declared.reply.Reply.TheVariants as replies
 use Rattle.session_core.specs.Answers.{fault_of_submit}
-use Rattle.session_core.specs.Model.{Model, Portrayal, Progress}
+use Rattle.session_core.specs.Model.{Model, Portrayal, Progress, Staging}
 use Rattle.session_core.specs.Save.{bank_bytes, is_too_long, model_saving, model_stepped, slices_of, written_more}
 use Rattle.script_reader.specs.declared.event.Event.{Event}
 use Rattle.script_reader.specs.declared.event.Event.TheVariants as asks
 use Rattle.session_core.specs.Held.{chart_of}
 use Rattle.session_core.specs.Kept.{IsKeptOf}
-use Rattle.session_core.specs.Session.{GivesEvent, IsReady, KeepsCharts, WritesSlices, grids_in, model_of, portrayal_of, progress_of}
-use Rattle.session_core.specs.Session.{scenes_of, store_of, users_in}
+use Rattle.session_core.specs.Session.{GivesEvent, IsReady, WritesSlices, grids_in, model_of, portrayal_of, progress_of}
+use Rattle.session_core.specs.Session.{scenes_of, staging_in, store_of, users_in}
+use Rattle.session_core.specs.Staging.{StandsOn}
 use Rattle.session_core.specs.Steps.{TakesAtMost}
 use Rattle.spatial_grid.specs.Box.{IsGridOf}
 use Rattle.topology_cache.specs.Users.{AreUsersOf}
@@ -43,7 +44,7 @@ use Rattle.session_core.specs.declared.fault.EventFault.TheVariants.{Refused, De
 use Rattle.session_core.specs.declared.refusal.LineRefusal.TheVariants as line
 use Rattle.session_core.specs.declared.session.Session.{Session}
 use Rattle.session_core.proofs.Fetching.{passed-is}
-use Rattle.session_core.proofs.Renewing.{left-alone, same-model}
+use Rattle.session_core.proofs.Renewing.{charts-stay, left-alone, refused-ready, same-model}
 use Rattle.session_core.proofs.Stepping.{none-taken}
 
 -- ---- a save begins
@@ -58,29 +59,33 @@ counted bytes slices sliced =
     omega (arith, least, holds)
 
 -- a model by what a store keeps
-abbrev model_by : StateValue → ℕ → Option SaveValue → Portrayal → List SceneValue → Model
-model_by state gate save portrayal scenes = record {
+abbrev model_by : StateValue → ℕ → ℕ → Option SaveValue → Option Staging → Portrayal → List SceneValue → Model
+model_by state gate count save staging portrayal scenes = record {
   state = state;
   room = record { used = gate + 1; other = option_map (λ (s : SaveValue). gate_of_save s + 1) save };
+  count = count;
   save = option_map progress_of save;
+  staging = staging;
   portrayal = portrayal;
   scenes = scenes;
 }
 
 begun-model : (old new : Session) (slices : ℕ) → HasBegun slices (store_of old) (store_of new) → portrayal_of new ≡ portrayal_of old
-    → scenes_of new ≡ scenes_of old → model_saving (model_of old) ≡ model_of new
-begun-model old new slices begun drawn known =
+    → scenes_of new ≡ scenes_of old → staging_in new ≡ staging_in old → model_saving (model_of old) ≡ model_of new
+begun-model old new slices begun drawn known staged =
     let state : StateValue = state_of (store_of old) in
     let bytes : bank_bytes state ≡ gate_of_save (begun_save (store_of old) slices) + 1 = omega arith in
     let in_slices : slices_of state ≡ slices = counted (spelling state) slices begun.sliced in
     (λ i. record {
       state = state;
       room = record { used = used_of (store_of old); other = Some (bytes i) };
+      count = count_of (store_of old);
       save = Some (record { written = 0; slices = in_slices i });
+      staging = staging_in old;
       portrayal = portrayal_of old;
       scenes = scenes_of old;
     })
-    ∙ (λ i. model_by (sym begun.state i) (sym begun.gate i) (sym begun.save i) (sym drawn i) (sym known i))
+    ∙ (λ i. model_by (sym begun.state i) (sym begun.gate i) (sym begun.count i) (sym begun.save i) (sym staged i) (sym drawn i) (sym known i))
 
 -- no save was under way, and there is room
 fits : (state : StateValue) → bank_bytes state ≤ 268435456 → is_too_long state ≡ false
@@ -88,8 +93,8 @@ fits state h = grind (arith, nat_tests)
 
 pub begun-gives : (old new : Session) (slices : ℕ) → save_of (store_of old) ≡ None → length (spelling (state_of (store_of old))) + 9 ≤ 268435456
     → HasBegun slices (store_of old) (store_of new) → portrayal_of new ≡ portrayal_of old → scenes_of new ≡ scenes_of old
-    → ((begin_turn (model_of old) (model_of old).save).reply ≡ replies.Save slices) × ((begin_turn (model_of old) (model_of old).save).model ≡ model_of new)
-begun-gives old new slices idle room begun drawn known =
+    → staging_in new ≡ staging_in old → ((begin_turn (model_of old) (model_of old).save).reply ≡ replies.Save slices) × ((begin_turn (model_of old) (model_of old).save).model ≡ model_of new)
+begun-gives old new slices idle room begun drawn known staged =
     let model : Model = model_of old in
     let none : (model_of old).save ≡ None = ap (option_map progress_of) idle in
     let is : begin_turn model model.save ≡ save_turn (replies.Save (slices_of model.state)) (model_saving model)
@@ -97,7 +102,7 @@ begun-gives old new slices idle room begun drawn known =
     ∙ ap (λ (b : Bool). cond b (refusal_turn model (line.Store (BankFull 0 (bank_bytes model.state))))
     (save_turn (replies.Save (slices_of model.state)) (model_saving model))) (fits model.state room) in (
       ap (λ turn. turn.reply) is ∙ ap replies.Save (counted (spelling model.state) slices begun.sliced),
-      ap (λ turn. turn.model) is ∙ begun-model old new slices begun drawn known,
+      ap (λ turn. turn.model) is ∙ begun-model old new slices begun drawn known staged,
     )
 
 -- the bank would be too long
@@ -130,20 +135,21 @@ pub refused-gives : (old new : Session) (fault : SubmitFault) (r : Result Reply 
     → save_of (store_of old) ≡ None
     → RefusedHas (λ refusal. (refusal ≡ BankFull 0 (length (spelling (state_of (store_of old))) + 9))
     × (268435456 < length (spelling (state_of (store_of old))) + 9)) fault
-    → value_of (store_of new) ≡ value_of (store_of old) → portrayal_of new ≡ portrayal_of old → scenes_of new ≡ scenes_of old → fault ≢ of_submit.DeskFault
+    → value_of (store_of new) ≡ value_of (store_of old) → portrayal_of new ≡ portrayal_of old → scenes_of new ≡ scenes_of old
+    → staging_in new ≡ staging_in old → fault ≢ of_submit.DeskFault
     → GivesEvent r (model_of old) (model_of new) (begin_turn (model_of old) (model_of old).save)
-refused-gives old new (of_submit.Refused refusal) r passed idle (is, long) same drawn known no_desk =
+refused-gives old new (of_submit.Refused refusal) r passed idle (is, long) same drawn known staged no_desk =
     subst (λ (s : Result Reply EventFault). GivesEvent s (model_of old) (model_of new) (begin_turn (model_of old) (model_of old).save))
     (sym (passed-is r (Refused (line.Store refusal)) passed)) (
       full-refuses (model_of old) (ap (option_map progress_of) idle) long
           ∙ ap (λ (given : of_refusal.Refusal). refusal_turn (model_of old) (line.Store given)) (sym is),
-      same-model old new same drawn known,
+      same-model old new same drawn known staged,
     )
-refused-gives old new of_submit.DeskFault r passed idle full same drawn known no_desk = absurd (no_desk refl)
-refused-gives old new of_submit.NoMemory r passed idle full same drawn known no_desk =
+refused-gives old new of_submit.DeskFault r passed idle full same drawn known staged no_desk = absurd (no_desk refl)
+refused-gives old new of_submit.NoMemory r passed idle full same drawn known staged no_desk =
     subst (λ (s : Result Reply EventFault). GivesEvent s (model_of old) (model_of new) (begin_turn (model_of old) (model_of old).save))
     (sym (passed-is r NoMemory passed))
-    (left-alone (model_of old) (model_of new) (begin_turn (model_of old) (model_of old).save) (same-model old new same drawn known))
+    (left-alone (model_of old) (model_of new) (begin_turn (model_of old) (model_of old).save) (same-model old new same drawn known staged))
 
 -- ---- a save goes on
 
@@ -167,7 +173,9 @@ module _ (old new : Session) (n : ℕ) (save : SaveValue) where
       used = cond b (gate_of_save save + 1) (used_of (store_of old));
       other = option_map (λ (s : SaveValue). gate_of_save s + 1) (cond b None (Some (record save { written = save.written + n })));
     };
+    count = count_of (store_of old);
     save = option_map progress_of (cond b None (Some (record save { written = save.written + n })));
+    staging = staging_in old;
     portrayal = portrayal_of old;
     scenes = scenes_of old;
   }
@@ -188,7 +196,9 @@ module _ (old new : Session) (n : ℕ) (save : SaveValue) where
       stopped other = record {
         state = state_of (store_of old);
         room = record { used = unwrap_or other (used_of (store_of old)); other = None };
+        count = count_of (store_of old);
         save = None;
+        staging = staging_in old;
         portrayal = portrayal_of old;
         scenes = scenes_of old;
       }
@@ -197,17 +207,19 @@ module _ (old new : Session) (n : ℕ) (save : SaveValue) where
       going other = record {
         state = state_of (store_of old);
         room = record { used = used_of (store_of old); other = other };
+        count = count_of (store_of old);
         save = Some (written_more (progress_of save) n);
+        staging = staging_in old;
         portrayal = portrayal_of old;
         scenes = scenes_of old;
       }
 
   pub stepped-gives : (answer : SaveState) → save_of (store_of old) ≡ Some save → answer ≡ saved_by save n
       → save_of (store_of new) ≡ save_after save n → used_of (store_of new) ≡ used_after (used_of (store_of old)) save n
-      → state_of (store_of new) ≡ state_of (store_of old) → portrayal_of new ≡ portrayal_of old → scenes_of new ≡ scenes_of old
-      → ((step_turn (model_of old) n (model_of old).save).reply ≡ reply_by answer)
+      → state_of (store_of new) ≡ state_of (store_of old) → count_of (store_of new) ≡ count_of (store_of old) → portrayal_of new ≡ portrayal_of old
+      → scenes_of new ≡ scenes_of old → staging_in new ≡ staging_in old → ((step_turn (model_of old) n (model_of old).save).reply ≡ reply_by answer)
       × ((step_turn (model_of old) n (model_of old).save).model ≡ model_of new)
-  stepped-gives answer some is left used held drawn known =
+  stepped-gives answer some is left used held counted drawn known staged =
       let under : (model_of old).save ≡ Some (progress_of save) = ap (option_map progress_of) some in
       let done : Bool = of_store.is_done_by save n in (
         ap (λ s. (step_turn (model_of old) n s).reply) under ∙ stepped-reply done refl ∙ ap reply_by (sym is),
@@ -215,7 +227,9 @@ module _ (old new : Session) (n : ℕ) (save : SaveValue) where
             ∙ (λ i. record {
               state = sym held i;
               room = record { used = sym used i; other = option_map (λ (s : SaveValue). gate_of_save s + 1) (sym left i) };
+              count = sym counted i;
               save = option_map progress_of (sym left i);
+              staging = sym staged i;
               portrayal = sym drawn i;
               scenes = sym known i;
             }),
@@ -233,16 +247,6 @@ pub nothing-refuses : (model : Model) (n : ℕ) → model.save ≡ None → step
 nothing-refuses model n none = ap (step_turn model n) none
 
 -- ---- what a step leaves of the rest of a session
-
--- nothing is kept anew: what is held stays
-pub charts-stay : (old new : Session) → state_of (store_of new) ≡ state_of (store_of old) → users_in new ≡ users_in old → grids_in new ≡ grids_in old
-    → KeepsCharts old → KeepsCharts new
-charts-stay old new held users grids kept = record {
-  users = λ key. subst (λ u. IsKeptOf AreUsersOf (chart_of (state_of (store_of new)).cells key) (finite.get u key)) (sym users)
-      (subst (λ (s : StateValue). IsKeptOf AreUsersOf (chart_of s.cells key) (finite.get (users_in old) key)) (sym held) (kept.users key));
-  grids = λ key. subst (λ g. IsKeptOf IsGridOf (chart_of (state_of (store_of new)).cells key) (finite.get g key)) (sym grids)
-      (subst (λ (s : StateValue). IsKeptOf IsGridOf (chart_of s.cells key) (finite.get (grids_in old) key)) (sym held) (kept.grids key));
-}
 
 -- where no save is under way no slices are written
 pub no-slices : {P : Type 0} (model : Model) (event : Event) (slices : ℕ) → event ≡ asks.SaveStep slices → ¬ WritesSlices model event
@@ -279,18 +283,24 @@ same-kept contents may_leave old new same kept = record {
   save = subst (λ (s : StoreValue). IfSome s.pair.save (IsSaveOf kept.content)) (sym same) kept.save;
 }
 
+-- what is staged stands on what is held where both stay
+pub still-stands : (old new : Store) (staging staging' : Option Staging) → state_of new ≡ state_of old → staging' ≡ staging
+    → StandsOn (state_of old) staging → StandsOn (state_of new) staging'
+still-stands old new staging staging' held staged stands =
+    subst (λ (s : StateValue). StandsOn s staging') (sym held) (subst (StandsOn (state_of old)) (sym staged) stands)
+
 -- the next turn may follow
 pub begun-ready : (tells : Bool) (contents : ℕ → List ℕ) (may_leave : ℕ → List ℕ → Type 0) (old new : Session) {E : Type 0} (r : Result Reply E)
     → ((slices : ℕ) → HasBegun slices (store_of old) (store_of new) → IsKept contents may_leave (store_of old) → IsKept contents may_leave (store_of new))
     → OnOk r ((slices : ℕ) × HasBegun slices (store_of old) (store_of new)) → OnErr r (value_of (store_of new) ≡ value_of (store_of old))
-    → users_in new ≡ users_in old → grids_in new ≡ grids_in old → IsReady tells contents may_leave old → IsReady tells contents may_leave new
-begun-ready tells contents may_leave old new (Ok reply) law begun same users grids ready = record {
+    → users_in new ≡ users_in old → grids_in new ≡ grids_in old → staging_in new ≡ staging_in old
+    → IsReady tells contents may_leave old → IsReady tells contents may_leave new
+begun-ready tells contents may_leave old new (Ok reply) law begun same users grids staged ready = record {
   sound = subst IsTrue (sym begun.1.sound) ready.sound;
   kept = λ told. law begun.0 begun.1 (ready.kept told);
   charts = charts-stay old new begun.1.state users grids ready.charts;
+  staged = still-stands (store_of old) (store_of new) (staging_in old) (staging_in new) begun.1.state staged ready.staged;
 }
-begun-ready tells contents may_leave old new (Err fault) law begun same users grids ready = record {
-  sound = subst (λ (s : StoreValue). IsTrue s.sound) (sym same) ready.sound;
-  kept = λ told. same-kept contents may_leave (store_of old) (store_of new) same (ready.kept told);
-  charts = charts-stay old new (ap (λ (s : StoreValue). s.state) same) users grids ready.charts;
-}
+begun-ready tells contents may_leave old new (Err fault) law begun same users grids staged ready =
+    refused-ready tells contents contents may_leave may_leave old new ready same
+    (λ told. same-kept contents may_leave (store_of old) (store_of new) same (ready.kept told)) users grids staged

@@ -21,16 +21,17 @@ use Rattle.session_core.specs.Answers.{Gives}
 use Rattle.session_core.specs.Draw.{draw_of}
 use Rattle.session_core.specs.Fetch.{file_in}
 use Rattle.session_core.specs.Info.{info_of}
-use Rattle.session_core.specs.Listing.{cells_reply}
+use Rattle.session_lists.specs.Cells.{cells_reply}
 use Rattle.session_core.specs.Model.{Model}
-use Rattle.session_core.specs.Order.{drop_order, load_order, make_order, reissue_order, rollback_order}
-use Rattle.session_core.specs.Route.{ROUTE_LIMIT, route_of}
+use Rattle.session_core.specs.Order.{drop_order, load_order, make_order, order_turn, reissue_order, rollback_order}
+use Rattle.session_core.specs.Route.{ROUTE_LIMIT, cover_of, route_of}
 use Rattle.session_core.specs.Session.{GivesEvent, TakesTurn}
-use Rattle.session_core.specs.Steps.{most_steps_at, most_steps_for, records_of_file}
+use Rattle.session_core.specs.Steps.{most_steps_at, most_steps_for, most_steps_to_stage, records_of_file}
 use Rattle.session_core.specs.Outside.{FromOutside}
 use Rattle.session_core.specs.Panels.{close_turn, paint_turn, panel_turn, refresh_turn}
 use Rattle.session_core.specs.Replied.{Turn, reply_turn}
-use Rattle.session_core.specs.Turn.{begin_turn, order_turn, step_turn, turn_of}
+use Rattle.session_core.specs.Staging.{change_turn, commit_turn, stage_turn}
+use Rattle.session_core.specs.Turn.{begin_turn, step_turn, turn_of}
 use Rattle.session_core.proofs.Fetching.{passed-is}
 
 -- files that stand for the same stand for either
@@ -110,6 +111,19 @@ module _ (A : FromOutside → Type 0) (L : (Images → List ℕ → Type 0) → 
     leaves = leaves (turn_of outside before event).model.state;
   }
 
+  -- a turn that is given as it is
+  pub turn-turns : (outside : FromOutside) (wanted : Turn) (r : Result Reply EventFault) (now : Model) → A outside
+      → turn_of outside before event ≡ wanted → W (most_steps_at outside.fetches before event) → GivesEvent r before now wanted
+      → L (StandsForEither said before.state wanted.model.state)
+      → TakesTurn A L said event before W (GivesEvent r before now)
+  turn-turns outside wanted r now answers is steps given leaves = record {
+    outside = outside;
+    answers = answers;
+    gives = subst (GivesEvent r before now) (sym is) given;
+    steps = steps;
+    leaves = subst (λ (turn : Turn). L (StandsForEither said before.state turn.model.state)) (sym is) leaves;
+  }
+
   -- nothing is ordered
   pub order-fails : (outside : FromOutside) (wanted : Result Order LineRefusal) (r : Result Reply EventFault) (fault : EventFault) → A outside
       → Orders outside before event wanted → W (most_steps_at outside.fetches before event) → IsErrAnd r (λ passed. passed ≡ fault)
@@ -162,6 +176,11 @@ module _ (outside : FromOutside) (model : Model) (event : Event) where
   unfolding turn_of
   route-is name is = ap (turn_of outside model) is
 
+  pub cover-is : (name : List ℕ) → event ≡ asks.Cover name
+      → turn_of outside model event ≡ reply_turn model (cover_of model.state name (outside.fetches ROUTE_LIMIT name))
+  unfolding turn_of
+  cover-is name is = ap (turn_of outside model) is
+
   pub info-steps : (name : List ℕ) → event ≡ asks.Info name
       → most_steps_at outside.fetches model event ≡ records_of_file (file_in FILE_LIMIT name (outside.fetches FILE_LIMIT name))
   unfolding most_steps_at
@@ -178,6 +197,28 @@ module _ (outside : FromOutside) (model : Model) (event : Event) where
   pub drop-is : (key : List ℕ) → event ≡ asks.Drop key → Orders outside model event (Ok (drop_order key))
   unfolding turn_of most_steps_at
   drop-is key is = record { turn = ap (turn_of outside model) is; steps = ap (most_steps_at outside.fetches model) is }
+
+  pub stage-is : (name : List ℕ) → event ≡ asks.Begin name
+      → turn_of outside model event ≡ stage_turn model name (outside.fetches FILE_LIMIT name) model.staging
+  unfolding turn_of
+  stage-is name is = ap (turn_of outside model) is
+
+  pub stage-steps : (name : List ℕ) → event ≡ asks.Begin name
+      → most_steps_at outside.fetches model event ≡ most_steps_to_stage model.staging (file_in FILE_LIMIT name (outside.fetches FILE_LIMIT name))
+  unfolding most_steps_at
+  stage-steps name is = ap (most_steps_at outside.fetches model) is
+
+  pub change-is : (n : ℕ) → event ≡ asks.Step n → turn_of outside model event ≡ change_turn model n model.staging
+  unfolding turn_of
+  change-is n is = ap (turn_of outside model) is
+
+  pub commit-is : event ≡ asks.Commit → turn_of outside model event ≡ commit_turn model model.staging
+  unfolding turn_of
+  commit-is is = ap (turn_of outside model) is
+
+  pub commit-steps : event ≡ asks.Commit → most_steps_at outside.fetches model event ≡ 0
+  unfolding most_steps_at
+  commit-steps is = ap (most_steps_at outside.fetches model) is
 
   pub save-is : event ≡ asks.Save → turn_of outside model event ≡ begin_turn model model.save
   unfolding turn_of

@@ -1,7 +1,6 @@
 pub mod Fetch
 pub mod Held
 pub mod Info
-pub mod Listing
 pub mod Values
 pub mod Refusal
 pub mod Answers
@@ -14,8 +13,10 @@ pub mod Draw
 pub mod Route
 pub mod Written
 pub mod Order
+pub mod Staging
 pub mod Turn
 pub mod Kept
 pub mod Steps
 pub mod Session
 pub mod Reissue
+pub mod Interleaved

@@ -8,8 +8,8 @@ use Rattle.script_reader.specs.declared.reply.Reply.{Reply}
 use Rattle.script_reader.specs.declared.reply.Reply.TheVariants.{Refused}
 use Rattle.session_core.specs.declared.refusal.LineRefusal.{LineRefusal}
 use Rattle.session_core.specs.declared.refusal.LineRefusal.TheVariants.{RecordLong, CellLong, RouteLine, RouteFew}
-use Rattle.session_core.specs.declared.refusal.LineRefusal.TheVariants.{RouteMany, BadLine, NoFile, ShelfFault, NothingBegun}
-use Rattle.session_core.specs.declared.refusal.LineRefusal.TheVariants.{NoPanel, PanelFault, Busy, Store}
+use Rattle.session_core.specs.declared.refusal.LineRefusal.TheVariants.{RouteMany, BadLine, NoFile, ShelfFault, Overtaken}
+use Rattle.session_core.specs.declared.refusal.LineRefusal.TheVariants.{NothingBegun, NoPanel, PanelFault, Busy, Store}
 
 -- numbers as they are printed
 abbrev pub numbers : List ℕ → List (List ℕ)
@@ -99,6 +99,7 @@ code_of (RouteMany points) = 68
 code_of (BadLine line) = 70
 code_of (NoFile name) = 71
 code_of ShelfFault = 72
+code_of (Overtaken begun last) = 75
 code_of NothingBegun = 76
 code_of (NoPanel k) = 77
 code_of (PanelFault k) = 78
@@ -115,6 +116,7 @@ values_of (RouteMany points) = numbers (points ∷ [])
 values_of (BadLine line) = numbers (line ∷ [])
 values_of (NoFile name) = name ∷ []
 values_of ShelfFault = []
+values_of (Overtaken begun last) = numbers (begun ∷ last ∷ [])
 values_of NothingBegun = []
 values_of (NoPanel k) = numbers (k ∷ [])
 values_of (PanelFault k) = numbers (k ∷ [])

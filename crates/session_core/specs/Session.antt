@@ -1,5 +1,5 @@
 -- What contracts see of a session, and what a turn of it does.
-use Rattle.std.specs.Prelude.{◌≡◌, ◌≢◌, ◌⊎◌, ℕ, ◌+◌, ◌≤◌, Bool, IsTrue, List, None, option_map, Result, Ok, Err}
+use Rattle.std.specs.Prelude.{◌≡◌, ◌≢◌, ◌⊎◌, ℕ, ◌+◌, ◌≤◌, Bool, IsTrue, List, Option, None, option_map, Result, Ok, Err}
 use Rattle.std.specs.FinMap as finite
 use Rattle.chart_model.specs.Keys.{key_cmp}
 use Rattle.chart_model.specs.Names.{name_cmp}
@@ -7,6 +7,7 @@ use Rattle.chart_ports.specs.Disk.{LeavesNoMoreOfOthers, SameOthers}
 use Rattle.chart_ports.specs.declared.images.Images.{Images}
 use Rattle.chart_store.specs.declared.store.Store.{Store}
 use Rattle.bank_pair.specs.Saving.{SaveValue}
+use Rattle.chart_store.specs.Staged.{staged_of}
 use Rattle.chart_store.specs.Store.{IsKept, StandsForEither, count_of, is_sound, pair_of, room_of, save_of, state_of}
 use Rattle.panel_scenes.specs.Scene.{SceneValue}
 use Rattle.plane_bounds.specs.declared.bounds.Bounds.{Bounds}
@@ -18,10 +19,12 @@ use Rattle.session_core.specs.declared.fault.EventFault.TheVariants.{Refused, De
 use Rattle.session_core.specs.declared.fault.TurnFault.{TurnFault}
 use Rattle.session_core.specs.declared.fault.TurnFault.TheVariants as no_turn
 use Rattle.session_core.specs.declared.session.Session.{Session}
+use Rattle.session_core.specs.declared.staging.Staging as of_code
 use Rattle.session_core.specs.Kept.{IsKeptOfEach}
-use Rattle.session_core.specs.Model.{Model, Portrayal, Progress, portrayal_with, with_scenes}
+use Rattle.session_core.specs.Model.{Model, Portrayal, Progress, Staging, portrayal_with}
 use Rattle.session_core.specs.Outside.{FromOutside}
 use Rattle.session_core.specs.Replied.{Turn, refusal_turn}
+use Rattle.session_core.specs.Staging.{StandsOn}
 use Rattle.session_core.specs.Steps.{most_steps_at}
 use Rattle.session_core.specs.Turn.{turn_of}
 use Rattle.spatial_grid.specs.Box.{IsGridOf}
@@ -43,12 +46,22 @@ progress_of save = record { written = save.written; slices = save.slices }
 abbrev pub scenes_of : Session → List SceneValue
 scenes_of session = session.panels
 
+-- the file that is staged
+abbrev pub staging_of : of_code.Staging → Staging
+staging_of staging =
+    record { staged = staged_of staging.staged; begun = staging.begun; last = staging.last }
+
+abbrev pub staging_in : Session → Option Staging
+staging_in session = option_map staging_of session.staging
+
 -- what its replies depend on
 abbrev pub model_of : Session → Model
 model_of session = record {
   state = state_of (store_of session);
   room = room_of (store_of session);
+  count = count_of (store_of session);
   save = option_map progress_of (save_of (store_of session));
+  staging = staging_in session;
   portrayal = portrayal_of session;
   scenes = scenes_of session;
 }
@@ -68,19 +81,25 @@ pub record KeepsCharts (session : Session) : Type 0 where
   pub users : IsKeptOfEach AreUsersOf (state_of (store_of session)).cells (users_in session)
   pub grids : IsKeptOfEach IsGridOf (state_of (store_of session)).cells (grids_in session)
 
--- The desk keeps the session's store, and no call of it has failed; and the session keeps what is drawn by.
+-- The desk keeps the session's store, and no call of it has failed; the session keeps what is drawn by; and a file that
+-- is staged and that nothing has overtaken is staged on what is held now.
 pub record IsReady (tells : Bool) (contents : ℕ → List ℕ) (may_leave : ℕ → List ℕ → Type 0) (session : Session)
     : Type 0 where
   pub sound : IsTrue (is_sound (store_of session))
   pub kept : IsTrue tells → IsKept contents may_leave (store_of session)
   pub charts : KeepsCharts session
+  pub staged : StandsOn (state_of (store_of session)) (staging_in session)
 
 -- ---- a turn
 
+-- the model with what another knows of panels and of the file that is staged
+abbrev pub with_others : Model → Model → Model
+with_others model other = record model { staging = other.staging; scenes = other.scenes }
+
 -- Where memory ran out all is as it was, or the model is what the turn leaves: its command was accepted, and its reply
--- isn't told. Nothing is said of what is known of panels then.
+-- isn't told. Nothing is said of what is known of panels then, and of the file that is staged.
 abbrev pub LeavesEither : Model → Model → Turn → Type 0
-LeavesEither before now turn = (now ≡ with_scenes before now.scenes) ⊎ (with_scenes turn.model now.scenes ≡ now)
+LeavesEither before now turn = (now ≡ with_others before now) ⊎ (with_others turn.model now ≡ now)
 
 -- The answer and the model after it are those of the turn. A fault of the desk leaves what is held as it was.
 abbrev pub GivesTurn : Result Reply TurnFault → Model → Model → Turn → Type 0

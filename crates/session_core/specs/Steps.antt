@@ -1,9 +1,9 @@
 -- Steps of a turn: the data records that are come to, and the features whose records differ after it.
-use Rattle.std.specs.Prelude.{ℕ, ◌+◌, ◌≤◌, List, length, Result, Ok, Err}
+use Rattle.std.specs.Prelude.{ℕ, ◌+◌, ◌≤◌, List, length, Option, Some, None, Result, Ok, Err}
 use Rattle.chart_difference.specs.Difference.{AreChanged}
 use Rattle.chart_model.specs.State.{StateValue}
 use Rattle.chart_model.specs.declared.name.Name.{Name}
-use Rattle.chart_store.specs.Loaded.{FILE_LIMIT}
+use Rattle.chart_store.specs.Loaded.{FILE_LIMIT, come_to}
 use Rattle.chart_store.specs.Outcome.{most_steps}
 use Rattle.iso8211_records.specs.RecordFile.{data_records_in}
 use Rattle.script_reader.specs.declared.event.Event.{Event}
@@ -12,7 +12,7 @@ use Rattle.session_core.specs.declared.changes.order.Order.{Order}
 use Rattle.session_core.specs.declared.refusal.LineRefusal.{LineRefusal}
 use Rattle.session_core.specs.Fetch.{Fetches, file_in}
 use Rattle.session_core.specs.Held.{chart_of}
-use Rattle.session_core.specs.Model.{Model}
+use Rattle.session_core.specs.Model.{Model, Staging}
 use Rattle.session_core.specs.Order.{drop_order, load_order, make_order, reissue_order, rollback_order}
 use Rattle.update_sequence.specs.Info.{tags_of_info}
 
@@ -26,16 +26,31 @@ abbrev pub most_steps_for : StateValue → Result Order LineRefusal → ℕ
 most_steps_for state (Ok order) = most_steps state order.command
 most_steps_for state (Err refusal) = 0
 
+-- those that are come to where a file is staged, none where there is no file
+abbrev pub records_to_stage : Result (List ℕ) LineRefusal → ℕ
+records_to_stage (Ok bytes) = come_to bytes
+records_to_stage (Err refusal) = 0
+
+-- nor where one is staged already
+abbrev pub most_steps_to_stage : Option Staging → Result (List ℕ) LineRefusal → ℕ
+most_steps_to_stage (Some staging) file = 0
+most_steps_to_stage None file = records_to_stage file
+
 -- those that are come to at most at each event, by what the shelf answers; of other questions none
 unfoldable pub most_steps_at : Fetches → Model → Event → ℕ
 most_steps_at fetches model (asks.Info name) = records_of_file (file_in FILE_LIMIT name (fetches FILE_LIMIT name))
 most_steps_at fetches model asks.Cells = 0
 most_steps_at fetches model (asks.Draw key) = 0
 most_steps_at fetches model (asks.Route name) = 0
+most_steps_at fetches model (asks.Cover name) = 0
 most_steps_at fetches model (asks.Load name) =
     most_steps_for model.state (load_order name (fetches FILE_LIMIT name))
 most_steps_at fetches model (asks.Rollback key update) = most_steps_for model.state (Ok (rollback_order key update))
 most_steps_at fetches model (asks.Drop key) = most_steps_for model.state (Ok (drop_order key))
+most_steps_at fetches model (asks.Begin name) =
+    most_steps_to_stage model.staging (file_in FILE_LIMIT name (fetches FILE_LIMIT name))
+most_steps_at fetches model (asks.Step n) = 0
+most_steps_at fetches model asks.Commit = 0
 most_steps_at fetches model asks.Save = 0
 most_steps_at fetches model (asks.SaveStep slices) = 0
 most_steps_at fetches model (asks.Refresh k) = 0

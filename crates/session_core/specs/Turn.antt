@@ -1,42 +1,24 @@
 -- The turn of an event: what is replied to it, and what it leaves.
-use Rattle.std.specs.Prelude.{ℕ, ◌+◌, if◌then◌else◌, Option, Some, None, Result, Ok, Err}
-use Rattle.chart_model.specs.declared.command.Command.{Command}
-use Rattle.chart_store.specs.declared.refusal.Refusal as of_store
+use Rattle.std.specs.Prelude.{ℕ, ◌+◌, if◌then◌else◌, Option, Some, None, Ok}
 use Rattle.chart_store.specs.declared.refusal.Refusal.TheVariants.{BankFull}
-use Rattle.chart_store.specs.Loaded.{FILE_LIMIT, Outcome}
-use Rattle.chart_store.specs.Outcome.{accepted}
+use Rattle.chart_store.specs.Loaded.{FILE_LIMIT}
 use Rattle.panel_scenes.specs.Numbered.{numbered}
 use Rattle.script_reader.specs.declared.event.Event.{Event}
 use Rattle.script_reader.specs.declared.event.Event.TheVariants as asks
 use Rattle.script_reader.specs.declared.reply.Reply.{Reply}
 use Rattle.script_reader.specs.declared.reply.Reply.TheVariants as replies
-use Rattle.session_core.specs.declared.refusal.LineRefusal.{LineRefusal}
 use Rattle.session_core.specs.declared.refusal.LineRefusal.TheVariants.{Busy, NothingBegun, Store}
 use Rattle.session_core.specs.Draw.{draw_of}
 use Rattle.session_core.specs.Info.{info_of}
-use Rattle.session_core.specs.Listing.{cells_reply}
-use Rattle.session_core.specs.Model.{Model, Progress, model_with}
-use Rattle.session_core.specs.Order.{drop_order, load_order, make_order, reissue_order, reply_to, rollback_order}
-use Rattle.session_core.specs.declared.changes.order.Order.{Order}
+use Rattle.session_lists.specs.Cells.{cells_reply}
+use Rattle.session_core.specs.Model.{Model, Progress}
+use Rattle.session_core.specs.Order.{drop_order, load_order, make_order, order_turn, reissue_order, rollback_order}
 use Rattle.session_core.specs.Outside.{FromOutside}
 use Rattle.session_core.specs.Panels.{close_turn, paint_turn, panel_turn, refresh_turn}
 use Rattle.session_core.specs.Replied.{Turn, refusal_turn, reply_turn}
-use Rattle.session_core.specs.Route.{ROUTE_LIMIT, route_of}
+use Rattle.session_core.specs.Route.{ROUTE_LIMIT, cover_of, route_of}
+use Rattle.session_core.specs.Staging.{change_turn, commit_turn, stage_turn}
 use Rattle.session_core.specs.Save.{bank_bytes, is_done_by, is_too_long, model_saving, model_stepped, slices_of}
-
--- a command is accepted, or refused
-abbrev pub decision_turn : Model → Command → (Outcome → Reply) → Result Outcome of_store.Refusal → Turn
-decision_turn model command reply (Ok done) =
-    record { reply = reply done; command = Some command; model = model_with model command done.state }
-decision_turn model command reply (Err refusal) = refusal_turn model (Store refusal)
-
-abbrev pub command_turn : Model → Command → (Outcome → Reply) → Turn
-command_turn model command reply = decision_turn model command reply (accepted model.state model.room command)
-
--- so is one that a line orders, unless the line is refused before
-abbrev pub order_turn : Model → Result Order LineRefusal → Turn
-order_turn model (Ok order) = command_turn model order.command (λ done. reply_to order.success done.key done.held)
-order_turn model (Err refusal) = refusal_turn model refusal
 
 -- a save goes on, and nothing that is held changes
 abbrev pub save_turn : Reply → Model → Turn
@@ -66,9 +48,15 @@ turn_of outside model asks.Cells = reply_turn model (Ok (cells_reply model.state
 turn_of outside model (asks.Draw key) = reply_turn model (draw_of model.portrayal model.state.cells key)
 turn_of outside model (asks.Route name) =
     reply_turn model (route_of model.portrayal.settings model.state name (outside.fetches ROUTE_LIMIT name))
+turn_of outside model (asks.Cover name) =
+    reply_turn model (cover_of model.state name (outside.fetches ROUTE_LIMIT name))
 turn_of outside model (asks.Load name) = order_turn model (load_order name (outside.fetches FILE_LIMIT name))
 turn_of outside model (asks.Rollback key update) = order_turn model (Ok (rollback_order key update))
 turn_of outside model (asks.Drop key) = order_turn model (Ok (drop_order key))
+turn_of outside model (asks.Begin name) =
+    stage_turn model name (outside.fetches FILE_LIMIT name) model.staging
+turn_of outside model (asks.Step n) = change_turn model n model.staging
+turn_of outside model asks.Commit = commit_turn model model.staging
 turn_of outside model asks.Save = begin_turn model model.save
 turn_of outside model (asks.SaveStep slices) = step_turn model slices model.save
 turn_of outside model (asks.Refresh k) = refresh_turn model k (numbered k model.scenes)
@@ -83,3 +71,13 @@ abbrev pub IsOfSave : Event → Type 0
 IsOfSave asks.Save = Unit {0}
 IsOfSave (asks.SaveStep slices) = Unit {0}
 IsOfSave other = ⊥
+
+-- the lines that may stand for a command; all others leave what is held as it is
+abbrev pub MayAccept : Event → Type 0
+MayAccept (asks.Load name) = Unit {0}
+MayAccept (asks.Rollback key update) = Unit {0}
+MayAccept (asks.Drop key) = Unit {0}
+MayAccept asks.Commit = Unit {0}
+MayAccept (asks.Make areas update) = Unit {0}
+MayAccept (asks.Reissue key) = Unit {0}
+MayAccept other = ⊥

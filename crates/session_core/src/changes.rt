@@ -7,5 +7,5 @@ mod order;
 mod written;
 
 pub use load::load_order;
-pub use order::{Order, drop_order, rollback_order};
+pub use order::{Order, Success, drop_order, rollback_order};
 pub use written::{make_order, reissue_order};

@@ -3,7 +3,7 @@
 //! The reply and the command of an event are defined side by side. That what is held after it is what the command
 //! leaves, and with it still what the live files leave, is said here once for those who run many turns.
 
-ghost use Rattle.std.specs.Prelude.{◌≡◌, ◌<◌, ℕ, true, List, Option, Some, None, length, option_and_then};
+ghost use Rattle.std.specs.Prelude.{◌≡◌, ◌↔◌, ◌<◌, ℕ, true, List, Ok, Option, Some, None, length, option_and_then};
 ghost use Rattle.std.specs.FinMap as finite;
 ghost use Rattle.chart_model.specs.Cell.{CellValue};
 ghost use Rattle.chart_model.specs.declared.command.Command.{Command};
@@ -11,22 +11,31 @@ ghost use Rattle.chart_model.specs.declared.name.Name.{Name};
 ghost use Rattle.chart_store.specs.Live.{AreLive};
 ghost use Rattle.chart_store.specs.Loaded.{HoldingsByKey};
 ghost use Rattle.chart_store.specs.Outcome.{state_with};
+ghost use Rattle.chart_store.specs.Staging.{key_in};
 ghost use Rattle.draw_list.specs.Block.{block_at};
 ghost use Rattle.script_reader.specs.declared.event.Event.{Event};
-ghost use Rattle.script_reader.specs.declared.event.Event.TheVariants.{Paint, Panel};
+ghost use Rattle.script_reader.specs.declared.event.Event.TheVariants.{Begin, Commit, Paint, Panel};
 ghost use Rattle.script_reader.specs.declared.reply.Reply.TheVariants as replies;
 ghost use Rattle.script_reader.specs.declared.reply.Reply.TheVariants.{Refused};
 ghost use Rattle.session_core.specs.Held.{chart_of};
-ghost use Rattle.session_core.specs.Model.{Model, Portrayal, model_with, with_scenes};
+ghost use Rattle.session_core.specs.Interleaved.{Asked, IsBegun, IsStagedStill, StaysStaged, TellsLast, commands_along};
+ghost use Rattle.session_core.specs.Interleaved.{model_after, numbers_for};
+ghost use Rattle.session_core.specs.Model.{Model, Portrayal, Staging, model_with, staging_past, with_scenes, with_staging};
+ghost use Rattle.session_core.specs.Order.{commit_order, order_turn};
 ghost use Rattle.session_core.specs.Outside.{FromOutside};
 ghost use Rattle.session_core.specs.Panels.{IsOfPanel, target_of};
-ghost use Rattle.session_core.specs.Turn.{IsOfSave, turn_of};
+ghost use Rattle.session_core.specs.Staging.{IsOfStaging, unstaged};
+ghost use Rattle.session_core.specs.Turn.{IsOfSave, MayAccept, turn_of};
 
 use chart_store::commands_leave_what_is_held;
 
-/// A turn in which no command is accepted leaves what is held as it was, and all else too unless the line is of a save
-/// or of a panel; any other leaves what its command leaves. So the cells stay what their live files leave. A line of a
-/// panel changes what is known of panels alone, and no other line does. No turn changes by what cells are drawn.
+/// A turn in which no command is accepted leaves what is held as it was, and all else too unless the line is of a save,
+/// of a staged file or of a panel; any other leaves what its command leaves. So the cells stay what their live files
+/// leave. Only a line that stands for a command, a `load`, `rollback`, `drop`, `commit`, `make` or `reissue`, has one.
+///
+/// A line of a panel changes what is known of panels alone, and no other line does. A line of a staged file changes
+/// nothing but what is staged, unless its command is accepted; and by any other line a staged file is overtaken where a
+/// command is accepted for its cell, and stays as it is where none is. No turn changes by what cells are drawn.
 ///
 /// `no 72` is replied only where the shelf failed, and `no 78` only to a painting in which the panel failed. The
 /// numbers of `ok panel` are those that the panel told.
@@ -35,15 +44,24 @@ pub fn turns_follow_their_commands()
         (turn_of outside model event).command ≡ None →
         (turn_of outside model event).model.state ≡ model.state }
     ensures same { (outside : FromOutside) (model : Model) (event : Event) →
-        (turn_of outside model event).command ≡ None → ¬ IsOfSave event → ¬ IsOfPanel event →
+        (turn_of outside model event).command ≡ None → ¬ IsOfSave event → ¬ IsOfStaging event → ¬ IsOfPanel event →
         (turn_of outside model event).model ≡ model }
+    ensures rests { (outside : FromOutside) (model : Model) (event : Event) → ¬ MayAccept event →
+        (turn_of outside model event).command ≡ None }
+    ensures of_staging { (outside : FromOutside) (model : Model) (event : Event) → IsOfStaging event →
+        (turn_of outside model event).command ≡ None →
+        (turn_of outside model event).model ≡ with_staging model (turn_of outside model event).model.staging }
+    ensures staging { (outside : FromOutside) (model : Model) (event : Event) → ¬ IsOfStaging event →
+        (turn_of outside model event).model.staging
+        ≡ staging_past model.count (turn_of outside model event).command model.staging }
     ensures of_panel { (outside : FromOutside) (model : Model) (event : Event) → IsOfPanel event →
         (turn_of outside model event).model ≡ with_scenes model (turn_of outside model event).model.scenes }
     ensures scenes { (outside : FromOutside) (model : Model) (event : Event) → ¬ IsOfPanel event →
         (turn_of outside model event).model.scenes ≡ model.scenes }
     ensures some { (outside : FromOutside) (model : Model) (event : Event) (command : Command) →
         (turn_of outside model event).command ≡ Some command →
-        (turn_of outside model event).model ≡ model_with model command (state_with model.state command) }
+        (turn_of outside model event).model ≡ with_staging
+        (model_with model command (state_with model.state command)) (turn_of outside model event).model.staging }
     ensures live { (outside : FromOutside) (model : Model) (event : Event) →
         AreLive model.state.cells → AreLive (turn_of outside model event).model.state.cells }
     ensures portrayal { (outside : FromOutside) (model : Model) (event : Event) →
@@ -60,6 +78,27 @@ pub fn turns_follow_their_commands()
 {
     commands_leave_what_is_held();
 }
+
+/// A file that is staged stays staged until a step is refused or a commit ends it, whatever comes between, and what
+/// overtakes it is the last of the commands that are accepted for its cell meanwhile. So `commit` is refused by 75
+/// exactly where one was accepted since `begin`, and is a load of the file where none was. No other line is.
+pub fn staged_files_are_overtaken()
+    ensures begun { (outside : FromOutside) (model : Model) (name key : List ℕ) (total : ℕ) →
+        (turn_of outside model (Begin name)).reply ≡ replies.Begin key total →
+        IsBegun model key (turn_of outside model (Begin name)).model }
+    ensures still { (model : Model) (before : Staging) (events : List Asked) → model.staging ≡ Some before →
+        StaysStaged model events → (now : Staging) × ((model_after model events).staging ≡ Some now)
+        × IsStagedStill before now (commands_along model events) }
+    ensures exact { (outside : FromOutside) (model : Model) (before : Staging) (events : List Asked) (values : List ℕ) →
+        model.staging ≡ Some before → before.last ≡ None → StaysStaged model events →
+        ((turn_of outside (model_after model events) Commit).reply ≡ Refused 75 values)
+        ↔ TellsLast before.begun (numbers_for (key_in before.staged.file) (commands_along model events)) values }
+    ensures taken { (outside : FromOutside) (model : Model) (now : Staging) → model.staging ≡ Some now →
+        now.last ≡ None → turn_of outside model Commit ≡
+        order_turn (unstaged model) (Ok (commit_order now.staged.file)) }
+    ensures alone { (outside : FromOutside) (model : Model) (event : Event) (values : List ℕ) →
+        (turn_of outside model event).reply ≡ Refused 75 values → event ≡ Commit }
+{}
 
 /// What a refresh is to show: of each cell that is held and not cancelled the blocks of its features that are shown,
 /// and nothing else.

@@ -1,9 +1,9 @@
 //! One turn of a session: an event of the script is carried out, and its reply told.
 //!
 //! What is replied to an event depends on what is held, on the room in the journal, on the save that is under way, on
-//! the table and the settings by which cells are drawn, on what is known of each panel, and on what the shelf and the
-//! panel answer. What it leaves is the same, or what the one command leaves that it stands for; a save goes on, and so
-//! does a refresh of a panel. A refusal is a reply.
+//! the file that is staged, on the table and the settings by which cells are drawn, on what is known of each panel, and
+//! on what the shelf and the panel answer. What it leaves is the same, or what the one command leaves that it stands
+//! for; a save goes on, and so do a file that is staged and a refresh of a panel. A refusal is a reply.
 #![tactic(auto)]
 
 mod changes;
@@ -15,11 +15,14 @@ mod panels;
 mod questions;
 mod refusal;
 mod session;
+mod staging;
 mod target;
 mod upkeep;
 mod values;
 
 pub use fault::TurnFault;
-pub use laws::{targets_are_the_blocks_of_charts, turns_follow_their_commands};
+pub use laws::{
+    staged_files_are_overtaken, targets_are_the_blocks_of_charts, turns_follow_their_commands,
+};
 pub use refusal::LineRefusal;
 pub use session::Session;

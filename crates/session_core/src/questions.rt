@@ -1,11 +1,9 @@
 //! Lines that ask: each is answered by what is held and by the file that it names, and changes nothing.
 
-mod cells;
-mod draw;
+mod charts;
 mod info;
 mod route;
 
-pub use cells::list_cells;
-pub use draw::draw_chart;
+pub use charts::{draw_chart, list_cells};
 pub use info::inform;
-pub use route::check_route;
+pub use route::{check_cover, check_route};

@@ -33,13 +33,16 @@ pub enum LineRefusal {
     NoFile(Word),
     /// 72: the shelf failed.
     ShelfFault,
-    /// 76: no save is under way, or no refresh of the panel.
+    /// 75: a command was accepted for the cell of the staged file. So many had been accepted when the file was staged, and
+    /// this is the number of the last one that was accepted for the cell.
+    Overtaken(u64, u64),
+    /// 76: nothing is staged, no save is under way, or no refresh of the panel.
     NothingBegun,
     /// 77: there is no panel of this number.
     NoPanel(u32),
     /// 78: the panel of this number failed.
     PanelFault(u32),
-    /// 79: a save is under way, or a refresh of the panel.
+    /// 79: a file is staged, a save is under way, or a refresh of the panel.
     Busy,
     /// 10 to 63, 73 and 74: the store refuses.
     Store(StoreRefusal),
@@ -222,6 +225,7 @@ impl LineRefusal {
             LineRefusal::BadLine(_) => 70,
             LineRefusal::NoFile(_) => 71,
             LineRefusal::ShelfFault => 72,
+            LineRefusal::Overtaken(..) => 75,
             LineRefusal::NothingBegun => 76,
             LineRefusal::NoPanel(_) => 77,
             LineRefusal::PanelFault(_) => 78,
@@ -245,6 +249,7 @@ impl LineRefusal {
             | LineRefusal::RouteMany(number)
             | LineRefusal::BadLine(number) => join(alloc, &[Value::Number(*number)]),
             LineRefusal::NoFile(name) => join(alloc, &[Value::Text(name.as_str().as_bytes())]),
+            LineRefusal::Overtaken(begun, last) => join_pair(alloc, *begun, *last),
             LineRefusal::NoPanel(k) | LineRefusal::PanelFault(k) => {
                 join(alloc, &[Value::Number(*k as u64)])
             }

@@ -5,12 +5,15 @@
 //! memory may still run out: the command is on the disk then although its reply isn't told, as after a crash, and the
 //! store has to be opened again.
 
+mod commits;
+
 use crate::changes::{Order, drop_order, load_order, make_order, reissue_order, rollback_order};
 use crate::fault::{EventFault, TurnFault};
 use crate::held::{cells_of, chart_of};
 use crate::panels::{close, paint, refresh, sum_up};
-use crate::questions::{check_route, draw_chart, inform, list_cells};
+use crate::questions::{check_cover, check_route, draw_chart, inform, list_cells};
 use crate::refusal::LineRefusal;
+use crate::staging::{Staging, begin, change, note};
 use crate::target::Charts;
 use crate::upkeep::{all_grids, all_users, renew_grids, renew_users};
 use chart_model::Settings;
@@ -28,13 +31,14 @@ use std::alloc::{AllocError, Global};
 use std::sync::ledger::Ledger;
 use topology_cache::UsersMap;
 
-/// What a run of events goes on with: the store, the table and the settings by which cells are drawn, and what is known
-/// of each panel. The shelf, the desk and the panels are handed in at each turn.
+/// What a run of events goes on with: the store, the file that is staged, the table and the settings by which cells are
+/// drawn, and what is known of each panel. The shelf, the desk and the panels are handed in at each turn.
 ///
 /// Beside each chart that is held it keeps the users of its edges and its grid.
 #[derive(Drop)]
 pub struct Session {
     store: Store,
+    staging: Option<Staging>,
     table: Table,
     settings: Settings,
     users: UsersMap,
@@ -65,13 +69,15 @@ impl Session {
     ghost use Rattle.session_core.specs.Held.{chart_of};
     ghost use Rattle.session_core.specs.Kept.{IsKeptOf, IsRenewed, feature_count};
     ghost use Rattle.session_core.specs.Model.{portrayal_with};
+    ghost use Rattle.session_core.specs.Order.{order_turn};
     ghost use Rattle.session_core.specs.Outside.{AreOfPanels, KeepsPanels, faults_of, tells_of};
     ghost use Rattle.session_core.specs.Reissue.{ReissueKeepsChart};
     ghost use Rattle.session_core.specs.Session.{AcceptsOne, GivesEvent, GivesTurn, IsReady, KeepsCharts};
     ghost use Rattle.session_core.specs.Session.{KeepsOthers, TakesTurn, WritesSlices, file_of};
-    ghost use Rattle.session_core.specs.Session.{grids_in, model_of, portrayal_of, scenes_of, store_of, users_in};
+    ghost use Rattle.session_core.specs.Session.{grids_in, model_of, portrayal_of, scenes_of, staging_in, store_of};
+    ghost use Rattle.session_core.specs.Session.{users_in};
     ghost use Rattle.session_core.specs.Steps.{TakesAtMost};
-    ghost use Rattle.session_core.specs.Turn.{begin_turn, order_turn, step_turn};
+    ghost use Rattle.session_core.specs.Turn.{begin_turn, step_turn};
     ghost use Rattle.spatial_grid.specs.Box.{IsGridOf};
     ghost use Rattle.topology_cache.specs.Users.{AreUsersOf};
 
@@ -91,6 +97,7 @@ impl Session {
         ensures store { IfOk result (λ session. store_of session ≡ store) }
         ensures portrayal { IfOk result (λ session. portrayal_of session ≡ portrayal_with table settings) }
         ensures scenes { IfOk result (λ session. scenes_of session ≡ new_scenes panels) }
+        ensures staging { IfOk result (λ session. staging_in session ≡ None) }
         ensures charts { IfOk result KeepsCharts }
         ensures at_most { steps.new ≤ steps.old + feature_count (state_of store).cells }
     {
@@ -100,6 +107,7 @@ impl Session {
         let panels = PanelScenes::new(alloc, panels)?;
         Ok(Session {
             store,
+            staging: None,
             table,
             settings,
             users,
@@ -137,6 +145,7 @@ impl Session {
         ensures store { store_of self.new ≡ store_of self.old }
         ensures portrayal { portrayal_of self.new ≡ portrayal_of self.old }
         ensures scenes { scenes_of self.new ≡ scenes_of self.old }
+        ensures staging { staging_in self.new ≡ staging_in self.old }
         ensures users { OnOk result (IsRenewed AreUsersOf done.now.key
             (chart_of (state_of (store_of self.old)).cells done.now.key) (users_in self.old) (users_in self.new)) }
         ensures grids { OnOk result (IsRenewed IsGridOf done.now.key
@@ -181,6 +190,7 @@ impl Session {
         commands_change_their_cell_alone();
         let Order { command, success } = order;
         let done = self.store.submit(alloc, command, desk, steps)?;
+        note(&mut self.staging, &done);
         self.keep_up(alloc, &done, steps)?;
         Ok(success.reply(&done))
     }
@@ -195,6 +205,7 @@ impl Session {
         ensures no_desk { result ≢ Err EventFailed }
         ensures portrayal { portrayal_of self.new ≡ portrayal_of self.old }
         ensures scenes { scenes_of self.new ≡ scenes_of self.old }
+        ensures staging { staging_in self.new ≡ staging_in self.old }
         ensures users { users_in self.new ≡ users_in self.old }
         ensures grids { grids_in self.new ≡ grids_in self.old }
     {
@@ -289,6 +300,7 @@ impl Session {
                 let state = self.store.state();
                 check_route(alloc, name, state, &self.grids, &self.settings, shelf)
             }
+            Event::Cover(name) => check_cover(alloc, name, self.store.state(), shelf),
             Event::Load(name) => {
                 let order = load_order(alloc, name, shelf)?;
                 self.obey(alloc, order, desk, steps)
@@ -297,6 +309,11 @@ impl Session {
                 self.obey(alloc, rollback_order(key, update), desk, steps)
             }
             Event::Drop(key) => self.obey(alloc, drop_order(key), desk, steps),
+            Event::Begin(name) => {
+                begin(alloc, name, &mut self.staging, &self.store, shelf, steps)
+            }
+            Event::Step(n) => change(alloc, n, &mut self.staging),
+            Event::Commit => self.commit(alloc, desk, steps),
             Event::Save => self.begin_save(alloc),
             Event::SaveStep(slices) => self.write_slices(desk, slices),
             Event::Refresh(k) => {
@@ -322,8 +339,9 @@ impl Session {
         }
     }
 
-    /// Carries out what a line asks for, and tells its reply. A refusal is a reply, and changes nothing, but that it
-    /// isn't known any more what a panel shows that failed. The panels are those whose scenes the session keeps; one
+    /// Carries out what a line asks for, and tells its reply. A refusal is a reply, and changes nothing, but that a step
+    /// and a commit that are refused leave nothing staged, and that it isn't known any more what a panel shows that
+    /// failed. The panels are those whose scenes the session keeps; one
     /// that is closed is taken out of them.
     ///
     /// # Errors

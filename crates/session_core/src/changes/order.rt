@@ -19,6 +19,8 @@ pub enum Success {
     Rollback,
     /// A cell was taken away.
     Drop,
+    /// A file that was staged was taken over, or has cancelled its cell.
+    Commit,
     /// A file of so many data records was made and taken over.
     Make(u64),
     /// A chart was written and taken over.
@@ -48,6 +50,13 @@ impl Success {
             }
             Success::Rollback => Reply::Rollback(key, held.edition, held.update),
             Success::Drop => Reply::Drop(key),
+            Success::Commit => {
+                if held.cancelled {
+                    Reply::Cancel(key)
+                } else {
+                    Reply::Commit(key, held.edition, held.update)
+                }
+            }
             Success::Make(records) => Reply::Make(key, held.edition, held.update, records),
             Success::Reissue => Reply::Reissue(key, held.edition, held.update),
         }

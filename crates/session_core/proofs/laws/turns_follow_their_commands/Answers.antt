@@ -1,4 +1,5 @@
-use Rattle.session_core.proofs.Following.{turn-live, turn-none, turn-of-panel, turn-portrayal, turn-same, turn-scenes, turn-some}
+use Rattle.session_core.proofs.Following.{turn-live, turn-none, turn-portrayal, turn-rests, turn-same, turn-scenes, turn-some, turn-staging}
+use Rattle.session_core.proofs.Leaving.{turn-of-panel, turn-of-staging}
 use Rattle.session_core.proofs.Replying.{turn-failed, turn-panel-failed, turn-told}
 use Rattle.session_core.proofs.laws.turns_follow_their_commands.Goals as goal
 
@@ -31,3 +32,12 @@ returns-clause-panel_failed c = turn-panel-failed
 
 pub returns-clause-told : goal.returns-clause-told
 returns-clause-told c = turn-told
+
+pub returns-clause-rests : goal.returns-clause-rests
+returns-clause-rests c = turn-rests
+
+pub returns-clause-of_staging : goal.returns-clause-of_staging
+returns-clause-of_staging c = turn-of-staging
+
+pub returns-clause-staging : goal.returns-clause-staging
+returns-clause-staging c = turn-staging

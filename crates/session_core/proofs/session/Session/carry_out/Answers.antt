@@ -16,21 +16,22 @@ use Rattle.session_core.specs.Answers.{Gives}
 use Rattle.session_core.specs.Draw.{draw_of}
 use Rattle.session_core.specs.Fetch.{fetches_of}
 use Rattle.session_core.specs.Kept.{IsKeptOfEach}
-use Rattle.session_core.specs.Listing.{cells_reply}
-use Rattle.session_core.specs.Model.{with_scenes}
+use Rattle.session_lists.specs.Cells.{cells_reply}
+use Rattle.std.specs.Prelude.{option_map}
+use Rattle.session_core.specs.Model.{with_scenes, with_staging}
 use Rattle.session_core.specs.Order.{reissue_order}
-use Rattle.session_core.specs.Route.{ROUTE_LIMIT, route_of}
-use Rattle.session_core.specs.Session.{grids_in, model_of, store_of, users_in}
+use Rattle.session_core.specs.Route.{ROUTE_LIMIT, cover_of, route_of}
+use Rattle.session_core.specs.Session.{grids_in, model_of, staging_of, store_of, users_in}
 use Rattle.session_core.specs.Panels.{IsOfPanel}
 use Rattle.session_core.proofs.Fetching.{are-served, fetching}
 use Rattle.session_core.proofs.PanelTurns.{none-asked, painted-panel, painting, panels-stay, slice-asked, slice-panels, summed-panels, telling, unasked-panel}
 use Rattle.session_core.proofs.Reissuing.{event-keeps, not-passed}
-use Rattle.session_core.proofs.Renewing.{has-grids}
+use Rattle.session_core.proofs.Renewing.{has-grids, restaged}
 use Rattle.session_core.proofs.Stepping.{none-taken, within, within-none}
 use Rattle.session_core.proofs.Saves.{begun-count, begun-held, begun-ready, held-within, no-slices}
-use Rattle.session_core.proofs.Turning.{no-call, question-turns, order-fails, order-turns, save-turns, same-either}
+use Rattle.session_core.proofs.Turning.{no-call, question-turns, order-fails, order-turns, save-turns, same-either, turn-turns}
 use Rattle.session_core.proofs.Turning.{info-is, info-steps, cells-is, draw-is, route-is, load-is, rollback-is, drop-is, save-is, save-step-is, make-is, reissue-is}
-use Rattle.session_core.proofs.Turning.{close-panel-is, paint-is, panel-is, refresh-is}
+use Rattle.session_core.proofs.Turning.{change-is, close-panel-is, commit-is, commit-steps, cover-is, paint-is, panel-is, refresh-is, stage-is, stage-steps}
 use Rattle.topology_cache.specs.Users.{AreUsersOf}
 use Rattle.session_core.proofs.session.Session.carry_out.Goals as goal
 
@@ -84,6 +85,20 @@ returns-in-Route-clause-turned g c =
     (λ images bytes left. g.met.D.Desk.only_now c.args.desk.now images bytes tells left)
     (λ images left. c.kept_stores_are_read.ensures.stands c.args.desk.now (store_of c.args.self.now) images (c.requires.ready.kept tells) stood left))
 
+pub returns-in-Cover-clause-turned : goal.returns-in-Cover-clause-turned
+returns-in-Cover-clause-turned g c =
+    let found = c.check_cover.ensures.found in
+    let before = model_of c.args.self.now in
+    question-turns _ _ _ c.args.event before
+    (within before.state before.state c.args.steps.now c.args.steps.now) (fetching found.0) _ c.check_cover.result (found.1, none-asked _ _ _ _ _ _ _ (λ of. subst IsOfPanel c.in-Cover.is of)) (cover-is (fetching found.0) before c.args.event c.in-Cover.name c.in-Cover.is)
+    (none-taken _ before.state c.args.steps.now)
+    (subst (λ (state : StateValue). Gives {A = Reply} c.check_cover.result (cover_of state c.in-Cover.name (found.0 ROUTE_LIMIT c.in-Cover.name)))
+    c.state.ensures.state found.2) (λ after tells stood.
+    no-call g.D.Desk.clock g.D.Desk.might c.args.desk.now (g.D.Desk.may_leave c.args.desk.now) (g.D.Desk.said c.args.desk.now)
+    before.state after
+    (λ images bytes left. g.met.D.Desk.only_now c.args.desk.now images bytes tells left)
+    (λ images left. c.kept_stores_are_read.ensures.stands c.args.desk.now (store_of c.args.self.now) images (c.requires.ready.kept tells) stood left))
+
 -- ---- changes
 
 pub returns-in_err-order-in-Load-clause-turned : goal.returns-in_err-order-in-Load-clause-turned
@@ -118,6 +133,56 @@ returns-in-Drop-clause-turned g c =
     (drop-is (fetching (fetches_of (g.L.Shelf.files c.args.shelf.now) false)) (model_of c.args.self.now) c.args.event c.in-Drop.key c.in-Drop.is) (ap Ok (sym c.drop_order.ensures))
     c.obey-in-Drop.ensures.steps c.obey-in-Drop.ensures.given c.obey-in-Drop.ensures.moments
 
+-- ---- a file that is staged
+
+pub returns-in-Begin-clause-turned : goal.returns-in-Begin-clause-turned
+returns-in-Begin-clause-turned g c =
+    let found = c.begin.ensures.given in
+    let before = model_of c.args.self.now in
+    save-turns _ _ _ c.args.event before
+    (within before.state before.state c.args.steps.now c.begin.new.steps) (fetching found.0) _ c.begin.result (with_staging before (option_map staging_of c.begin.new.staging))
+    (found.1, none-asked _ _ _ _ _ _ _ (λ of. subst IsOfPanel c.in-Begin.is of)) (stage-is (fetching found.0) before c.args.event c.in-Begin.name c.in-Begin.is)
+    (within-none _ before.state c.args.steps.now c.begin.new.steps
+    (subst (λ (most : ℕ). c.begin.new.steps ≤ c.args.steps.now + most)
+    (sym (stage-steps (fetching found.0) before c.args.event c.in-Begin.name c.in-Begin.is)) found.3))
+    (found.2 before refl refl refl) (λ after tells stood.
+    no-call g.D.Desk.clock g.D.Desk.might c.args.desk.now (g.D.Desk.may_leave c.args.desk.now) (g.D.Desk.said c.args.desk.now)
+    before.state after
+    (λ images bytes left. g.met.D.Desk.only_now c.args.desk.now images bytes tells left)
+    (λ images left. c.kept_stores_are_read.ensures.stands c.args.desk.now (store_of c.args.self.now) images (c.requires.ready.kept tells) stood left))
+
+pub returns-in-Begin-clause-ready : goal.returns-in-Begin-clause-ready
+returns-in-Begin-clause-ready g c = λ no_fault no_want.
+    restaged _ _ _ c.args.self.now (record c.args.self.now { staging = c.begin.new.staging }) c.requires.ready refl refl refl
+    (c.begin.ensures.on c.requires.ready.staged)
+
+pub returns-in-Step-clause-turned : goal.returns-in-Step-clause-turned
+returns-in-Step-clause-turned g c =
+    let outside = fetching (fetches_of (g.L.Shelf.files c.args.shelf.now) false) in
+    let before = model_of c.args.self.now in
+    save-turns _ _ _ c.args.event before
+    (within before.state before.state c.args.steps.now c.args.steps.now) outside _ c.change.result (with_staging before (option_map staging_of c.change.new.staging))
+    (are-served g.L.Shelf.tells (g.L.Shelf.files c.args.shelf.now) _ _, none-asked _ _ _ _ _ _ _ (λ of. subst IsOfPanel c.in-Step.is of)) (change-is outside before c.args.event c.in-Step.n c.in-Step.is)
+    (none-taken _ before.state c.args.steps.now) (c.change.ensures.given before refl) (λ after tells stood.
+    no-call g.D.Desk.clock g.D.Desk.might c.args.desk.now (g.D.Desk.may_leave c.args.desk.now) (g.D.Desk.said c.args.desk.now)
+    before.state after
+    (λ images bytes left. g.met.D.Desk.only_now c.args.desk.now images bytes tells left)
+    (λ images left. c.kept_stores_are_read.ensures.stands c.args.desk.now (store_of c.args.self.now) images (c.requires.ready.kept tells) stood left))
+
+pub returns-in-Step-clause-ready : goal.returns-in-Step-clause-ready
+returns-in-Step-clause-ready g c = λ no_fault no_want.
+    restaged _ _ _ c.args.self.now (record c.args.self.now { staging = c.change.new.staging }) c.requires.ready refl refl refl
+    (c.change.ensures.on (model_of c.args.self.now).state c.requires.ready.staged)
+
+pub returns-in-Commit-clause-turned : goal.returns-in-Commit-clause-turned
+returns-in-Commit-clause-turned g c =
+    let outside = fetching (fetches_of (g.L.Shelf.files c.args.shelf.now) false) in
+    let before = model_of c.args.self.now in
+    let takes = within before.state (model_of c.commit.new.self).state c.args.steps.now c.commit.new.steps in
+    turn-turns _ _ _ c.args.event before takes outside _ c.commit.result (model_of c.commit.new.self)
+    (are-served g.L.Shelf.tells (g.L.Shelf.files c.args.shelf.now) _ _, none-asked _ _ _ _ _ _ _ (λ of. subst IsOfPanel c.in-Commit.is of)) (commit-is outside before c.args.event c.in-Commit.is)
+    (subst takes (sym (commit-steps outside before c.args.event c.in-Commit.is)) c.commit.ensures.steps) c.commit.ensures.given c.commit.ensures.moments
+
 -- ---- saves
 
 pub returns-in-Save-clause-turned : goal.returns-in-Save-clause-turned
@@ -141,7 +206,8 @@ returns-in-Save-clause-ready g c = λ no_fault no_want.
     let new = c.begin_save.new.self in
     begun-ready g.D.Desk.tells (g.D.Desk.contents c.args.desk.now) (g.D.Desk.may_leave c.args.desk.now) old new c.begin_save.result
     (λ slices begun kept. c.begun_saves_are_kept.ensures c.args.desk.now slices (store_of old) (store_of new) kept begun)
-    c.begin_save.ensures.begun c.begin_save.ensures.err c.begin_save.ensures.users c.begin_save.ensures.grids c.requires.ready
+    c.begin_save.ensures.begun c.begin_save.ensures.err c.begin_save.ensures.users c.begin_save.ensures.grids c.begin_save.ensures.staging
+    c.requires.ready
 
 pub returns-in-Save-clause-accepts : goal.returns-in-Save-clause-accepts
 returns-in-Save-clause-accepts g c =
@@ -289,6 +355,30 @@ returns-in-Route-clause-panels g c =
     let turned = returns-in-Route-clause-turned g c in
     panels-stay _ _ _ _ _ turned.outside c.args.event c.check_route.result (model_of c.args.self.now) (model_of c.args.self.now) c.args.panels.now.items
     (λ of. subst IsOfPanel c.in-Route.is of) refl turned.gives
+
+pub returns-in-Cover-clause-panels : goal.returns-in-Cover-clause-panels
+returns-in-Cover-clause-panels g c =
+    let turned = returns-in-Cover-clause-turned g c in
+    panels-stay _ _ _ _ _ turned.outside c.args.event c.check_cover.result (model_of c.args.self.now) (model_of c.args.self.now) c.args.panels.now.items
+    (λ of. subst IsOfPanel c.in-Cover.is of) refl turned.gives
+
+pub returns-in-Begin-clause-panels : goal.returns-in-Begin-clause-panels
+returns-in-Begin-clause-panels g c =
+    let turned = returns-in-Begin-clause-turned g c in
+    panels-stay _ _ _ _ _ turned.outside c.args.event c.begin.result (model_of c.args.self.now) (with_staging (model_of c.args.self.now) (option_map staging_of c.begin.new.staging)) c.args.panels.now.items
+    (λ of. subst IsOfPanel c.in-Begin.is of) refl turned.gives
+
+pub returns-in-Step-clause-panels : goal.returns-in-Step-clause-panels
+returns-in-Step-clause-panels g c =
+    let turned = returns-in-Step-clause-turned g c in
+    panels-stay _ _ _ _ _ turned.outside c.args.event c.change.result (model_of c.args.self.now) (with_staging (model_of c.args.self.now) (option_map staging_of c.change.new.staging)) c.args.panels.now.items
+    (λ of. subst IsOfPanel c.in-Step.is of) refl turned.gives
+
+pub returns-in-Commit-clause-panels : goal.returns-in-Commit-clause-panels
+returns-in-Commit-clause-panels g c =
+    let turned = returns-in-Commit-clause-turned g c in
+    panels-stay _ _ _ _ _ turned.outside c.args.event c.commit.result (model_of c.args.self.now) (model_of c.commit.new.self) c.args.panels.now.items
+    (λ of. subst IsOfPanel c.in-Commit.is of) c.commit.ensures.scenes turned.gives
 
 pub returns-in_err-order-in-Load-clause-panels : goal.returns-in_err-order-in-Load-clause-panels
 returns-in_err-order-in-Load-clause-panels g c =

@@ -1,59 +1,67 @@
 -- What is kept follows the store.
-use Rattle.std.proofs.Common.{◌≡◌, refl, sym, subst}
-use Rattle.std.specs.Prelude.{IsTrue}
+use Rattle.std.proofs.Common.{◌≡◌, refl, sym, ◌∙◌, subst}
 use Rattle.chart_model.specs.State.{StateValue}
 use Rattle.chart_ports.specs.Moments.{LeavesOnly, images_of}
 use Rattle.chart_store.specs.Images.{StandFor}
-use Rattle.chart_store.specs.Store.{IsKept, StandsForEither, StoreValue, is_sound, room_of, state_of}
+use Rattle.chart_store.specs.Store.{StandsForEither, room_of, state_of}
 use Rattle.chart_store.specs.declared.store.Store.{Store}
-use Rattle.session_core.specs.Kept.{IsKeptOfEach}
-use Rattle.session_core.specs.Session.{grids_in, model_of, store_of, users_in}
-use Rattle.spatial_grid.specs.Box.{IsGridOf}
-use Rattle.topology_cache.specs.Users.{AreUsersOf}
-use Rattle.session_core.proofs.Keeping.{kept-renewed}
-use Rattle.session_core.proofs.Renewing.{order-leaves, other-fault, others-stay, refused-given, refused-steps, stays-sound}
+use Rattle.session_core.specs.Session.{model_of, store_of}
+use Rattle.session_core.proofs.Renewing.{Accepts, accepted-ready, done-gives, order-leaves, other-fault, others-stay, refused-given, refused-ready, refused-steps, stays-sound, untold-gives}
 use Rattle.session_core.proofs.session.Session.obey.Goals as goal
 
 pub returns-in_err-done-clause-ready : goal.returns-in_err-done-clause-ready
 returns-in_err-done-clause-ready g c = λ no_fault no_want.
     let apart = other-fault c.from_residual.result c.in_err-done.field-0.0 c.from_residual.ensures.1 no_fault in
-    let same = (c.in_err-done.ensures.unchanged apart).0 in
-    record {
-      sound = subst (λ (store : StoreValue). IsTrue store.sound) (sym same) c.requires.ready.sound;
-      kept = λ tells. c.in_err-done.ensures.kept tells apart;
-      charts = record {
-        users = subst (λ (store : StoreValue). IsKeptOfEach AreUsersOf store.state.cells (users_in c.args.self.now)) (sym same) c.requires.ready.charts.users;
-        grids = subst (λ (store : StoreValue). IsKeptOfEach IsGridOf store.state.cells (grids_in c.args.self.now)) (sym same) c.requires.ready.charts.grids;
-      };
-    }
+    refused-ready _ _ _ _ _ c.args.self.now (record c.args.self.now { store = c.submit.new.self }) c.requires.ready
+    (c.in_err-done.ensures.unchanged apart).0 (λ tells. c.in_err-done.ensures.kept tells apart) refl refl refl
 
 pub returns-in_err-done-clause-steps : goal.returns-in_err-done-clause-steps
 returns-in_err-done-clause-steps g c = refused-steps _ _ _ _ _ c.in_err-done.ensures.held.0 c.submit.ensures.at_most
 
 pub returns-clause-ready : goal.returns-clause-ready
 returns-clause-ready g c = λ no_fault no_want.
-    let same : store_of c.keep_up.new.self ≡ c.submit.new.self = c.in_ok-keep_up.ensures.store in
     let old = store_of c.args.self.now in
-    let stay = others-stay c.commands_change_their_cell_alone.ensures.alone (state_of old) (state_of c.submit.new.self) (room_of old) c.args.order.command
-    c.in_ok-done.done c.in_ok-done.ensures.outcome in
-    record {
-      sound = subst (λ (store : Store). IsTrue (is_sound store)) (sym same) (stays-sound _ _ c.in_ok-done.ensures.sound (λ e. cc));
-      kept = λ tells. subst (λ (store : Store). IsKept (g.D.Desk.contents c.submit.new.desk) (g.D.Desk.may_leave c.submit.new.desk) store) (sym same)
-          (c.in_ok-done.ensures.kept tells (λ e. cc));
-      charts = record {
-        users = subst (λ (store : Store). IsKeptOfEach AreUsersOf (state_of store).cells (users_in c.keep_up.new.self)) (sym same)
-            (kept-renewed AreUsersOf (state_of old).cells (state_of c.submit.new.self).cells c.in_ok-done.done.key (users_in c.args.self.now) (users_in c.keep_up.new.self)
-            c.requires.ready.charts.users stay c.in_ok-keep_up.ensures.users);
-        grids = subst (λ (store : Store). IsKeptOfEach IsGridOf (state_of store).cells (grids_in c.keep_up.new.self)) (sym same)
-            (kept-renewed IsGridOf (state_of old).cells (state_of c.submit.new.self).cells c.in_ok-done.done.key (grids_in c.args.self.now) (grids_in c.keep_up.new.self)
-            c.requires.ready.charts.grids stay c.in_ok-keep_up.ensures.grids);
-      };
-    }
+    accepted-ready _ _ _ _ _ c.args.self.now c.keep_up.new.self c.submit.new.self c.in_ok-done.done c.requires.ready c.in_ok-keep_up.ensures.store
+    (stays-sound _ _ c.in_ok-done.ensures.sound (λ e. cc)) (λ tells. c.in_ok-done.ensures.kept tells (λ e. cc))
+    (others-stay c.commands_change_their_cell_alone.ensures.alone (state_of old) (state_of c.submit.new.self) (room_of old) c.args.order.command
+    c.in_ok-done.done c.in_ok-done.ensures.outcome)
+    c.in_ok-keep_up.ensures.users c.in_ok-keep_up.ensures.grids (c.in_ok-keep_up.ensures.staging ∙ c.note.ensures)
+
+-- ---- what is replied, and what it leaves
 
 pub returns-in_err-done-clause-given : goal.returns-in_err-done-clause-given
 returns-in_err-done-clause-given g c =
     refused-given c.args.self.now (record c.args.self.now { store = c.submit.new.self }) c.args.order c.in_err-done.field-0.0 c.from_residual.result c.from_residual.ensures.1
-    c.in_err-done.ensures.outcome (λ apart. (c.in_err-done.ensures.unchanged apart).0) c.in_err-done.ensures.held.0 refl refl
+    c.in_err-done.ensures.outcome (λ apart. (c.in_err-done.ensures.unchanged apart).0) c.in_err-done.ensures.held.0 refl refl refl
+
+pub returns-in_err-keep_up-clause-given : goal.returns-in_err-keep_up-clause-given
+returns-in_err-keep_up-clause-given g c =
+    untold-gives c.args.self.now c.keep_up.new.self c.args.order c.in_ok-done.done _ c.from_residual-in_err-keep_up.ensures.1
+    (subst (λ (store : Store). Accepts (store_of c.args.self.now) store c.args.order.command c.in_ok-done.done) (sym c.in_err-keep_up.ensures.store) (record {
+      given = c.in_ok-done.ensures.outcome;
+      counted = c.in_ok-done.ensures.count;
+      room = c.in_ok-done.ensures.room;
+      saved = c.in_ok-done.ensures.save;
+    })) c.commands_change_their_cell_alone.ensures.keyed (record {
+      staged = c.in_err-keep_up.ensures.staging ∙ c.note.ensures;
+      drawn = c.in_err-keep_up.ensures.portrayal;
+      known = c.in_err-keep_up.ensures.scenes;
+    })
+
+pub returns-clause-given : goal.returns-clause-given
+returns-clause-given g c =
+    let gives = done-gives c.args.self.now c.keep_up.new.self c.args.order c.in_ok-done.done
+    (subst (λ (store : Store). Accepts (store_of c.args.self.now) store c.args.order.command c.in_ok-done.done) (sym c.in_ok-keep_up.ensures.store) (record {
+      given = c.in_ok-done.ensures.outcome;
+      counted = c.in_ok-done.ensures.count;
+      room = c.in_ok-done.ensures.room;
+      saved = c.in_ok-done.ensures.save;
+    })) c.commands_change_their_cell_alone.ensures.keyed (record {
+      staged = c.in_ok-keep_up.ensures.staging ∙ c.note.ensures;
+      drawn = c.in_ok-keep_up.ensures.portrayal;
+      known = c.in_ok-keep_up.ensures.scenes;
+    }) in
+    (gives.0 ∙ sym c.reply.ensures, gives.1)
 
 -- ---- what a read gives
 

@@ -3,9 +3,9 @@ use Rattle.std.proofs.Common.{refl, sym, ◌∙◌, ap}
 use Rattle.std.specs.Prelude.{option_map}
 use Rattle.chart_store.specs.Store.{save_of}
 use Rattle.session_core.specs.Session.{model_of, progress_of, store_of}
-use Rattle.session_core.proofs.Renewing.{stays-sound}
+use Rattle.session_core.proofs.Renewing.{charts-stay, stays-sound}
 use Rattle.session_core.proofs.Turning.{leaves-same}
-use Rattle.session_core.proofs.Saves.{charts-stay, failed-gives, idle-none, nothing-refuses, stepped-gives, under-some}
+use Rattle.session_core.proofs.Saves.{failed-gives, idle-none, nothing-refuses, stepped-gives, still-stands, under-some}
 use Rattle.session_core.proofs.session.Session.write_slices.Goals as goal
 
 -- ---- no save is under way
@@ -41,14 +41,14 @@ returns-in-Under-clause-given g c =
     let under = under-some (save_of (store_of c.args.self.now)) (sym c.is_saving.ensures ∙ c.if-not-is_saving.false) in
     let step = c.in_ok-written.ensures.step under.0 under.1 in
     stepped-gives c.args.self.now (record c.args.self.now { store = c.save_step.new.self }) c.args.slices under.0 _ under.1 (sym c.in-Under.is ∙ step.0) step.1
-    (c.in_ok-written.ensures.used under.0 under.1) c.save_step.ensures.held.0 refl refl
+    (c.in_ok-written.ensures.used under.0 under.1) c.save_step.ensures.held.0 c.save_step.ensures.held.1 refl refl refl
 
 pub returns-in-Saved-clause-given : goal.returns-in-Saved-clause-given
 returns-in-Saved-clause-given g c =
     let under = under-some (save_of (store_of c.args.self.now)) (sym c.is_saving.ensures ∙ c.if-not-is_saving.false) in
     let step = c.in_ok-written.ensures.step under.0 under.1 in
     stepped-gives c.args.self.now (record c.args.self.now { store = c.save_step.new.self }) c.args.slices under.0 _ under.1 (sym c.in-Saved.is ∙ step.0) step.1
-    (c.in_ok-written.ensures.used under.0 under.1) c.save_step.ensures.held.0 refl refl
+    (c.in_ok-written.ensures.used under.0 under.1) c.save_step.ensures.held.0 c.save_step.ensures.held.1 refl refl refl
 
 -- ---- what is kept
 
@@ -57,6 +57,7 @@ returns-in-Under-clause-ready g c = λ no_fault. record {
   sound = stays-sound _ _ c.in_ok-written.ensures.sound (λ e. cc);
   kept = λ tells. c.in_ok-written.ensures.kept tells;
   charts = charts-stay c.args.self.now (record c.args.self.now { store = c.save_step.new.self }) c.save_step.ensures.held.0 refl refl c.requires.ready.charts;
+  staged = still-stands (store_of c.args.self.now) c.save_step.new.self _ _ c.save_step.ensures.held.0 refl c.requires.ready.staged;
 }
 
 pub returns-in-Saved-clause-ready : goal.returns-in-Saved-clause-ready
@@ -64,4 +65,5 @@ returns-in-Saved-clause-ready g c = λ no_fault. record {
   sound = stays-sound _ _ c.in_ok-written.ensures.sound (λ e. cc);
   kept = λ tells. c.in_ok-written.ensures.kept tells;
   charts = charts-stay c.args.self.now (record c.args.self.now { store = c.save_step.new.self }) c.save_step.ensures.held.0 refl refl c.requires.ready.charts;
+  staged = still-stands (store_of c.args.self.now) c.save_step.new.self _ _ c.save_step.ensures.held.0 refl c.requires.ready.staged;
 }
