@@ -24,7 +24,7 @@ use Rattle.script_reader.specs.declared.fault.LineFault.{LineFault}
 use Rattle.script_reader.specs.declared.reply.Reply.{Reply}
 use Rattle.session_core.specs.Fetch.{AreFetched, Files}
 use Rattle.session_core.specs.Session.{GivesTurn, TakesTurn}
-use Rattle.session_core.specs.Model.{Model, model_with}
+use Rattle.session_core.specs.Model.{Model, model_with, with_staging}
 use Rattle.session_core.specs.Outside.{FromOutside}
 use Rattle.session_core.specs.Replied.{Turn}
 use Rattle.session_core.specs.Steps.{TakesAtMost, most_steps_at}
@@ -55,7 +55,8 @@ Rests = (outside : FromOutside) (model : Model) (event : Event) → (turn_of out
 -- a turn with one leaves what it leaves
 abbrev pub Follows : Type 0
 Follows = (outside : FromOutside) (model : Model) (event : Event) (command : Command) → (turn_of outside model event).command ≡ Some command
-    → (turn_of outside model event).model ≡ model_with model command (state_with model.state command)
+    → (turn_of outside model event).model
+    ≡ with_staging (model_with model command (state_with model.state command)) (turn_of outside model event).model.staging
 
 abbrev pub Speaks : Type 0
 Speaks = (reply : Reply) → 0 < length (bytes_of_reply reply)

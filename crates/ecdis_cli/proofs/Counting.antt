@@ -18,9 +18,9 @@ use Rattle.chart_model.specs.declared.state.Holding.{Holding}
 use Rattle.chart_store.specs.Loaded.{HoldingsByKey}
 use Rattle.script_reader.specs.declared.reply.Reply.{Reply}
 use Rattle.session_core.specs.Held.{chart_of}
-use Rattle.session_core.specs.Model.{Model, with_scenes}
+use Rattle.session_core.specs.Model.{Model}
 use Rattle.session_core.specs.Replied.{Turn}
-use Rattle.session_core.specs.Session.{GivesTurn}
+use Rattle.session_core.specs.Session.{GivesTurn, with_others}
 use Rattle.session_core.specs.Steps.{TakesAtMost}
 use Rattle.session_core.specs.declared.fault.TurnFault.{TurnFault}
 use Rattle.session_core.specs.declared.fault.TurnFault.TheVariants.{DeskFault, NoMemory}
@@ -140,4 +140,4 @@ counted-turn (Err DeskFault) before now turn most a b same x =
 counted-turn (Err NoMemory) before now turn most a b (inl same) x =
     counted-stopped most before.state now.state turn.model.state a b (ap (λ (m : Model). m.state) same) x
 counted-turn (Err NoMemory) before now turn most a b (inr is) x =
-    counted-told most before now (with_scenes turn.model now.scenes) a b is x
+    counted-told most before now (with_others turn.model now) a b is x

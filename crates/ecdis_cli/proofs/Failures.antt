@@ -11,6 +11,7 @@ use Rattle.script_reader.specs.declared.event.Event.{Event}
 use Rattle.script_reader.specs.declared.fault.LineFault.{LineFault}
 use Rattle.script_reader.specs.declared.reply.Reply.{Reply}
 use Rattle.script_reader.specs.declared.reply.Reply.TheVariants.{Info, Load, Cancel, Rollback, Drop, Cells, Draw, Route, Save, SaveStep, Saved, Refresh, Paint, Panel, ClosePanel, Make, Reissue, Refused}
+use Rattle.script_reader.specs.declared.reply.Reply.TheVariants as replies
 use Rattle.session_core.specs.Model.{Model}
 use Rattle.session_core.specs.Outside.{FromOutside}
 use Rattle.session_core.specs.Turn.{turn_of}
@@ -46,6 +47,10 @@ told-failure (Panel k blocks items) h = absurd (let e : false ≡ true = h in cc
 told-failure (ClosePanel k) h = absurd (let e : false ≡ true = h in cc)
 told-failure (Make key edition update records) h = absurd (let e : false ≡ true = h in cc)
 told-failure (Reissue key edition update) h = absurd (let e : false ≡ true = h in cc)
+told-failure (replies.Begin key total) h = absurd (let e : false ≡ true = h in cc)
+told-failure (replies.Step done total) h = absurd (let e : false ≡ true = h in cc)
+told-failure (replies.Commit key edition update) h = absurd (let e : false ≡ true = h in cc)
+told-failure (replies.Cover legs count lines) h = absurd (let e : false ≡ true = h in cc)
 
 -- a step says so only where a fetch failed
 failed-by : TellsFailure → (outside : FromOutside) (model : Model) (number : ℕ) (asked : Result (Option Event) LineFault)

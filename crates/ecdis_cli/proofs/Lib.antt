@@ -12,3 +12,4 @@ mod Answering
 mod Opening
 mod Tables
 mod Early
+mod Stops

@@ -12,13 +12,13 @@ use Rattle.chart_ports.proofs.Moments.{and_then, started, weaker}
 use Rattle.chart_store.specs.Images.{Place, Reading, StandFor}
 use Rattle.chart_store.specs.Opened.{ForeignHas}
 use Rattle.bank_pair.specs.Saving.{SaveValue, gate_of_save}
-use Rattle.chart_store.specs.Store.{LeavesBefore, LeavesReading, SaysAs, save_of, state_of, used_of}
+use Rattle.chart_store.specs.Store.{LeavesBefore, LeavesReading, SaysAs, count_of, save_of, state_of, used_of}
 use Rattle.chart_store.specs.declared.store.Store.{Store}
 use Rattle.panel_scenes.specs.Scene.{SceneValue, new_scenes}
 use Rattle.session_core.specs.Fetch.{Files}
 use Rattle.session_core.specs.Kept.{feature_count}
-use Rattle.session_core.specs.Model.{Model, Portrayal}
-use Rattle.session_core.specs.Session.{model_of, portrayal_of, progress_of, scenes_of, store_of}
+use Rattle.session_core.specs.Model.{Model, Portrayal, Staging}
+use Rattle.session_core.specs.Session.{model_of, portrayal_of, progress_of, scenes_of, staging_in, store_of}
 use Rattle.session_core.specs.declared.session.Session.{Session}
 use Rattle.chart_store.specs.declared.open_fault.OpenFault.{OpenFault}
 use Rattle.chart_store.specs.declared.open_fault.OpenFault.TheVariants as of_opening
@@ -83,7 +83,9 @@ pub opened-model : (portrayal : Portrayal) (panels : ℕ) (found : Result Readin
     → record {
       state = state;
       room = record { used = used; other = None };
+      count = 0;
       save = None;
+      staging = None;
       portrayal = portrayal;
       scenes = new_scenes panels;
     }
@@ -108,25 +110,27 @@ opened-within found opening state used bank a b c e f h k =
 -- the model of a session over a store with no save under way
 pub session-model : (session : Session) (store : Store) (portrayal : Portrayal) (scenes : List SceneValue)
     → store_of session ≡ store → portrayal_of session ≡ portrayal → scenes_of session ≡ scenes → save_of store ≡ None
-    → model_of session
+    → count_of store ≡ 0 → staging_in session ≡ None → model_of session
     ≡ record {
       state = state_of store;
       room = record { used = used_of store; other = None };
+      count = 0;
       save = None;
+      staging = None;
       portrayal = portrayal;
       scenes = scenes;
     }
-session-model session store portrayal scenes same drawn known idle =
-    ap (λ (s : Store). model_by s (save_of s) (portrayal_of session) (scenes_of session)) same
-    ∙ ap (λ (p : Portrayal). model_by store (save_of store) p (scenes_of session)) drawn
-    ∙ ap (λ (l : List SceneValue). model_by store (save_of store) portrayal l) known
-    ∙ ap (λ (s : Option SaveValue). model_by store s portrayal scenes) idle
+session-model session store portrayal scenes same drawn known idle fresh unstaged =
+    ap (λ (s : Store). model_by s (count_of s) (save_of s) (staging_in session) (portrayal_of session) (scenes_of session)) same
+    ∙ (λ i. model_by store (fresh i) (idle i) (unstaged i) (drawn i) (known i))
   where
-    model_by : Store → Option SaveValue → Portrayal → List SceneValue → Model
-    model_by store save portrayal scenes = record {
+    model_by : Store → ℕ → Option SaveValue → Option Staging → Portrayal → List SceneValue → Model
+    model_by store count save staging portrayal scenes = record {
       state = state_of store;
       room = record { used = used_of store; other = option_map (λ (s : SaveValue). gate_of_save s + 1) save };
+      count = count;
       save = option_map progress_of save;
+      staging = staging;
       portrayal = portrayal;
       scenes = scenes;
     }

@@ -35,12 +35,15 @@ abbrev pub outside_of : List ℕ → List ℕ → ℕ → ℕ → List PanelValu
 outside_of left said faults count panels =
     record { left = left; said = said; faults = faults; count = count; panels = panels }
 
--- what is read of files at the opening, as a model: no save is under way, and nothing is known of so many panels
+-- what is read of files at the opening, as a model: no command was accepted, no save is under way, nothing is staged, and
+-- nothing is known of so many panels
 abbrev pub model_at : Portrayal → ℕ → Reading → Model
 model_at portrayal panels opening = record {
   state = opening.state;
   room = record { used = opening.used; other = None };
+  count = 0;
   save = None;
+  staging = None;
   portrayal = portrayal;
   scenes = new_scenes panels;
 }

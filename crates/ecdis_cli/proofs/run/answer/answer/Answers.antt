@@ -56,6 +56,7 @@ returns-clause-ready g c =
         sound = ready.store.sound;
         kept = λ d. c.kept_stores_are_read.ensures.stays mid c.say.new.desk (store_of c.reply_to.new.session) (ready.store.kept d) (c.say.ensures.files d) (c.say.ensures.crash d);
         charts = ready.store.charts;
+        staged = ready.store.staged;
       };
       panels = ready.panels;
       counted = ready.counted;

@@ -8,6 +8,7 @@ use Rattle.chart_store.specs.Store.{IsKept, count_of, is_sound, state_of}
 use Rattle.chart_store.specs.declared.store.Store.{Store}
 use Rattle.panel_scenes.specs.Scene.{new_scene, new_scenes}
 use Rattle.session_core.specs.Session.{model_of, store_of}
+use Rattle.session_core.specs.Staging.{StandsOn}
 use Rattle.ecdis_cli.proofs.Panels.{values-many}
 use Rattle.ecdis_cli.proofs.Opening.{foreign-left, not-refused, ok-same, opened-model, opened-within}
 use Rattle.ecdis_cli.proofs.Opening.{opening-status, other-status, ran-opened, ran-unopened, refused-opening}
@@ -55,6 +56,7 @@ run_script-requires-clause-ready g c =
         sound = subst (λ (store : Store). IsTrue (is_sound store)) (sym same) c.in-Ok.ensures.sound;
         kept = λ d. subst (λ (store : Store). IsKept (g.D.Desk.contents c.open_store.new.desk) (g.D.Desk.may_leave c.open_store.new.desk) store) (sym same) (c.in-Ok.ensures.kept d);
         charts = c.in-Ok-new.ensures.charts;
+        staged = subst (StandsOn (state_of (store_of c.in-Ok-new.session))) (sym c.in-Ok-new.ensures.staging) tt;
       };
       panels = sym (ap length c.in-Ok-new.ensures.scenes ∙ length-replicate c.len-panels.result new_scene ∙ c.len-panels.ensures);
       counted = omega (arith, c.in-Ok.ensures.count, ap count_of same);
@@ -66,7 +68,7 @@ returns-clause-ran g c = λ s d opening read.
     let same : store_of c.in-Ok-new.session ≡ c.in-Ok.store = c.in-Ok-new.ensures.store in
     let model : model_of c.in-Ok-new.session ≡ model_at _ _ opening
     = session-model c.in-Ok-new.session _ _ _ same c.in-Ok-new.ensures.portrayal
-    (c.in-Ok-new.ensures.scenes ∙ ap new_scenes c.len-panels.ensures) c.in-Ok.ensures.idle
+    (c.in-Ok-new.ensures.scenes ∙ ap new_scenes c.len-panels.ensures) c.in-Ok.ensures.idle c.in-Ok.ensures.count c.in-Ok-new.ensures.staging
     ∙ opened-model _ _ _ opening _ _ read (c.in-Ok.ensures.state d) in
     let held : state_of c.in-Ok.store ≡ opening.state
     = ap (λ (r : Reading). r.state) (ok-same _ opening (sym (c.in-Ok.ensures.state d) ∙ read)) in

@@ -1,6 +1,6 @@
 -- The run goes on by the bytes that were pulled.
 use Rattle.std.proofs.Common.{◌≡◌, ◌≤◌, ℕ, [], length-take-le, arith, sym, ap, subst, ◌∙◌, inl}
-use Rattle.std.specs.Prelude.{Ok}
+use Rattle.std.specs.Prelude.{Ok, Err}
 use Rattle.chart_ports.specs.Moments.{LeavesOnly, MayBeLeft}
 use Rattle.session_core.specs.Session.{model_of}
 use Rattle.session_core.specs.declared.session.Session.{Session}
@@ -10,6 +10,7 @@ use Rattle.ecdis_cli.specs.Standing.{IsReadyFor, Standing, Stands, at_start}
 use Rattle.ecdis_cli.proofs.Devices.{keeps-none, keeps-then}
 use Rattle.ecdis_cli.proofs.Panels.{known-begun}
 use Rattle.ecdis_cli.proofs.ScriptSteps.{Advanced-start}
+use Rattle.ecdis_cli.proofs.Stops.{desk-failed, not-done, not-early, not-foreign, not-script-fault, not-script-long, rose-since}
 use Rattle.ecdis_cli.proofs.Taking.{Where, quiet, rose-fewer}
 use Rattle.ecdis_cli.proofs.Runs.{Underway-start, Underway-next, Underway-fault, Underway-long, Underway-halted, Underway-done, Underway-cut, pull-part, pull-whole, length-pull, given-more, read-within}
 use Rattle.ecdis_cli.proofs.run.rounds.run_script.Goals as goal
@@ -96,6 +97,39 @@ returns-then-count-room-clause-ran g c = λ s d.
 pub returns-then-count-room-clause-script_over : goal.returns-then-count-room-clause-script_over
 returns-then-count-room-clause-script_over g c = λ s e.
     omega (arith, length-pull c.in-Ok.count c.pull.new.buf _ _ (omega (arith, c.in-Ok.ensures.within)) (c.in-Ok.ensures.bytes s), c.pulls.invariant.counted s)
+
+pub returns-in-Err-take_all-clause-done : goal.returns-in-Err-take_all-clause-done
+returns-in-Err-take_all-clause-done g c = λ e. absurd (not-done c.in-Err-take_all.stop c.after-in-Err-take_all.result c.after-in-Err-take_all.ensures e)
+
+pub returns-in-Err-take_all-clause-read : goal.returns-in-Err-take_all-clause-read
+returns-in-Err-take_all-clause-read g c = λ s e. absurd (not-done c.in-Err-take_all.stop c.after-in-Err-take_all.result c.after-in-Err-take_all.ensures e)
+
+pub returns-in-Err-take_all-clause-short : goal.returns-in-Err-take_all-clause-short
+returns-in-Err-take_all-clause-short g c = λ s e. absurd (not-done c.in-Err-take_all.stop c.after-in-Err-take_all.result c.after-in-Err-take_all.ensures e)
+
+pub returns-in-Err-take_all-clause-begun : goal.returns-in-Err-take_all-clause-begun
+returns-in-Err-take_all-clause-begun g c = not-early c.in-Err-take_all.stop c.after-in-Err-take_all.result c.after-in-Err-take_all.ensures
+
+pub returns-in-Err-take_all-clause-opened : goal.returns-in-Err-take_all-clause-opened
+returns-in-Err-take_all-clause-opened g c = λ bank at e. not-foreign c.in-Err-take_all.stop c.after-in-Err-take_all.result bank at c.after-in-Err-take_all.ensures e
+
+pub returns-in-Err-take_all-clause-script_failed : goal.returns-in-Err-take_all-clause-script_failed
+returns-in-Err-take_all-clause-script_failed g c = λ e. absurd (not-script-fault c.in-Err-take_all.stop c.after-in-Err-take_all.result c.after-in-Err-take_all.ensures e)
+
+pub returns-in-Err-take_all-clause-script_long : goal.returns-in-Err-take_all-clause-script_long
+returns-in-Err-take_all-clause-script_long g c = λ e. absurd (not-script-long c.in-Err-take_all.stop c.after-in-Err-take_all.result c.after-in-Err-take_all.ensures e)
+
+pub returns-in-Err-take_all-clause-script_over : goal.returns-in-Err-take_all-clause-script_over
+returns-in-Err-take_all-clause-script_over g c = λ s e. absurd (not-script-long c.in-Err-take_all.stop c.after-in-Err-take_all.result c.after-in-Err-take_all.ensures e)
+
+pub returns-in-Err-take_all-clause-desk_failed : goal.returns-in-Err-take_all-clause-desk_failed
+returns-in-Err-take_all-clause-desk_failed g c = λ e.
+    rose-since _ _ _ c.pulls.invariant.keeps.desk_later (c.take_all.ensures.desk_failed
+    (c.in-Err-take_all.is ∙ ap Err (desk-failed c.in-Err-take_all.stop c.after-in-Err-take_all.result c.after-in-Err-take_all.ensures e)))
+
+pub returns-then-count-room-clause-script_long : goal.returns-then-count-room-clause-script_long
+returns-then-count-room-clause-script_long g c = λ e.
+    rose-fewer _ _ _ _ (omega arith) (given-more _ c.in-Ok.count _ _ _ c.pulls.invariant.given c.in-Ok.ensures.given)
 
 pub pulls-preserved : goal.pulls-preserved
 pulls-preserved g c = record {
