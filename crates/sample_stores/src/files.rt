@@ -44,6 +44,14 @@ d\x01\0\0\0\x01\x02*\0\x01\0\x01\x1e\
 &\x02\x01\0\0\0\x01\0\x1e\
 n\x01\0\0\0\xff\xff\xff\x1e";
 
+/// The parameters and the point feature without its node, of 132 bytes.
+pub const LOOSE: &[u8] = b"00049 D   0900034   23 4DSPM15000\x1e\
+\x10'\0\0\x01\x01\x80\x96\x98\0\n\0\0\0\x1e\
+00083 D   0900052   23 4FRID13000FOID09013FSPT09022\x1e\
+d\x01\0\0\0\x01\x02*\0\x01\0\x01\x1e\
+&\x02\x01\0\0\0\x01\0\x1e\
+n\x01\0\0\0\xff\xff\xff\x1e";
+
 /// General information of updates, of 63 bytes: the first one, the second one, and one that cancels the cell.
 pub const UPDATE: &[u8] = b"00063 D   0900034   23 4DSID29000\x1e\
 AA5TEST1.001\x1f1\x1f1\x1f20240201\x02&\x02\x1e";

@@ -5,7 +5,8 @@
 //! for them; this crate is tests alone, and is proved once.
 //!
 //! A command is a few records of a small cell (`files`), and a bank is a few pieces (`banks`). What is answered and
-//! what is held is compared as a text (`texts`), on a desk in memory or in a folder (`stores`). A test is a table of
+//! what is held is compared as a text (`texts`), on a desk in memory or in a folder (`stores`), and a
+//! file is taken over in steps, with other work between them (`runs`). A test is a table of
 //! commands, moments or bytes, each with what has to come of it.
 #![tactic(auto)]
 
@@ -13,6 +14,8 @@
 mod banks;
 #[cfg(test)]
 mod files;
+#[cfg(test)]
+mod runs;
 #[cfg(test)]
 mod stores;
 #[cfg(test)]

@@ -9,3 +9,4 @@ mod foreign;
 mod memory;
 mod refusals;
 mod script;
+mod staged;

@@ -45,9 +45,16 @@ pub fn submitted(
 ) -> Result<String, AllocError> {
     match answer {
         Ok(done) => accepted(alloc, done),
-        Err(SubmitFault::Refused(refusal)) => format!(in alloc; "{refusal:?}"),
-        Err(SubmitFault::DeskFault) => String::from_str(alloc, "DeskFault"),
-        Err(SubmitFault::NoMemory) => String::from_str(alloc, "NoMemory"),
+        Err(fault) => refused(alloc, fault),
+    }
+}
+
+/// Why a store did not accept.
+pub fn refused(alloc: Global, fault: &SubmitFault) -> Result<String, AllocError> {
+    match fault {
+        SubmitFault::Refused(refusal) => format!(in alloc; "{refusal:?}"),
+        SubmitFault::DeskFault => String::from_str(alloc, "DeskFault"),
+        SubmitFault::NoMemory => String::from_str(alloc, "NoMemory"),
     }
 }
 

@@ -34,7 +34,7 @@ const GIVEN: Foid = Foid {
 };
 
 /// Refusals, and the replies to them.
-const REFUSALS: [(LineRefusal, &[u8]); 40] = [
+const REFUSALS: [(LineRefusal, &[u8]); 41] = [
     (
         LineRefusal::RecordLong(FEATURE, 100_004),
         b"no 64 100 16 100004\n",
@@ -48,6 +48,7 @@ const REFUSALS: [(LineRefusal, &[u8]); 40] = [
         b"no 70 18446744073709551615\n",
     ),
     (LineRefusal::ShelfFault, b"no 72\n"),
+    (LineRefusal::Overtaken(38, 39), b"no 75 38 39\n"),
     (LineRefusal::NothingBegun, b"no 76\n"),
     (LineRefusal::NoPanel(36), b"no 77 36\n"),
     (LineRefusal::PanelFault(37), b"no 78 37\n"),
