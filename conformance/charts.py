@@ -10,7 +10,11 @@ FILES = os.path.join(HERE, "cases", "cells_and_updates", "files")
 WORDS = ["--catalogue", "catalogue", "--table", "table"]
 CATALOGUE = b"O 42 DEPARE\nO 129 SOUNDG\nO 159 WRECKS\nA 87 DRVAL1\nA 88 DRVAL2\nA 179 VALSOU\n"
 TABLE = b"DEPARE A 1 - AC(DEPVS)\nWRECKS P 4 - SY(WRECKS01)\nSOUNDG P 6 - -\n"
+PASSAGE = b"box 50 20\n-100 450\n500 450\n1100 450\n"
 CELLS = 6
+# The words of replies that have a list, whose length is their last word, and of those that tell an accepted command.
+LISTS = (b"cells", b"draw", b"route", b"cover")
+ACCEPTED = (b"load", b"commit", b"cancel", b"make", b"reissue", b"rollback", b"drop")
 # The bytes of another program.
 OTHER = b"SQLite format 3\x00" + bytes(84)
 # A record that says nothing of a chart, so that what is held of a cell takes more than one slice of a save.
@@ -59,6 +63,7 @@ def make_room(folder, script=b""):
         write(folder, "cancel%d" % cell, changed(sample["cancel"], b"AA5TEST1.", key))
     write(folder, "catalogue", CATALOGUE)
     write(folder, "table", TABLE)
+    write(folder, "passage", PASSAGE)
     write(folder, "script", script)
 
 
@@ -100,20 +105,21 @@ def replies(output):
     found, rest = [], output.splitlines(keepends=True)
     while rest:
         words = rest[0].split()
-        count = 1 + (int(words[2]) if words[:2] == [b"ok", b"cells"] else 0)
+        count = 1 + (int(words[-1]) if words[0] == b"ok" and words[1] in LISTS else 0)
         found.append(b"".join(rest[:count]))
         rest = rest[count:]
     return found
 
 
 def is_accepted(reply):
-    return reply.startswith((b"ok load ", b"ok cancel ", b"ok rollback ", b"ok drop "))
+    return reply.startswith(tuple(b"ok %s " % word for word in ACCEPTED))
 
 
 class Whole:
-    """What a script says when it runs to its end, and what is held after each of its accepted commands."""
+    """What a script says when it runs to its end, and what is held after each of its accepted commands, as some lines
+    tell it."""
 
-    def __init__(self, path, folder, script):
+    def __init__(self, path, folder, script, watch=("cells",)):
         make_room(folder)
         ended = run(path, folder, script)
         self.status, self.errors, self.output = ended.returncode, ended.stderr, ended.stdout
@@ -122,11 +128,15 @@ class Whole:
         self.replied = len(said)
         accepted = [place for place, reply in enumerate(said) if is_accepted(reply)]
         self.starts = [sum(map(len, said[:place])) for place in accepted]
-        # The lists, from a run that asks for one behind each line that has a reply.
+        # What is held, from a run that asks for it at the start and behind each line that has a reply.
         make_room(folder + "-watched")
-        watched = [line for each in script for line in ((each,) if each.startswith("#") else (each, "cells"))]
-        held = replies(run(path, folder + "-watched", watched).stdout)[1::2]
-        self.lists = [b"ok cells 0\n"] + [held[place] for place in accepted]
+        watched = list(watch)
+        for line in script:
+            watched += [line] if line.startswith("#") else [line, *watch]
+        held = [b""] + replies(run(path, folder + "-watched", watched).stdout)
+        size = 1 + len(watch)
+        lists = [b"".join(held[at + 1:at + size]) for at in range(0, len(held), size)]
+        self.lists = lists[:1] + [lists[place + 1] for place in accepted]
 
     def faults(self, accepted):
         """What is wrong with the whole run, of whose commands so many have to be accepted: none where nothing is."""
