@@ -99,6 +99,42 @@ def area_cell(count, wrecks, soundings, edition=1):
     return descriptive_record() + b"".join(records)
 
 
+def covered_cell(areas, points):
+    """A base cell of so many areas of coverage in a row, each 100,000 units wide, with so many points in its ring: for
+    each a connected node, a closed edge from that node to itself, and a feature."""
+    records = []
+
+    def add(*fields):
+        number = struct.pack("<H", (len(records) + 1) % 65536)
+        records.append(record(b"D", ((b"0001", number + FIELD),) + fields))
+
+    add((b"DSID", struct.pack("<BIBB", 10, 1, 1, 5) + b"CV%06d.000" % areas + UNIT + b"1" + UNIT + b"0" + UNIT
+         + b"20240101" * 2 + b"03.1" + b"\x01" + UNIT + b"2.0" + UNIT + struct.pack("<BH", 1, 550) + UNIT + FIELD),
+        (b"DSSI", struct.pack("<BBB8I", 2, 1, 0, 0, 0, areas, 0, 0, areas, areas, 0) + FIELD))
+    add((b"DSPM", struct.pack("<BIBBBIBBBBII", 20, 1, 2, 1, 1, 10000, 1, 1, 1, 1, 10_000_000, 10) + UNIT + FIELD))
+    side = points // 2
+    for i in range(1, areas + 1):
+        steps = [100_000 * i + 100_000 * step // side for step in range(side + 1)]
+        # Along the bottom and back along the top, up and down by a little at each second point.
+        ring = [(step % 2 * 50, x) for step, x in enumerate(steps)]
+        ring += [(50_000 - y, x) for y, x in reversed(ring)]
+        ends = b"".join(name(120, i) + bytes((255, 255, topi, 255)) for topi in (1, 2))
+        line = b"".join(struct.pack("<ii", y, x) for y, x in ring[1:])
+        add((b"VRID", struct.pack("<BIHB", 120, i, 1, 1) + FIELD), (b"SG2D", struct.pack("<ii", *ring[0]) + FIELD))
+        add((b"VRID", struct.pack("<BIHB", 130, i, 1, 1) + FIELD), (b"VRPT", ends + FIELD), (b"SG2D", line + FIELD))
+    for i in range(1, areas + 1):
+        add((b"FRID", struct.pack("<BIBBHHB", 100, i, 3, 1, 302, 1, 1) + FIELD),
+            (b"FOID", struct.pack("<HIH", 550, i, 1) + FIELD),
+            (b"ATTF", struct.pack("<H", 18) + b"1" + UNIT + FIELD),
+            (b"FSPT", name(130, i) + bytes((1, 1, 255)) + FIELD))
+    return descriptive_record() + b"".join(records)
+
+
+def coverage_passage(points):
+    """A route of so many points through the row of areas of coverage, ten or eleven legs an area."""
+    return b"box 100 100\n" + b"".join(b"%d 25000\n" % (100_000 + 9_900 * at + 5_000) for at in range(points))
+
+
 def passage(points):
     """A route of so many points through the row of 13,000 areas, with a box of 100 to each side."""
     return b"box 100 100\n" + b"".join(b"%d 450\n" % (13_000 * at) for at in range(1, points + 1))
