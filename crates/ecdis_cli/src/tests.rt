@@ -304,7 +304,7 @@ const WHOLE: Case<'static> = Case {
 };
 
 /// The status with which a case ends, and what is said.
-static FAILURES: [(Case<'static>, Status, &[u8]); 11] = [
+static FAILURES: [(Case<'static>, Status, &[u8]); 12] = [
     // The shelf fails at the catalogue, and at the table.
     (Case { fetch: 1, ..WHOLE }, Status::ShelfFault, b""),
     (Case { fetch: 2, ..WHOLE }, Status::ShelfFault, b""),
@@ -318,6 +318,16 @@ static FAILURES: [(Case<'static>, Status, &[u8]); 11] = [
         Case { fetch: 4, ..WHOLE },
         Status::Done,
         b"ok info AA5TEST1 1 0 1\nno 72\nno 70 3\n",
+    ),
+    // The file is there when it is asked for again.
+    (
+        Case {
+            script: b"info AA5TEST1.000\ninfo AA5TEST1.000\n",
+            fetch: 3,
+            ..WHOLE
+        },
+        Status::Done,
+        b"no 72\nok info AA5TEST1 1 0 1\n",
     ),
     // The source fails at the start, and, a byte a pull, in the middle of the second line.
     (Case { pull: 1, ..WHOLE }, Status::ScriptFault, b""),
