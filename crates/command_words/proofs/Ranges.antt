@@ -1,7 +1,7 @@
 -- What is said is in its range.
-use Rattle.std.proofs.Common.{◌≡◌, ℕ, ◌≤◌, ℤ, pos, ◌≤ℤ◌, Bool, List, [], ◌∷◌, Option, Some, None, refl, ap, subst}
+use Rattle.std.proofs.Common.{◌≡◌, ℕ, ◌≤◌, ℤ, pos, ◌≤ℤ◌, Bool, List, [], ◌∷◌, Option, Some, None, refl, ap, subst, sym}
 use Rattle.std.proofs.Common.{arith}
-use Rattle.std.specs.Prelude.{Result, Ok, Err, IfOk, option_map, codes}
+use Rattle.std.specs.Prelude.{Result, Ok, Err, IfOk, IfSome, option_map, codes}
 use Rattle.common_lemmas.proofs.Choices.{some_is}
 use Rattle.command_words.specs.declared.fault.WordsFault.{WordsFault}
 use Rattle.command_words.specs.declared.reading.Words.{Words}
@@ -12,10 +12,11 @@ use Rattle.command_words.specs.Numbers.{number_from_to}
 use Rattle.command_words.specs.Command.{ecdis}
 use Rattle.command_words.specs.Settings.{AreInRange, IsCentimetres, IsScale, centimetres_of, defaults, is_set}
 use Rattle.command_words.specs.Settings.{scale_of, value_or}
-use Rattle.command_words.specs.Reading.{WordsValue, depth_in, ◌>>=◌, words_in, value_of, scale_in, settings_in}
+use Rattle.command_words.specs.Reading.{WordsValue, day_in, depth_in, ◌>>=◌, words_in, value_of, scale_in, settings_in}
 use Rattle.command_words.specs.Reading.{shades_in, where_none, words_of}
 use Rattle.command_words.specs.Options.{with_settings}
 use Rattle.command_words.proofs.Digits.{from_to_found}
+use Rattle.date_display.specs.Days.{DateValue}
 
 within : (low high n : ℕ) → low ≤ n → n ≤ high → (pos low ≤ℤ pos n) × (pos n ≤ℤ pos high)
 within low high n lower upper = (grind arith, grind arith)
@@ -77,18 +78,23 @@ in_range found settings e = all_in_range (depth_in defaults.safety_contour (code
     (λ n h. said_scale n (first_of (codes "scale") found) h)
     e
 
+pub settings_in_range : (found : List Row) (settings : Option Settings) → settings ≡ settings_in found → IfSome settings AreInRange
+settings_in_range found None e = tt
+settings_in_range found (Some settings) e = in_range found settings (sym e)
+
 said_by : (kinds : Kinds) (o : Option WordsValue) (said : WordsValue) → where_none kinds o ≡ Some said → o ≡ Some said
 said_by [] o said e = e
 said_by (kind ∷ more) o said e = absurd cc
 
-settings_kept : (catalogue table : Option (List ℕ)) (settings : Option Settings) (said : WordsValue)
-    → (catalogue >>= (λ c. table >>= (λ t. settings >>= (λ s. Some (with_settings c t s))))) ≡ Some said
+settings_kept : (catalogue table : Option (List ℕ)) (settings : Option Settings) (day : Option (Option DateValue)) (said : WordsValue)
+    → (catalogue >>= (λ c. table >>= (λ t. settings >>= (λ s. day >>= (λ d. Some (record (with_settings c t s) { day = d })))))) ≡ Some said
     → settings ≡ Some said.settings
-settings_kept None table settings said e = absurd cc
-settings_kept (Some c) None settings said e = absurd cc
-settings_kept (Some c) (Some t) None said e = absurd cc
-settings_kept (Some c) (Some t) (Some s) said e = ap (λ (value : WordsValue). Some value.settings)
-    (some_is (with_settings c t s) said e)
+settings_kept None table settings day said e = absurd cc
+settings_kept (Some c) None settings day said e = absurd cc
+settings_kept (Some c) (Some t) None day said e = absurd cc
+settings_kept (Some c) (Some t) (Some s) None said e = absurd cc
+settings_kept (Some c) (Some t) (Some s) (Some d) said e = ap (λ (value : WordsValue). Some value.settings)
+    (some_is (record (with_settings c t s) { day = d }) said e)
 
 pub said_in_range : (words : List (List ℕ)) (said : WordsValue) → words_of words ≡ Some said
     → AreInRange said.settings
@@ -96,7 +102,7 @@ unfolding words_of words_in
 said_in_range words said e =
     let found = matches_of ecdis words in
     let whole = said_by (fault_of ecdis words) (words_in found) said e in
-    in_range found said.settings (settings_kept (first_of (codes "catalogue") found) (first_of (codes "table") found) (settings_in found) said whole)
+    in_range found said.settings (settings_kept (first_of (codes "catalogue") found) (first_of (codes "table") found) (settings_in found) (day_in found) said whole)
 
 pub read_in_range : (words : List (List ℕ)) (result : Result Words WordsFault)
     → IfOk result (λ read. words_of words ≡ Some (value_of read))

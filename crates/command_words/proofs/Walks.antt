@@ -4,8 +4,10 @@ use Rattle.std.specs.Prelude.{codes, option_map}
 use Rattle.clap.proofs.OnLiterals.{clap_on_literals}
 use Rattle.chart_model.specs.declared.settings.Settings.{Settings}
 use Rattle.command_words.specs.Settings.{defaults, centimetres_of, scale_of, shades_of}
-use Rattle.command_words.specs.Reading.{WordsValue, ◌>>=◌, words_of, words_in, settings_in}
-use Rattle.command_words.specs.Options.{words_naming, with_settings, OptionSets}
+use Rattle.command_words.specs.Reading.{WordsValue, ◌>>=◌, day_of, words_of, words_in, settings_in}
+use Rattle.command_words.specs.Options.{words_naming, with_day, with_settings, OptionSets}
+use Rattle.date_display.specs.Texts.{date_in}
+use Rattle.date_display.specs.Days.{DateValue}
 
 -- one value that may be missing decides on the settings, and these on the whole
 abbrev whole : {A : Type 0} → List ℕ → List ℕ → Option A → (A → Settings) → Option WordsValue
@@ -56,6 +58,19 @@ pub scale_set : OptionSets (codes "--scale=") scale_of (λ scale. record default
 unfolding clap_on_literals words_of words_in settings_in
 scale_set program catalogue table text = one_value catalogue table (scale_of text)
     (λ scale. record defaults { scale = scale })
+
+-- a day that may be missing decides on the whole
+one_day : (catalogue table : List ℕ) (day : Option DateValue)
+    → (option_map (λ date. Some date) day >>= (λ said. Some (record (with_settings catalogue table defaults) { day = said })))
+    ≡ option_map (λ date. with_day catalogue table date) day
+one_day catalogue table None = refl
+one_day catalogue table (Some date) = refl
+
+pub day_set : (program catalogue table text : List ℕ)
+    → words_of (words_naming program catalogue table ((codes "--day=" ++ text) ∷ []))
+    ≡ option_map (λ day. with_day catalogue table day) (date_in text)
+unfolding clap_on_literals words_of words_in settings_in
+day_set program catalogue table text = one_day catalogue table (date_in text)
 
 -- ---- words that say nothing
 

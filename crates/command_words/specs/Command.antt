@@ -29,7 +29,7 @@ depths = optional (codes "safety-contour") ∷ optional (codes "safety-depth")
     ∷ optional (codes "shallow") ∷ optional (codes "deep") ∷ []
 
 abbrev pub looks : List Rule
-looks = optional (codes "shades") ∷ flag (codes "pattern") ∷ optional (codes "scale") ∷ []
+looks = optional (codes "shades") ∷ flag (codes "pattern") ∷ optional (codes "scale") ∷ optional (codes "day") ∷ []
 
 -- a command with these further arguments
 abbrev pub with_rules : App → List Rule → App

@@ -1,24 +1,28 @@
 -- What the words of the command line say.
 use Rattle.std.specs.Prelude.{ℕ, ℤ, List, [], ◌∷◌, codes, Option, Some, None, string_bytes}
-use Rattle.std.specs.Option.{option_and_then}
+use Rattle.std.specs.Option.{option_and_then, option_map}
 use Rattle.clap.specs.Words.{Kinds, Row, fault_of, first_of, matches_of}
 use Rattle.chart_model.specs.declared.settings.Settings.{Settings}
 use Rattle.chart_model.specs.declared.settings.Shades.{Shades}
 use Rattle.command_words.specs.Command.{ecdis}
 use Rattle.command_words.specs.Settings.{centimetres_of, defaults, is_set, value_or, scale_of, shades_of}
 use Rattle.command_words.specs.declared.reading.Words.{Words}
+use Rattle.date_display.specs.Days.{DateValue, date_of}
+use Rattle.date_display.specs.Texts.{date_in}
 
--- the names of the two files as bytes, and the settings
+-- the names of the two files as bytes, the settings, and the day, where one is named
 pub record WordsValue : Type 0 where
   pub catalogue : List ℕ
   pub table : List ℕ
   pub settings : Settings
+  pub day : Option DateValue
 
 abbrev pub value_of : Words → WordsValue
 value_of words = record {
   catalogue = string_bytes words.catalogue;
   table = string_bytes words.table;
   settings = words.settings;
+  day = option_map date_of words.day;
 }
 
 infixl 10 ◌>>=◌
@@ -34,6 +38,13 @@ shades_in found = value_or defaults.shades shades_of (first_of (codes "shades") 
 
 abbrev pub scale_in : List Row → Option ℕ
 scale_in found = value_or defaults.scale scale_of (first_of (codes "scale") found)
+
+-- the day in what `clap` found, none where the option isn't there; a text that is no day says nothing
+abbrev pub day_of : List ℕ → Option (Option DateValue)
+day_of text = option_map (λ date. Some date) (date_in text)
+
+abbrev pub day_in : List Row → Option (Option DateValue)
+day_in found = value_or None day_of (first_of (codes "day") found)
 
 -- the settings, where each value is in its range
 unfoldable pub settings_in : List Row → Option Settings
@@ -54,13 +65,14 @@ settings_in found = do
     scale = scale;
   })
 
--- the two names and the settings
+-- the two names, the settings and the day
 unfoldable pub words_in : List Row → Option WordsValue
 words_in found = do
   catalogue ← first_of (codes "catalogue") found
   table ← first_of (codes "table") found
   settings ← settings_in found
-  Some (record { catalogue = catalogue; table = table; settings = settings })
+  day ← day_in found
+  Some (record { catalogue = catalogue; table = table; settings = settings; day = day })
 
 -- what is found where nothing is wrong
 abbrev pub where_none : Kinds → Option WordsValue → Option WordsValue

@@ -54,14 +54,15 @@ fn with_depths<'a>(alloc: Global, command: Command<'a>) -> Result<Command<'a>, A
         .arg(optional(alloc, "deep"))
 }
 
-/// How the mariner wants the chart to look.
+/// How the mariner wants the chart to look, and on which day.
 fn with_looks<'a>(alloc: Global, command: Command<'a>) -> Result<Command<'a>, AllocError>
     ensures { IfOk result (λ r. app_of r ≡ with_rules (app_of command.entry) looks) }
 {
     command
         .arg(optional(alloc, "shades"))?
         .arg(flag(alloc, "pattern"))?
-        .arg(optional(alloc, "scale"))
+        .arg(optional(alloc, "scale"))?
+        .arg(optional(alloc, "day"))
 }
 
 /// The command of the program.

@@ -3,11 +3,15 @@
 //! What the definitions make of words goes through `clap`'s own. The laws say in few words what a mariner may rely on.
 
 ghost use Rattle.std.specs.Prelude.{◌≡◌, ◌≢◌, ◌↔◌, ◌≤◌, ◌++◌, ◌∷◌, [], List, ℕ, Some, None, codes};
-ghost use Rattle.std.specs.Prelude.{slice_index, true};
+ghost use Rattle.std.specs.Prelude.{slice_index, true, option_map};
 ghost use Rattle.command_words.specs.Numbers.{SpellsNumber, number_from_to};
 ghost use Rattle.command_words.specs.Settings.{AreInRange, centimetres_of, defaults, scale_of, shades_of};
 ghost use Rattle.command_words.specs.Reading.{WordsValue, words_of};
-ghost use Rattle.command_words.specs.Options.{words_naming, words_naming_apart, with_settings, OptionSets};
+ghost use Rattle.command_words.specs.Options.{words_naming, words_naming_apart, with_day, with_settings, OptionSets};
+ghost use Rattle.date_display.specs.Texts.{SpellsDay, date_in};
+ghost use Rattle.date_display.specs.Days.{DateValue};
+
+use date_display::dates_are_spelled;
 
 /// The function that definitions cite gives the number that a text spells, where it is in the range.
 pub fn numbers_are_spelled()
@@ -47,6 +51,19 @@ pub fn looks_are_set()
         ≡ Some (with_settings catalogue table (record defaults { pattern = true })) }
     ensures scale { OptionSets (codes "--scale=") scale_of (λ scale. record defaults { scale = scale }) }
 {}
+
+/// The option of the day gives the day that its text spells, and sets nothing else. Where the text is no day of the
+/// calendar in eight digits the words say nothing.
+pub fn days_are_set()
+    ensures spelled { (program catalogue table text : List ℕ) (day : DateValue) → SpellsDay text day →
+        words_of (words_naming program catalogue table ((codes "--day=" ++ text) ∷ []))
+        ≡ Some (with_day catalogue table day) }
+    ensures function { (program catalogue table text : List ℕ) →
+        words_of (words_naming program catalogue table ((codes "--day=" ++ text) ∷ []))
+        ≡ option_map (λ day. with_day catalogue table day) (date_in text) }
+{
+    dates_are_spelled();
+}
 
 /// Words that don't name both files, and words that ask for more than there is, say nothing.
 pub fn other_words_are_refused()

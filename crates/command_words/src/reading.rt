@@ -10,9 +10,10 @@ ghost use Rattle.command_words.specs.Reading.{words_in, value_of, words_of};
 
 use crate::command::ecdis;
 use crate::fault::WordsFault;
-use crate::values::{settings, text_of};
+use crate::values::{day, settings, text_of};
 use chart_model::Settings;
 use clap::ArgMatches;
+use date_display::Day;
 use std::alloc::Global;
 
 /// What the words of the command line say.
@@ -24,6 +25,8 @@ pub struct Words {
     pub table: String,
     /// What the mariner sets.
     pub settings: Settings,
+    /// The day of which charts are drawn. Without one the whole charts are.
+    pub day: Option<Day>,
 }
 
 /// What the matches say, where each value is in its range.
@@ -35,10 +38,12 @@ fn words_in(alloc: Global, matches: &ArgMatches) -> Result<Words, WordsFault>
     let catalogue = text_of(matches, "catalogue").ok_or(WordsFault::Refused)?;
     let table = text_of(matches, "table").ok_or(WordsFault::Refused)?;
     let settings = settings(matches).ok_or(WordsFault::Refused)?;
+    let day = day(matches).ok_or(WordsFault::Refused)?;
     Ok(Words {
         catalogue: String::from_str(alloc, catalogue)?,
         table: String::from_str(alloc, table)?,
         settings,
+        day,
     })
 }
 
@@ -47,7 +52,7 @@ fn words_in(alloc: Global, matches: &ArgMatches) -> Result<Words, WordsFault>
 /// # Errors
 ///
 /// `Refused` where the command doesn't take the words, as `clap` reads a simple command, or where a value
-/// is out of its range. `NoMemory` may come at any words.
+/// is out of its range or no day. `NoMemory` may come at any words.
 pub fn read_words(alloc: Global, words: &[String]) -> Result<Words, WordsFault>
     ensures said { IfOk result (λ read. words_of (map string_bytes words.now) ≡ Some (value_of read)) }
     ensures refused { result ≡ Err Refused → words_of (map string_bytes words.now) ≡ None }

@@ -8,7 +8,7 @@ use chart_model::{Settings, Shades};
 use std::alloc::{AllocError, Global};
 use std::test::Fail;
 
-/// The settings in a few words.
+/// The settings and the day in a few words.
 fn shown(alloc: Global, words: &Words) -> Result<String, AllocError> {
     let settings: &Settings = &words.settings;
     let shades = match settings.shades {
@@ -16,7 +16,7 @@ fn shown(alloc: Global, words: &Words) -> Result<String, AllocError> {
         Shades::Four => "four",
     };
     let pattern = if settings.pattern { "pattern" } else { "plain" };
-    format!(in alloc;
+    let mut text = format!(in alloc;
         "{} {} {} {} {} {} {shades} {pattern} {}",
         words.catalogue,
         words.table,
@@ -25,7 +25,12 @@ fn shown(alloc: Global, words: &Words) -> Result<String, AllocError> {
         settings.shallow,
         settings.deep,
         settings.scale
-    )
+    )?;
+    if let Some(day) = words.day {
+        let day = format!(in alloc; " on {}-{}-{}", day.year, day.month, day.day)?;
+        text.push_str(day.as_str())?;
+    }
+    Ok(text)
 }
 
 /// What the words of a line say, which single spaces part.
@@ -108,9 +113,48 @@ static OPTIONS: [(&str, &str); 49] = [
     ("-- --pattern", "refused"),
 ];
 
+/// The same of the option of the day, whose rows are apart from those of numbers.
+static DAYS: [(&str, &str); 13] = [
+    (
+        "--day 20240701",
+        "c t 3000 3000 200 3000 four plain 1 on 2024-7-1",
+    ),
+    (
+        "--day=00010101",
+        "c t 3000 3000 200 3000 four plain 1 on 1-1-1",
+    ),
+    (
+        "--day 99991231",
+        "c t 3000 3000 200 3000 four plain 1 on 9999-12-31",
+    ),
+    (
+        "--day 20240229",
+        "c t 3000 3000 200 3000 four plain 1 on 2024-2-29",
+    ),
+    ("--day 20230229", "refused"),
+    ("--day 19000229", "refused"),
+    ("--day 00000101", "refused"),
+    ("--day 20241301", "refused"),
+    ("--day 202407", "refused"),
+    ("--day 2024-07-01", "refused"),
+    ("--day=", "refused"),
+    ("--day", "refused"),
+    ("--day 20240701 --day 20240701", "refused"),
+];
+
 #[test]
 fn options(rt: HostRuntime) -> Result<(), Fail> {
     for (more, said) in &OPTIONS {
+        let line = format!(in rt.alloc(); "ecdis --catalogue c --table t {more}")?;
+        let text = answer(rt.alloc(), line.as_str())?;
+        assert!(rt; text.as_str() == *said, "{more}");
+    }
+    Ok(())
+}
+
+#[test]
+fn days(rt: HostRuntime) -> Result<(), Fail> {
+    for (more, said) in &DAYS {
         let line = format!(in rt.alloc(); "ecdis --catalogue c --table t {more}")?;
         let text = answer(rt.alloc(), line.as_str())?;
         assert!(rt; text.as_str() == *said, "{more}");
@@ -168,5 +212,6 @@ fn laws(_rt: HostRuntime) {
     defaults_stand_alone();
     depths_are_set();
     looks_are_set();
+    days_are_set();
     other_words_are_refused();
 }

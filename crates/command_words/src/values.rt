@@ -3,14 +3,16 @@
 //! Each value is a text to `clap`, which would take more spellings of a number (`+1`, `007`), and is read here. The
 //! defaults stand here too: an option that isn't among the words has no text, and `clap` makes none up.
 
-ghost use Rattle.std.specs.Prelude.{◌≡◌, codes, option_map};
+ghost use Rattle.std.specs.Prelude.{◌≡◌, codes, option_map, IfSome};
 ghost use Rattle.clap.specs.Words.{first_of, found_of, rows_of};
-ghost use Rattle.command_words.specs.Settings.{centimetres_of, defaults, is_set, scale_of, shades_of};
-ghost use Rattle.command_words.specs.Reading.{depth_in, scale_in, settings_in, shades_in};
+ghost use Rattle.command_words.specs.Settings.{AreInRange, centimetres_of, defaults, is_set, scale_of, shades_of};
+ghost use Rattle.command_words.specs.Reading.{day_in, depth_in, scale_in, settings_in, shades_in};
+ghost use Rattle.date_display.specs.Days.{date_of};
 
 use crate::numbers::number_within;
 use chart_model::{Settings, Shades};
 use clap::ArgMatches;
+use date_display::{Day, read_day};
 
 /// The greatest depth.
 const DEEPEST: u32 = 1_000_000;
@@ -104,9 +106,19 @@ fn has_pattern(matches: &ArgMatches) -> bool
     }
 }
 
-/// The settings, where each value is in its range.
+/// The day of the option, or none where it isn't there. Text that is no day is no answer.
+pub fn day(matches: &ArgMatches) -> Option<Option<Day>>
+    ensures { option_map (option_map date_of) result ≡ day_in (rows_of (found_of matches.now)) }
+{
+    match text_of(matches, "day") {
+        Some(text) => Some(Some(read_day(text.as_bytes())?)),
+        None => Some(None),
+    }
+}
+
+/// The settings that the values say.
 #[tactic(auto, unfolding(crate::specs::Reading::settings_in))]
-pub fn settings(matches: &ArgMatches) -> Option<Settings>
+fn settings_in(matches: &ArgMatches) -> Option<Settings>
     ensures { result ≡ settings_in (rows_of (found_of matches.now)) }
 {
     Some(Settings {
@@ -118,4 +130,12 @@ pub fn settings(matches: &ArgMatches) -> Option<Settings>
         pattern: has_pattern(matches),
         scale: scale_or_default(matches)?,
     })
+}
+
+/// The settings, where each value is in its range.
+pub fn settings(matches: &ArgMatches) -> Option<Settings>
+    ensures value { result ≡ settings_in (rows_of (found_of matches.now)) }
+    ensures ranges { IfSome result AreInRange }
+{
+    settings_in(matches)
 }

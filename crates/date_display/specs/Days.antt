@@ -7,6 +7,10 @@ use Rattle.date_display.specs.declared.date.Date.{Date}
 use Rattle.date_display.specs.declared.day.Day.{Day}
 use Rattle.date_display.specs.declared.month_day.MonthDay.{MonthDay}
 
+-- a date by its numbers, as other crates name it
+abbrev pub DateValue : Type 0
+DateValue = Date
+
 -- the numbers of a day
 abbrev pub date_of : Day → Date
 date_of day = record { year = day.year; month = day.month; day = day.day }
