@@ -1,11 +1,11 @@
 -- What comes of a file that is to be staged.
-use Rattle.std.proofs.Common.{◌≡◌, inl, ℕ, ◌+◌, ◌≤◌, Bool, true, false, List, Option, Some, None, Result, Ok, Err, refl, sym, ◌∙◌, ap, subst}
+use Rattle.std.proofs.Common.{◌≡◌, inl, ℕ, ◌+◌, ◌≤◌, true, false, List, Option, Some, None, Result, Ok, Err, refl, sym, ◌∙◌, ap, subst}
 use Rattle.std.specs.Prelude.{IsErrAnd, is_some, length, option_map}
 use Rattle.chart_model.specs.Answers.{◌>>=◌, FailsBy, GivesBy, or_fault_as}
 use Rattle.chart_model.specs.State.{StateValue}
 use Rattle.chart_ports.specs.declared.shelf.Fetched.{Fetched}
 use Rattle.chart_store.specs.Loaded.{FILE_LIMIT, come_to}
-use Rattle.chart_store.specs.Staging.{GoesOn, IsStagedOn, StagedValue, changes_in, key_in, staged_by, step_of}
+use Rattle.chart_store.specs.Staging.{StagedValue, changes_in, key_in, staged_by}
 use Rattle.chart_store.specs.Submitted.{told}
 use Rattle.chart_store.specs.declared.refusal.Refusal as of_store
 use Rattle.chart_store.specs.declared.submit_fault.SubmitFault.{SubmitFault}
@@ -20,11 +20,9 @@ use Rattle.session_core.specs.declared.staging.Staging as of_code
 use Rattle.session_core.specs.Answers.{Gives, fault_of_submit, refusal_of_event}
 use Rattle.session_core.specs.Fetch.{file_in}
 use Rattle.session_core.specs.Model.{Model, Staging, with_staging}
-use Rattle.session_core.specs.Order.{commit_order, order_turn}
-use Rattle.session_core.specs.Refusal.{reply_of}
 use Rattle.session_core.specs.Replied.{Turn, refusal_turn}
-use Rattle.session_core.specs.Session.{GivesEvent, LeavesEither, staging_of, with_others}
-use Rattle.session_core.specs.Staging.{StandsOn, change_turn, changed_turn, commit_turn, committed_turn, stage_turn, staged_in, staged_turn, staging_at, unstaged}
+use Rattle.session_core.specs.Session.{GivesEvent, staging_of}
+use Rattle.session_core.specs.Staging.{stage_turn, staged_in, staged_turn, staging_at}
 use Rattle.session_core.specs.Steps.{most_steps_to_stage, records_to_stage}
 use Rattle.session_core.proofs.Fetching.{passed-is}
 use Rattle.session_core.proofs.Turning.{passed-event}

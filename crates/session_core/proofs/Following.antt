@@ -1,36 +1,22 @@
 -- What turns follow from.
-use Rattle.std.proofs.Common.{◌≡◌, ℕ, Bool, true, false, cond, List, Option, Some, None, Result, Ok, Err, refl, sym, ◌∙◌, ap, subst}
-use Rattle.chart_model.specs.Answers.{◌>>=◌}
+use Rattle.std.proofs.Common.{◌≡◌, Some, None, Ok, refl, sym, ◌∙◌, ap, subst}
 use Rattle.chart_model.specs.State.{StateValue}
 use Rattle.chart_model.specs.declared.command.Command.{Command}
-use Rattle.chart_store.specs.declared.refusal.Refusal as of_store
-use Rattle.chart_store.specs.declared.refusal.Refusal.TheVariants as refuses
-use Rattle.chart_store.specs.Live.{AreLive, state_or}
-use Rattle.chart_store.specs.Loaded.{FILE_LIMIT, Outcome}
-use Rattle.chart_store.specs.Outcome.{Room, accepted, record_size, outcome, room_within, state_with}
+use Rattle.chart_store.specs.Live.{AreLive}
+use Rattle.chart_store.specs.Loaded.{FILE_LIMIT}
+use Rattle.chart_store.specs.Outcome.{state_with}
 use Rattle.script_reader.specs.declared.event.Event.{Event}
 use Rattle.script_reader.specs.declared.event.Event.TheVariants as asks
-use Rattle.script_reader.specs.declared.reply.Reply.{Reply}
-use Rattle.script_reader.specs.declared.reply.Reply.TheVariants as replies
-use Rattle.session_core.specs.declared.changes.order.Order.{Order}
-use Rattle.session_core.specs.declared.refusal.LineRefusal.{LineRefusal}
-use Rattle.session_core.specs.declared.refusal.LineRefusal.TheVariants.{Busy, Store}
 use Rattle.session_core.specs.Draw.{draw_of}
 use Rattle.session_core.specs.Info.{info_of}
 use Rattle.session_lists.specs.Cells.{cells_reply}
-use Rattle.session_core.specs.Order.{commit_order, decision_turn, drop_order, load_order, make_order, order_turn, reissue_order, reply_to, rollback_order}
-use Rattle.session_core.specs.Model.{Model, Portrayal, Progress, Staging, model_with, staging_past, with_scenes, with_staging}
+use Rattle.session_core.specs.Order.{drop_order, load_order, make_order, reissue_order, rollback_order}
+use Rattle.session_core.specs.Model.{Model, model_with, staging_past, with_staging}
 use Rattle.session_core.specs.Route.{ROUTE_LIMIT, cover_of, route_of}
-use Rattle.session_core.specs.Save.{bank_bytes, is_done_by, is_too_long, model_saving, room_saved, slices_of, written_more}
-use Rattle.std.specs.Prelude.{is_some}
-use Rattle.panel_port.specs.declared.summary.Summary.{Summary}
-use Rattle.panel_scenes.specs.Numbered.{numbered}
-use Rattle.panel_scenes.specs.Scene.{SceneValue}
 use Rattle.session_core.specs.Outside.{FromOutside}
-use Rattle.session_core.specs.Panels.{IsOfPanel, begun_turn, close_turn, panel_turn, refresh_turn, target_of}
-use Rattle.session_core.specs.Replied.{Turn, refusal_turn, reply_turn}
-use Rattle.session_core.specs.Staging.{IsOfStaging, change_turn, commit_turn, stage_turn, unstaged}
-use Rattle.session_core.specs.Turn.{IsOfSave, MayAccept, begin_turn, save_turn, step_turn, turn_of}
+use Rattle.session_core.specs.Panels.{IsOfPanel}
+use Rattle.session_core.specs.Staging.{IsOfStaging, unstaged}
+use Rattle.session_core.specs.Turn.{IsOfSave, MayAccept, begin_turn, step_turn, turn_of}
 use Rattle.session_core.proofs.Stages.{by-change, by-commit, by-stage}
 use Rattle.session_core.proofs.Leaving.{Leaves, More, ordered-staging, begun-drawn, begun-none, begun-scenes, begun-staging, begun-state, drawn-by, file-order, held-in, leaves-all, nothing-some, of-panel, ordered-drawn, ordered-live, ordered-none, ordered-scenes, ordered-some, panel-staging, replied-live, replied-none, replied-same, replied-some, replied-staging, rests-staging, scenes-in, staged-by, stepped-drawn, stepped-none, stepped-scenes, stepped-staging, stepped-state}
 

@@ -152,13 +152,21 @@ module _ {V : Type 0} (IsOf : CellValue → V → Type 0) (cells : HoldingsByKey
 
 -- ---- features
 
--- those of the charts of entries
-abbrev pub charted : List (List ℕ × Holding) → ℕ
-charted entries = sum_by (λ (here : Holding). features_in here.chart) (map (λ (entry : List ℕ × Holding). entry.1) entries)
+-- what is counted of the charts of entries
+abbrev pub charted_by : (Option CellValue → ℕ) → List (List ℕ × Holding) → ℕ
+charted_by count entries = sum_by (λ (here : Holding). count here.chart) (map (λ (entry : List ℕ × Holding). entry.1) entries)
 
--- one entry fewer is left, and its features were counted
+-- one entry fewer is left, and its chart was counted
+pub counted-goes : (count : Option CellValue → ℕ) (before after most : ℕ) (key : List ℕ) (here : Holding) (chart : Option CellValue) (all left : List (List ℕ × Holding))
+    → all ≡ (key, here) ∷ left → chart ≡ here.chart → before + charted_by count all ≤ most → after ≤ before + count chart → after + charted_by count left ≤ most
+counted-goes count before after most key here chart all left next same counted more =
+    let parts : charted_by count all ≡ count here.chart + charted_by count left = ap (charted_by count) next ∙ sum_by-cons (λ (held : Holding). count held.chart) here (map (λ (entry : List ℕ × Holding). entry.1) left) in
+    omega (arith, parts, ap count same, counted, more)
+
+-- the features of the charts of entries
+abbrev pub charted : List (List ℕ × Holding) → ℕ
+charted = charted_by features_in
+
 pub charted-goes : (before after most : ℕ) (key : List ℕ) (here : Holding) (chart : Option CellValue) (all left : List (List ℕ × Holding))
     → all ≡ (key, here) ∷ left → chart ≡ here.chart → before + charted all ≤ most → after ≤ before + features_in chart → after + charted left ≤ most
-charted-goes before after most key here chart all left next same counted more =
-    let parts : charted all ≡ features_in here.chart + charted left = ap charted next ∙ sum_by-cons (λ (held : Holding). features_in held.chart) here (map (λ (entry : List ℕ × Holding). entry.1) left) in
-    omega (arith, parts, ap features_in same, counted, more)
+charted-goes = counted-goes features_in

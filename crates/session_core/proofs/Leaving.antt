@@ -15,12 +15,8 @@ use Rattle.script_reader.specs.declared.reply.Reply.TheVariants as replies
 use Rattle.session_core.specs.declared.changes.order.Order.{Order}
 use Rattle.session_core.specs.declared.refusal.LineRefusal.{LineRefusal}
 use Rattle.session_core.specs.declared.refusal.LineRefusal.TheVariants.{Busy, Store}
-use Rattle.session_core.specs.Draw.{draw_of}
-use Rattle.session_core.specs.Info.{info_of}
-use Rattle.session_lists.specs.Cells.{cells_reply}
-use Rattle.session_core.specs.Order.{commit_order, decision_turn, drop_order, load_order, make_order, order_turn, reissue_order, reply_to, rollback_order}
+use Rattle.session_core.specs.Order.{commit_order, decision_turn, order_turn, reply_to}
 use Rattle.session_core.specs.Model.{Model, Portrayal, Progress, Staging, model_with, staging_past, with_scenes, with_staging}
-use Rattle.session_core.specs.Route.{ROUTE_LIMIT, cover_of, route_of}
 use Rattle.session_core.specs.Save.{bank_bytes, is_done_by, is_too_long, model_saving, room_saved, slices_of, written_more}
 use Rattle.std.specs.Prelude.{is_some}
 use Rattle.panel_port.specs.declared.summary.Summary.{Summary}
@@ -29,8 +25,8 @@ use Rattle.panel_scenes.specs.Scene.{SceneValue}
 use Rattle.session_core.specs.Outside.{FromOutside}
 use Rattle.session_core.specs.Panels.{IsOfPanel, begun_turn, close_turn, panel_turn, refresh_turn, target_of}
 use Rattle.session_core.specs.Replied.{Turn, refusal_turn, reply_turn}
-use Rattle.session_core.specs.Staging.{IsOfStaging, change_turn, commit_turn, stage_turn, unstaged}
-use Rattle.session_core.specs.Turn.{IsOfSave, MayAccept, begin_turn, save_turn, step_turn, turn_of}
+use Rattle.session_core.specs.Staging.{IsOfStaging, unstaged}
+use Rattle.session_core.specs.Turn.{begin_turn, save_turn, step_turn, turn_of}
 use Rattle.session_core.proofs.Stages.{by-change, by-commit, by-stage}
 
 -- ---- commands

@@ -10,6 +10,7 @@ pub mod Overtaking
 pub mod PanelTurns
 pub mod Painting
 pub mod Targets
+pub mod OtherDays
 pub mod Checking
 pub mod Writing
 pub mod Reissuing

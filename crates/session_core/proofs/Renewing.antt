@@ -17,7 +17,7 @@ use Rattle.chart_store.specs.Loaded.{chart_of as chart_in}
 use Rattle.chart_store.specs.Outcome.{IsKeyOf, Room, accepted, outcome, record_size, room_after, room_within}
 use Rattle.bank_pair.specs.Pair.{with_frame}
 use Rattle.bank_pair.specs.Saving.{SaveValue, gate_of_save}
-use Rattle.chart_store.specs.Staging.{IsStagedOn, key_in, key_of as key_by}
+use Rattle.chart_store.specs.Staging.{key_in, key_of as key_by}
 use Rattle.chart_store.specs.Store.{IsKept, StoreValue, count_of, is_sound, room_of, save_of, state_of}
 use Rattle.chart_store.specs.Store.{store_of as value_of}
 use Rattle.chart_store.specs.Submitted.{GivesAccepted, accepted_with}
@@ -31,7 +31,7 @@ use Rattle.session_core.specs.declared.fault.EventFault.TheVariants.{Refused, De
 use Rattle.session_core.specs.declared.refusal.LineRefusal.TheVariants as line
 use Rattle.session_core.specs.declared.changes.order.Order.{Order}
 use Rattle.session_core.specs.declared.session.Session.{Session}
-use Rattle.session_core.specs.Model.{Model, Staging, is_same_key, key_of, model_with, overtaken, overtaken_by}
+use Rattle.session_core.specs.Model.{Model, Staging, is_same_key, key_of, model_with, overtaken}
 use Rattle.session_core.specs.Order.{decision_turn, order_turn, reply_to}
 use Rattle.session_core.specs.Replied.{Turn}
 use Rattle.session_core.specs.Session.{GivesEvent, IsReady, KeepsCharts, LeavesEither, grids_in, model_of, portrayal_of, progress_of, scenes_of, staging_in, store_of, users_in, with_others}

@@ -44,13 +44,13 @@ use Rattle.session_core.specs.Fetch.{file_in}
 use Rattle.session_core.specs.Held.{chart_of}
 use Rattle.session_core.specs.Info.{info_of, info_reply}
 use Rattle.session_lists.specs.Cells.{cells_reply}
-use Rattle.session_lists.specs.Cover.{cover_reply, uncovered_reply}
+use Rattle.session_lists.specs.Cover.{uncovered_reply}
 use Rattle.session_lists.specs.Draw.{draw_reply}
-use Rattle.session_lists.specs.Route.{report_reply, route_reply}
+use Rattle.session_lists.specs.Route.{report_reply}
 use Rattle.coverage_points.specs.Uncovered.{uncovered_of}
 use Rattle.route_check.specs.Route.{legs_of}
 use Rattle.session_core.specs.Interleaved.{IsOvertaken}
-use Rattle.session_core.specs.Model.{Model, Progress, Staging}
+use Rattle.session_core.specs.Model.{Model, Progress, Staging, shown_by}
 use Rattle.session_core.specs.Order.{commit_order, decision_turn, drop_order, make_order, order_of_file, order_turn, reissue_order, reply_to, rollback_order}
 use Rattle.session_core.specs.Outside.{FromOutside, starts_after}
 use Rattle.session_core.specs.Panels.{IsOfPanel, begun_turn, close_turn, painting_reply, panel_turn, refresh_turn, target_of}
@@ -148,7 +148,7 @@ module _ {outside : FromOutside} {before : Model} {event : Event} {P : Reply →
   draw-result model key =
       answered (or_fault (line.Store (refuses.NoCell key)) (chart_of model.state.cells key)) _
       (chart-err key (chart_of model.state.cells key)) (λ chart.
-      h.told (draw_reply model.portrayal.table model.portrayal.settings key chart) tt)
+      h.told (draw_reply model.portrayal.table model.portrayal.settings key (shown_by model.portrayal chart)) tt)
 
   along-route : (r : Result Route RouteFault) (f : Route → Reply) → ((route : Route) → IsTold (f route)) → OfResult (or_unread (r >>= λ route. Ok (f route)))
   along-route (Ok route) f told = h.told (f route) (told route)

@@ -3,7 +3,6 @@ use Rattle.std.proofs.Common.{◌≡◌, ◌≢◌, ℕ, ◌+◌, ◌*◌, ◌�
 use Rattle.std.specs.Prelude.{◌/◌, ◌<◌, IfSome, IsErrAnd, IsTrue, OnErr, OnOk, Result, Ok, Err, is_some, option_map, unwrap_or}
 use Rattle.std.proofs.lemmas.Bool.{true≢false}
 use Rattle.std.proofs.lemmas.Bool.Decides.{nat_tests}
-use Rattle.std.specs.FinMap as finite
 use Rattle.bank_pair.specs.Saving.{AreSlicesOf, SaveValue, gate_of_save}
 use Rattle.chart_model.specs.State.{StateValue}
 use Rattle.chart_pages.specs.Grammar.{spelling}
@@ -29,14 +28,10 @@ use Rattle.session_core.specs.Model.{Model, Portrayal, Progress, Staging}
 use Rattle.session_core.specs.Save.{bank_bytes, is_too_long, model_saving, model_stepped, slices_of, written_more}
 use Rattle.script_reader.specs.declared.event.Event.{Event}
 use Rattle.script_reader.specs.declared.event.Event.TheVariants as asks
-use Rattle.session_core.specs.Held.{chart_of}
-use Rattle.session_core.specs.Kept.{IsKeptOf}
 use Rattle.session_core.specs.Session.{GivesEvent, IsReady, WritesSlices, grids_in, model_of, portrayal_of, progress_of}
 use Rattle.session_core.specs.Session.{scenes_of, staging_in, store_of, users_in}
 use Rattle.session_core.specs.Staging.{StandsOn}
 use Rattle.session_core.specs.Steps.{TakesAtMost}
-use Rattle.spatial_grid.specs.Box.{IsGridOf}
-use Rattle.topology_cache.specs.Users.{AreUsersOf}
 use Rattle.session_core.specs.Replied.{Turn, refusal_turn}
 use Rattle.session_core.specs.Turn.{begin_turn, reply_stepped, save_turn, step_turn}
 use Rattle.session_core.specs.declared.fault.EventFault.{EventFault}

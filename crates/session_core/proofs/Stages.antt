@@ -1,9 +1,8 @@
 -- A file that is staged, in turns.
-use Rattle.std.proofs.Common.{◌≡◌, ℕ, ◌+◌, Bool, true, false, cond, List, [], ◌∷◌, ◌++◌, Option, Some, None, Result, Ok, Err, refl, sym, ◌∙◌, ap, subst}
+use Rattle.std.proofs.Common.{◌≡◌, ℕ, List, Option, Some, None, Result, Ok, Err, refl}
 use Rattle.chart_model.specs.Answers.{◌>>=◌, or_fault_as}
 use Rattle.chart_ports.specs.declared.shelf.Fetched.{Fetched}
-use Rattle.chart_store.specs.Loaded.{FILE_LIMIT, Outcome}
-use Rattle.chart_store.specs.Outcome.{accepted}
+use Rattle.chart_store.specs.Loaded.{FILE_LIMIT}
 use Rattle.chart_store.specs.Staging.{StagedValue, changes_in, key_in, staged_by, step_of}
 use Rattle.chart_store.specs.declared.refusal.Refusal as of_store
 use Rattle.std.specs.Prelude.{length}
@@ -12,7 +11,7 @@ use Rattle.session_core.specs.declared.refusal.LineRefusal.{LineRefusal}
 use Rattle.session_core.specs.declared.refusal.LineRefusal.TheVariants as line
 use Rattle.session_core.specs.Fetch.{file_in}
 use Rattle.session_core.specs.Model.{Model, Staging, with_staging}
-use Rattle.session_core.specs.Order.{commit_order, decision_turn, order_turn, reply_to}
+use Rattle.session_core.specs.Order.{commit_order, order_turn}
 use Rattle.session_core.specs.Replied.{Turn, refusal_turn}
 use Rattle.session_core.specs.Staging.{change_turn, changed_turn, commit_turn, committed_turn, stage_turn, staged_in, staged_turn, staging_at, unstaged}
 

@@ -31,7 +31,7 @@ use Rattle.panel_port.specs.Panel.{Scene as Blocks}
 use Rattle.panel_port.proofs.PanelKeys.{panel_key_cmp-IsAntisymmetric, panel_key_cmp-total}
 use Rattle.lookup_table.specs.declared.line.TableLine.{TableLine}
 use Rattle.session_core.specs.Held.{chart_of}
-use Rattle.session_core.specs.Model.{Portrayal}
+use Rattle.session_core.specs.Model.{Portrayal, shown_by}
 use Rattle.session_core.specs.Panels.{blocks_under, target_of, under_key, with_all}
 
 -- ---- entries
@@ -127,7 +127,9 @@ module _ (portrayal : Portrayal) (key other : List ℕ) (name : Name) where
 
   -- the block of the name, in a chart that may be there
   abbrev named : Option CellValue → Option Block
-  named chart = option_and_then (λ (held : CellValue). block_at held portrayal.table portrayal.settings name) chart
+  named chart =
+      option_and_then (λ (held : CellValue). block_at (shown_by portrayal held) portrayal.table portrayal.settings name)
+      chart
 
   abbrev found : List (PanelKey × Block) → Option Block
   found es = find panel_key_cmp (key_with key name) es
@@ -136,14 +138,16 @@ module _ (portrayal : Portrayal) (key other : List ℕ) (name : Name) where
       → found (blocks_under portrayal other chart) ≡ named chart
   own-chart tie None = refl
   own-chart tie (Some chart) =
-      own-blocks chart tie (finite.entries chart.features) (finite.entries_sorted chart.features)
-      ∙ ap (option_and_then (block_in chart portrayal.table portrayal.settings))
-      (sym (finite.get-entries chart.features name))
+      let shown = shown_by portrayal chart in
+      own-blocks shown tie (finite.entries shown.features) (finite.entries_sorted shown.features)
+      ∙ ap (option_and_then (block_in shown portrayal.table portrayal.settings))
+      (sym (finite.get-entries shown.features name))
 
   other-chart : eq_by_cmp key_cmp key other ≡ false → (chart : Option CellValue)
       → found (blocks_under portrayal other chart) ≡ None
   other-chart apart None = refl
-  other-chart apart (Some chart) = other-blocks chart apart (finite.entries chart.features)
+  other-chart apart (Some chart) =
+      let shown = shown_by portrayal chart in other-blocks shown apart (finite.entries shown.features)
 
 -- ---- those of all charts
 
@@ -179,7 +183,8 @@ module _ (portrayal : Portrayal) (key : List ℕ) (name : Name) where
   by-chart (Some here) = refl
 
   pub target-is : (cells : HoldingsByKey) → finite.get (target_of portrayal cells) (key_with key name)
-      ≡ option_and_then (λ (chart : CellValue). block_at chart portrayal.table portrayal.settings name)
+      ≡ option_and_then (λ (chart : CellValue).
+      block_at (shown_by portrayal chart) portrayal.table portrayal.settings name)
       (chart_of cells key)
   unfolding target_of
   target-is cells =
@@ -292,7 +297,8 @@ module _ (portrayal : Portrayal) where
       → T (below_all panel_key_cmp (key_with key name) (blocks_under portrayal other chart))
   below-chart key other name lesser None = tt
   below-chart key other name lesser (Some chart) =
-      below-under key other name lesser (named_blocks_in chart portrayal.table portrayal.settings)
+      below-under key other name lesser
+      (named_blocks_in (shown_by portrayal chart) portrayal.table portrayal.settings)
 
   below-charts : (key : List ℕ) (name : Name) (es : List (List ℕ × Holding)) → T (below_all key_cmp key es)
       → T (below_all panel_key_cmp (key_with key name) (flat_map chart-blocks es))
@@ -317,9 +323,10 @@ module _ (portrayal : Portrayal) where
       → T (is_sorted panel_key_cmp (blocks_under portrayal key chart ++ rest))
   sorted-chart key None rest above h = h
   sorted-chart key (Some chart) rest above h =
-      sorted-before key (named_blocks_in chart portrayal.table portrayal.settings) rest
-      (sorted-named key chart portrayal.table portrayal.settings (finite.entries chart.features)
-      (finite.entries_sorted chart.features)) above h
+      let shown = shown_by portrayal chart in
+      sorted-before key (named_blocks_in shown portrayal.table portrayal.settings) rest
+      (sorted-named key shown portrayal.table portrayal.settings (finite.entries shown.features)
+      (finite.entries_sorted shown.features)) above h
 
   sorted-charts : (es : List (List ℕ × Holding)) → T (is_sorted key_cmp es)
       → T (is_sorted panel_key_cmp (flat_map chart-blocks es))

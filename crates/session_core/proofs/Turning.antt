@@ -20,13 +20,14 @@ use Rattle.session_core.specs.declared.refusal.LineRefusal.{LineRefusal}
 use Rattle.session_core.specs.Answers.{Gives}
 use Rattle.session_core.specs.Draw.{draw_of}
 use Rattle.session_core.specs.Fetch.{file_in}
+use Rattle.session_core.specs.Held.{chart_of}
 use Rattle.session_core.specs.Info.{info_of}
 use Rattle.session_lists.specs.Cells.{cells_reply}
 use Rattle.session_core.specs.Model.{Model}
 use Rattle.session_core.specs.Order.{drop_order, load_order, make_order, order_turn, reissue_order, rollback_order}
 use Rattle.session_core.specs.Route.{ROUTE_LIMIT, cover_of, route_of}
 use Rattle.session_core.specs.Session.{GivesEvent, TakesTurn}
-use Rattle.session_core.specs.Steps.{most_steps_at, most_steps_for, most_steps_to_stage, records_of_file}
+use Rattle.session_core.specs.Steps.{features_drawn, features_refreshed, most_steps_at, most_steps_for, most_steps_to_stage, records_of_file}
 use Rattle.session_core.specs.Outside.{FromOutside}
 use Rattle.session_core.specs.Panels.{close_turn, paint_turn, panel_turn, refresh_turn}
 use Rattle.session_core.specs.Replied.{Turn, reply_turn}
@@ -185,6 +186,16 @@ module _ (outside : FromOutside) (model : Model) (event : Event) where
       → most_steps_at outside.fetches model event ≡ records_of_file (file_in FILE_LIMIT name (outside.fetches FILE_LIMIT name))
   unfolding most_steps_at
   info-steps name is = ap (most_steps_at outside.fetches model) is
+
+  pub draw-steps : (key : List ℕ) → event ≡ asks.Draw key
+      → most_steps_at outside.fetches model event ≡ features_drawn model.portrayal (chart_of model.state.cells key)
+  unfolding most_steps_at
+  draw-steps key is = ap (most_steps_at outside.fetches model) is
+
+  pub refresh-steps : (k : ℕ) → event ≡ asks.Refresh k
+      → most_steps_at outside.fetches model event ≡ features_refreshed model.portrayal model.state.cells
+  unfolding most_steps_at
+  refresh-steps k is = ap (most_steps_at outside.fetches model) is
 
   pub load-is : (name : List ℕ) → event ≡ asks.Load name → Orders outside model event (load_order name (outside.fetches FILE_LIMIT name))
   unfolding turn_of most_steps_at

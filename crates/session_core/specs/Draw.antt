@@ -8,10 +8,10 @@ use Rattle.session_lists.specs.Draw.{draw_reply}
 use Rattle.session_core.specs.declared.refusal.LineRefusal.{LineRefusal}
 use Rattle.session_core.specs.declared.refusal.LineRefusal.TheVariants.{Store}
 use Rattle.session_core.specs.Held.{chart_of}
-use Rattle.session_core.specs.Model.{Portrayal}
+use Rattle.session_core.specs.Model.{Portrayal, shown_by}
 
--- the drawing of the cell of this key
+-- the drawing of the cell of this key, with a day of its chart on that day
 unfoldable pub draw_of : Portrayal → HoldingsByKey → List ℕ → Result Reply LineRefusal
 draw_of portrayal cells key = do
   chart ← or_fault (Store (NoCell key)) (chart_of cells key)
-  Ok (draw_reply portrayal.table portrayal.settings key chart)
+  Ok (draw_reply portrayal.table portrayal.settings key (shown_by portrayal chart))

@@ -20,3 +20,4 @@ pub mod Steps
 pub mod Session
 pub mod Reissue
 pub mod Interleaved
+pub mod Days

@@ -1,22 +1,34 @@
 -- What a reply depends on, apart from its line and from the files that are fetched for it.
 use Rattle.std.specs.Prelude.{ℕ, ◌+◌, nat_eq, Bool, if◌then◌else◌, List, Option, Some, None, option_map}
 use Rattle.std.specs.Cmp.Lexicographic.{pointwise}
+use Rattle.chart_model.specs.Cell.{CellValue}
 use Rattle.chart_model.specs.State.{StateValue}
 use Rattle.chart_model.specs.declared.command.Command.{Command}
 use Rattle.chart_model.specs.declared.command.Command.TheVariants.{Load, Rollback, Drop}
 use Rattle.chart_model.specs.declared.settings.Settings.{Settings}
 use Rattle.chart_store.specs.Outcome.{Room, record_size, room_after}
 use Rattle.chart_store.specs.Staging.{StagedValue, key_in}
+use Rattle.date_display.specs.Chart.{chart_on}
+use Rattle.date_display.specs.Days.{DateValue}
 use Rattle.lookup_table.specs.declared.line.TableLine.{TableLine}
 use Rattle.panel_scenes.specs.Scene.{SceneValue}
 
--- by what cells are drawn: the lines of the lookup table, and what the mariner set
+-- by what cells are drawn: the lines of the lookup table, what the mariner set, and the day, where one is set
 pub record Portrayal : Type 0 where
   pub table : List TableLine
   pub settings : Settings
+  pub day : Option DateValue
 
-abbrev pub portrayal_with : List TableLine → Settings → Portrayal
-portrayal_with table settings = record { table = table; settings = settings }
+abbrev pub portrayal_with : List TableLine → Settings → Option DateValue → Portrayal
+portrayal_with table settings day = record { table = table; settings = settings; day = day }
+
+-- what is drawn of a chart: its features that are shown on the day, and without a day the whole chart
+abbrev pub chart_if : Option DateValue → CellValue → CellValue
+chart_if None chart = chart
+chart_if (Some day) chart = chart_on day chart
+
+abbrev pub shown_by : Portrayal → CellValue → CellValue
+shown_by portrayal chart = chart_if portrayal.day chart
 
 -- how far a save is: so many slices are written, of so many
 pub record Progress : Type 0 where

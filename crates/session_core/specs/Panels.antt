@@ -23,7 +23,7 @@ use Rattle.script_reader.specs.declared.reply.Reply.{Reply}
 use Rattle.script_reader.specs.declared.reply.Reply.TheVariants as replies
 use Rattle.session_core.specs.declared.refusal.LineRefusal.{LineRefusal}
 use Rattle.session_core.specs.declared.refusal.LineRefusal.TheVariants.{Busy, NoPanel, NothingBegun, PanelFault}
-use Rattle.session_core.specs.Model.{Model, Portrayal, with_scenes}
+use Rattle.session_core.specs.Model.{Model, Portrayal, shown_by, with_scenes}
 use Rattle.session_core.specs.Refusal.{reply_of}
 use Rattle.session_core.specs.Replied.{Turn, answer_turn, refusal_turn}
 
@@ -33,10 +33,11 @@ use Rattle.session_core.specs.Replied.{Turn, answer_turn, refusal_turn}
 abbrev pub under_key : List ℕ → List NamedBlock → List (PanelKey × Block)
 under_key key = map (λ (named : NamedBlock). (record { key = key; name = named.name }, named.block))
 
--- the blocks of all features of a chart that are shown, none where there is no chart
+-- the blocks of all features of a chart that are shown, with a day of its chart on that day; none where there is no chart
 abbrev pub blocks_under : Portrayal → List ℕ → Option CellValue → List (PanelKey × Block)
 blocks_under portrayal key None = []
-blocks_under portrayal key (Some chart) = under_key key (named_blocks_in chart portrayal.table portrayal.settings)
+blocks_under portrayal key (Some chart) =
+    under_key key (named_blocks_in (shown_by portrayal chart) portrayal.table portrayal.settings)
 
 -- those of all charts that are held
 unfoldable pub target_of : Portrayal → HoldingsByKey → Blocks

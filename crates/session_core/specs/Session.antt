@@ -9,6 +9,7 @@ use Rattle.chart_store.specs.declared.store.Store.{Store}
 use Rattle.bank_pair.specs.Saving.{SaveValue}
 use Rattle.chart_store.specs.Staged.{staged_of}
 use Rattle.chart_store.specs.Store.{IsKept, StandsForEither, count_of, is_sound, pair_of, room_of, save_of, state_of}
+use Rattle.date_display.specs.Days.{date_of}
 use Rattle.panel_scenes.specs.Scene.{SceneValue}
 use Rattle.plane_bounds.specs.declared.bounds.Bounds.{Bounds}
 use Rattle.script_reader.specs.declared.event.Event.{Event}
@@ -36,7 +37,7 @@ store_of session = session.store
 
 -- by what it draws cells
 abbrev pub portrayal_of : Session → Portrayal
-portrayal_of session = portrayal_with session.table session.settings
+portrayal_of session = portrayal_with session.table session.settings (option_map date_of session.day)
 
 -- how far a save is
 abbrev pub progress_of : SaveValue → Progress

@@ -1,10 +1,16 @@
--- Steps of a turn: the data records that are come to, and the features whose records differ after it.
-use Rattle.std.specs.Prelude.{ℕ, ◌+◌, ◌≤◌, List, length, Option, Some, None, Result, Ok, Err}
+-- Steps of a turn: the data records that are come to, the features of charts that are drawn of a day, and the features
+-- whose records differ after it.
+use Rattle.std.specs.Prelude.{ℕ, ◌+◌, ◌≤◌, List, length, sum_by, Option, Some, None, option_map, Result, Ok, Err}
+use Rattle.std.specs.FinMap as finite
 use Rattle.chart_difference.specs.Difference.{AreChanged}
+use Rattle.chart_model.specs.Cell.{CellValue}
 use Rattle.chart_model.specs.State.{StateValue}
 use Rattle.chart_model.specs.declared.name.Name.{Name}
-use Rattle.chart_store.specs.Loaded.{FILE_LIMIT, come_to}
+use Rattle.chart_model.specs.declared.state.Holding.{Holding}
+use Rattle.chart_store.specs.Loaded.{FILE_LIMIT, HoldingsByKey, come_to}
 use Rattle.chart_store.specs.Outcome.{most_steps}
+use Rattle.date_display.specs.Chart.{chart_on}
+use Rattle.date_display.specs.Days.{DateValue}
 use Rattle.iso8211_records.specs.RecordFile.{data_records_in}
 use Rattle.script_reader.specs.declared.event.Event.{Event}
 use Rattle.script_reader.specs.declared.event.Event.TheVariants as asks
@@ -12,7 +18,8 @@ use Rattle.session_core.specs.declared.changes.order.Order.{Order}
 use Rattle.session_core.specs.declared.refusal.LineRefusal.{LineRefusal}
 use Rattle.session_core.specs.Fetch.{Fetches, file_in}
 use Rattle.session_core.specs.Held.{chart_of}
-use Rattle.session_core.specs.Model.{Model, Staging}
+use Rattle.session_core.specs.Kept.{features_in}
+use Rattle.session_core.specs.Model.{Model, Portrayal, Staging}
 use Rattle.session_core.specs.Order.{drop_order, load_order, make_order, reissue_order, rollback_order}
 use Rattle.update_sequence.specs.Info.{tags_of_info}
 
@@ -36,11 +43,25 @@ abbrev pub most_steps_to_stage : Option Staging → Result (List ℕ) LineRefusa
 most_steps_to_stage (Some staging) file = 0
 most_steps_to_stage None file = records_to_stage file
 
--- those that are come to at most at each event, by what the shelf answers; of other questions none
+-- The features of a chart that is drawn: the users of its edges are found where it is drawn of a day, and else they are
+-- kept.
+abbrev pub features_if : Option DateValue → Option CellValue → ℕ
+features_if None chart = 0
+features_if (Some day) chart = features_in (option_map (chart_on day) chart)
+
+abbrev pub features_drawn : Portrayal → Option CellValue → ℕ
+features_drawn portrayal chart = features_if portrayal.day chart
+
+-- those of all charts that are held
+abbrev pub features_refreshed : Portrayal → HoldingsByKey → ℕ
+features_refreshed portrayal cells =
+    sum_by (λ (here : Holding). features_drawn portrayal here.chart) (finite.values cells)
+
+-- the steps at most at each event, by what the shelf answers; of other questions none
 unfoldable pub most_steps_at : Fetches → Model → Event → ℕ
 most_steps_at fetches model (asks.Info name) = records_of_file (file_in FILE_LIMIT name (fetches FILE_LIMIT name))
 most_steps_at fetches model asks.Cells = 0
-most_steps_at fetches model (asks.Draw key) = 0
+most_steps_at fetches model (asks.Draw key) = features_drawn model.portrayal (chart_of model.state.cells key)
 most_steps_at fetches model (asks.Route name) = 0
 most_steps_at fetches model (asks.Cover name) = 0
 most_steps_at fetches model (asks.Load name) =
@@ -53,7 +74,7 @@ most_steps_at fetches model (asks.Step n) = 0
 most_steps_at fetches model asks.Commit = 0
 most_steps_at fetches model asks.Save = 0
 most_steps_at fetches model (asks.SaveStep slices) = 0
-most_steps_at fetches model (asks.Refresh k) = 0
+most_steps_at fetches model (asks.Refresh k) = features_refreshed model.portrayal model.state.cells
 most_steps_at fetches model (asks.Paint k n) = 0
 most_steps_at fetches model (asks.Panel k) = 0
 most_steps_at fetches model (asks.ClosePanel k) = 0

@@ -17,10 +17,12 @@ ghost use Rattle.script_reader.specs.declared.event.Event.{Event};
 ghost use Rattle.script_reader.specs.declared.event.Event.TheVariants.{Begin, Commit, Paint, Panel};
 ghost use Rattle.script_reader.specs.declared.reply.Reply.TheVariants as replies;
 ghost use Rattle.script_reader.specs.declared.reply.Reply.TheVariants.{Refused};
+ghost use Rattle.session_core.specs.Days.{IsAlike, but_for_days};
 ghost use Rattle.session_core.specs.Held.{chart_of};
 ghost use Rattle.session_core.specs.Interleaved.{Asked, IsBegun, IsStagedStill, StaysStaged, TellsLast, commands_along};
 ghost use Rattle.session_core.specs.Interleaved.{model_after, numbers_for};
-ghost use Rattle.session_core.specs.Model.{Model, Portrayal, Staging, model_with, staging_past, with_scenes, with_staging};
+ghost use Rattle.session_core.specs.Model.{Model, Portrayal, Staging, model_with, shown_by, staging_past};
+ghost use Rattle.session_core.specs.Model.{with_scenes, with_staging};
 ghost use Rattle.session_core.specs.Order.{commit_order, order_turn};
 ghost use Rattle.session_core.specs.Outside.{FromOutside};
 ghost use Rattle.session_core.specs.Panels.{IsOfPanel, target_of};
@@ -101,10 +103,21 @@ pub fn staged_files_are_overtaken()
 {}
 
 /// What a refresh is to show: of each cell that is held and not cancelled the blocks of its features that are shown,
-/// and nothing else.
+/// with a day of those of its chart on that day, and nothing else.
 pub fn targets_are_the_blocks_of_charts()
     ensures { (portrayal : Portrayal) (cells : HoldingsByKey) (key : List ℕ) (name : Name) →
         finite.get (target_of portrayal cells) (record { key = key; name = name })
-        ≡ option_and_then (λ (chart : CellValue). block_at chart portrayal.table portrayal.settings name)
+        ≡ option_and_then (λ (chart : CellValue).
+        block_at (shown_by portrayal chart) portrayal.table portrayal.settings name)
         (chart_of cells key) }
+{}
+
+/// The day changes what is drawn and what panels show, and nothing else. Two sessions that go by different days, or one
+/// of them by none, and else are the same, stay so: at each event the same command is accepted, and what they hold, the
+/// room that they use, the save and the file that is staged are the same after it. So is the reply, but to `draw` and to
+/// lines about panels: a danger is one on every day. The shelf answers the same to both; panels may not.
+pub fn days_leave_charts()
+    ensures { (outside elsewhere : FromOutside) (model other : Model) (event : Event) →
+        outside.fetches ≡ elsewhere.fetches → but_for_days model ≡ but_for_days other →
+        IsAlike event (turn_of outside model event) (turn_of elsewhere other event) }
 {}

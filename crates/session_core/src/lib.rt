@@ -7,6 +7,7 @@
 #![tactic(auto)]
 
 mod changes;
+mod days;
 mod fault;
 mod fetch;
 mod held;
@@ -22,7 +23,8 @@ mod values;
 
 pub use fault::TurnFault;
 pub use laws::{
-    staged_files_are_overtaken, targets_are_the_blocks_of_charts, turns_follow_their_commands,
+    days_leave_charts, staged_files_are_overtaken, targets_are_the_blocks_of_charts,
+    turns_follow_their_commands,
 };
 pub use refusal::LineRefusal;
 pub use session::Session;

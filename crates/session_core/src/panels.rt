@@ -4,8 +4,10 @@
 //! a painting that failed nobody knows what its panel shows, so its refusal is a reply already: one that isn't leaves
 //! all as it was.
 
-ghost use Rattle.std.specs.Prelude.{◌≡◌, ◌≢◌, true, false, Bool, Err, IfOk, IfSome, length, vec_len};
+ghost use Rattle.std.specs.Prelude.{◌≡◌, ◌≢◌, ◌+◌, ◌≤◌, true, false, Bool, Err, IfOk, IfSome, length, vec_len};
+ghost use Rattle.std.specs.Prelude.{option_map};
 ghost use Rattle.chart_ports.specs.Count.{Rose};
+ghost use Rattle.date_display.specs.Days.{date_of};
 ghost use Rattle.panel_port.specs.Panel.{summary_of};
 ghost use Rattle.panel_port.specs.declared.summary.Summary.{Summary};
 ghost use Rattle.panel_scenes.specs.Numbered.{IsOfNumbered, numbered};
@@ -19,38 +21,46 @@ ghost use Rattle.session_core.specs.Outside.{KeepsPanels};
 ghost use Rattle.session_core.specs.Panels.{close_turn, paint_turn, panel_turn, refresh_turn, refusal_of_panel};
 ghost use Rattle.session_core.specs.Refusal.{reply_of};
 ghost use Rattle.session_core.specs.Session.{GivesEvent};
+ghost use Rattle.session_core.specs.Steps.{features_refreshed};
 ghost use Rattle.topology_cache.specs.Users.{AreUsersOf};
 
 use crate::fault::EventFault;
 use crate::refusal::LineRefusal;
 use crate::target::{Charts, target_of};
+use chart_ports::Steps;
 use panel_port::Panel;
 use panel_scenes::{PaintingFault, PanelRefusal, PanelScenes, refreshes_keep_step};
 use script_reader::Reply;
 use std::alloc::Global;
+use std::sync::ledger::Ledger;
 
 /// Begins a refresh, which is to make the panel of this number show the charts that are held now, and tells the number
 /// of its calls. What is loaded while it goes on isn't part of it. None of the calls is made.
-pub fn refresh(
+pub fn refresh<C: Ledger>(
     alloc: Global,
     k: u32,
     scenes: &mut PanelScenes,
     panels: &[Box<dyn Panel>],
     charts: &Charts,
+    steps: &mut Steps<C>,
 ) -> Result<Reply, EventFault>
     requires { IsKeptOfEach AreUsersOf charts.now.cells.now charts.now.users.now }
     ensures given { (model : Model) → model.state.cells ≡ charts.now.cells.now →
-        model.portrayal ≡ portrayal_with charts.now.table.now charts.now.settings.now →
+        model.portrayal ≡ portrayal_with charts.now.table.now charts.now.settings.now
+        (option_map date_of charts.now.day) →
         model.scenes ≡ scenes.old →
         GivesEvent result model (with_scenes model scenes.new) (refresh_turn model k (numbered k scenes.old)) }
     ensures desk { result ≢ Err DeskFault }
     ensures as_many { length scenes.new ≡ length scenes.old }
     ensures panels { KeepsPanels tells scene faults calls numbers (asks.Refresh k) result panels.now panels.now
         scenes.old scenes.new }
+    ensures at_most { let portrayal = portrayal_with charts.now.table.now charts.now.settings.now
+        (option_map date_of charts.now.day) in
+        steps.new ≤ steps.old + features_refreshed portrayal charts.now.cells.now }
 {
     refreshes_keep_step(panels);
     scenes.can_refresh(k)?;
-    let target = target_of(alloc, charts)?;
+    let target = target_of(alloc, charts, steps)?;
     Ok(Reply::Refresh(k, scenes.refresh(alloc, k, target)?))
 }
 

@@ -22,6 +22,7 @@ use chart_store::{
     Accepted, SaveState, Store, begun_saves_are_kept, commands_change_their_cell_alone,
     kept_stores_are_read,
 };
+use date_display::Day;
 use lookup_table::Table;
 use panel_port::Panel;
 use panel_scenes::PanelScenes;
@@ -31,8 +32,8 @@ use std::alloc::{AllocError, Global};
 use std::sync::ledger::Ledger;
 use topology_cache::UsersMap;
 
-/// What a run of events goes on with: the store, the file that is staged, the table and the settings by which cells are
-/// drawn, and what is known of each panel. The shelf, the desk and the panels are handed in at each turn.
+/// What a run of events goes on with: the store, the file that is staged, the table, the settings and the day by which
+/// cells are drawn, and what is known of each panel. The shelf, the desk and the panels are handed in at each turn.
 ///
 /// Beside each chart that is held it keeps the users of its edges and its grid.
 #[derive(Drop)]
@@ -41,6 +42,7 @@ pub struct Session {
     staging: Option<Staging>,
     table: Table,
     settings: Settings,
+    day: Option<Day>,
     users: UsersMap,
     grids: GridMap,
     panels: PanelScenes,
@@ -48,7 +50,7 @@ pub struct Session {
 
 impl Session {
     ghost use Rattle.std.specs.Prelude.{◌≡◌, ◌≢◌, ◌+◌, ◌<◌, ◌≤◌, ◌^◌, ℕ, List, length, None, Ok, Err};
-    ghost use Rattle.std.specs.Prelude.{IfOk, IsTrue, OnErr, OnOk, vec_len};
+    ghost use Rattle.std.specs.Prelude.{IfOk, IsTrue, OnErr, OnOk, option_map, vec_len};
     ghost use Rattle.std.specs.FinMap as finite;
     ghost use Rattle.bank_journal.specs.Fault.{HasDeskCause};
     ghost use Rattle.chart_difference.specs.Difference.{AreChanged};
@@ -58,6 +60,7 @@ impl Session {
     ghost use Rattle.chart_store.specs.Saving.{HasBegun};
     ghost use Rattle.chart_store.specs.Store.{StandsForEither, StandsForSame, count_of, is_sound, save_of, state_of};
     ghost use Rattle.chart_store.specs.Store.{store_of as value_of};
+    ghost use Rattle.date_display.specs.Days.{date_of};
     ghost use Rattle.panel_scenes.specs.Scene.{new_scenes};
     ghost use Rattle.script_reader.specs.Line.{AreInRange};
     ghost use Rattle.script_reader.specs.declared.event.Event.TheVariants.{Reissue};
@@ -82,12 +85,13 @@ impl Session {
     ghost use Rattle.topology_cache.specs.Users.{AreUsersOf};
 
     /// A session over a store that was just opened and over so many panels, which draws cells by a table and by what
-    /// the mariner set. Each feature of a chart is a step.
+    /// the mariner set, with a day of its chart on that day. Each feature of a chart is a step.
     pub fn new<C: Ledger>(
         alloc: Global,
         store: Store,
         table: Table,
         settings: Settings,
+        day: Option<Day>,
         panels: usize,
         steps: &mut Steps<C>,
     ) -> Result<Session, AllocError>
@@ -95,7 +99,8 @@ impl Session {
         requires fresh { count_of store ≡ 0 }
         requires idle { save_of store ≡ None }
         ensures store { IfOk result (λ session. store_of session ≡ store) }
-        ensures portrayal { IfOk result (λ session. portrayal_of session ≡ portrayal_with table settings) }
+        ensures portrayal { IfOk result (λ session.
+            portrayal_of session ≡ portrayal_with table settings (option_map date_of day)) }
         ensures scenes { IfOk result (λ session. scenes_of session ≡ new_scenes panels) }
         ensures staging { IfOk result (λ session. staging_in session ≡ None) }
         ensures charts { IfOk result KeepsCharts }
@@ -110,6 +115,7 @@ impl Session {
             staging: None,
             table,
             settings,
+            day,
             users,
             grids,
             panels,
@@ -293,8 +299,14 @@ impl Session {
             Event::Info(name) => inform(alloc, name, shelf, steps),
             Event::Cells => list_cells(alloc, cells_of(&self.store)),
             Event::Draw(key) => {
-                let cells = cells_of(&self.store);
-                draw_chart(alloc, key, cells, &self.users, &self.table, &self.settings)
+                let charts = Charts {
+                    cells: cells_of(&self.store),
+                    users: &self.users,
+                    table: &self.table,
+                    settings: &self.settings,
+                    day: self.day,
+                };
+                draw_chart(alloc, key, &charts, steps)
             }
             Event::Route(name) => {
                 let state = self.store.state();
@@ -322,8 +334,16 @@ impl Session {
                     users: &self.users,
                     table: &self.table,
                     settings: &self.settings,
+                    day: self.day,
                 };
-                refresh(alloc, k, &mut self.panels, panels.as_slice(), &charts)
+                refresh(
+                    alloc,
+                    k,
+                    &mut self.panels,
+                    panels.as_slice(),
+                    &charts,
+                    steps,
+                )
             }
             Event::Paint(k, n) => paint(alloc, k, n, &mut self.panels, panels),
             Event::Panel(k) => sum_up(k, &self.panels, panels.as_slice()),

@@ -1,6 +1,6 @@
 -- The file is staged, unless one is.
-use Rattle.std.proofs.Common.{◌≡◌, Bool, false, true, Option, refl, sym, ◌∙◌, arith}
-use Rattle.std.specs.Prelude.{is_some, option_map}
+use Rattle.std.proofs.Common.{false, sym, ◌∙◌, arith}
+use Rattle.std.specs.Prelude.{option_map}
 use Rattle.chart_store.specs.Loaded.{FILE_LIMIT}
 use Rattle.chart_store.specs.Store.{count_of, state_of}
 use Rattle.session_core.specs.Fetch.{fetches_of, file_in}

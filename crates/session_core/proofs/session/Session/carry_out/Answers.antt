@@ -15,6 +15,7 @@ use Rattle.session_core.specs.declared.fault.EventFault.TheVariants.{NoMemory}
 use Rattle.session_core.specs.Answers.{Gives}
 use Rattle.session_core.specs.Draw.{draw_of}
 use Rattle.session_core.specs.Fetch.{fetches_of}
+use Rattle.session_core.specs.Held.{chart_of}
 use Rattle.session_core.specs.Kept.{IsKeptOfEach}
 use Rattle.session_lists.specs.Cells.{cells_reply}
 use Rattle.std.specs.Prelude.{option_map}
@@ -23,6 +24,7 @@ use Rattle.session_core.specs.Order.{reissue_order}
 use Rattle.session_core.specs.Route.{ROUTE_LIMIT, cover_of, route_of}
 use Rattle.session_core.specs.Session.{grids_in, model_of, staging_of, store_of, users_in}
 use Rattle.session_core.specs.Panels.{IsOfPanel}
+use Rattle.session_core.specs.Steps.{features_drawn, features_refreshed}
 use Rattle.session_core.proofs.Fetching.{are-served, fetching}
 use Rattle.session_core.proofs.PanelTurns.{none-asked, painted-panel, painting, panels-stay, slice-asked, slice-panels, summed-panels, telling, unasked-panel}
 use Rattle.session_core.proofs.Reissuing.{event-keeps, not-passed}
@@ -31,7 +33,8 @@ use Rattle.session_core.proofs.Stepping.{none-taken, within, within-none}
 use Rattle.session_core.proofs.Saves.{begun-count, begun-held, begun-ready, held-within, no-slices}
 use Rattle.session_core.proofs.Turning.{no-call, question-turns, order-fails, order-turns, save-turns, same-either, turn-turns}
 use Rattle.session_core.proofs.Turning.{info-is, info-steps, cells-is, draw-is, route-is, load-is, rollback-is, drop-is, save-is, save-step-is, make-is, reissue-is}
-use Rattle.session_core.proofs.Turning.{change-is, close-panel-is, commit-is, commit-steps, cover-is, paint-is, panel-is, refresh-is, stage-is, stage-steps}
+use Rattle.session_core.proofs.Turning.{change-is, close-panel-is, commit-is, commit-steps, cover-is, draw-steps, paint-is, panel-is}
+use Rattle.session_core.proofs.Turning.{refresh-is, refresh-steps, stage-is, stage-steps}
 use Rattle.topology_cache.specs.Users.{AreUsersOf}
 use Rattle.session_core.proofs.session.Session.carry_out.Goals as goal
 
@@ -63,12 +66,18 @@ returns-in-Cells-clause-turned g c =
 
 pub returns-in-Draw-clause-turned : goal.returns-in-Draw-clause-turned
 returns-in-Draw-clause-turned g c =
-    question-turns _ _ _ c.args.event (model_of c.args.self.now)
-    (within (model_of c.args.self.now).state (model_of c.args.self.now).state c.args.steps.now c.args.steps.now) (fetching (fetches_of (g.L.Shelf.files c.args.shelf.now) false)) _ c.draw_chart.result (are-served g.L.Shelf.tells (g.L.Shelf.files c.args.shelf.now) _ _, none-asked _ _ _ _ _ _ _ (λ of. subst IsOfPanel c.in-Draw.is of)) (draw-is (fetching (fetches_of (g.L.Shelf.files c.args.shelf.now) false)) (model_of c.args.self.now) c.args.event c.in-Draw.key c.in-Draw.is)
-    (none-taken _ (model_of c.args.self.now).state c.args.steps.now)
-    (subst (λ (held : HoldingsByKey). Gives {A = Reply} c.draw_chart.result (draw_of (model_of c.args.self.now).portrayal held c.in-Draw.key)) c.cells_of-cells.ensures.cells c.draw_chart.ensures.given) (λ after tells stood.
+    let outside = fetching (fetches_of (g.L.Shelf.files c.args.shelf.now) false) in
+    let before = model_of c.args.self.now in
+    let same = c.cells_of-in-Draw.ensures.cells in
+    question-turns _ _ _ c.args.event before
+    (within before.state before.state c.args.steps.now c.draw_chart.new.steps) outside _ c.draw_chart.result (are-served g.L.Shelf.tells (g.L.Shelf.files c.args.shelf.now) _ _, none-asked _ _ _ _ _ _ _ (λ of. subst IsOfPanel c.in-Draw.is of)) (draw-is outside before c.args.event c.in-Draw.key c.in-Draw.is)
+    (within-none _ before.state c.args.steps.now c.draw_chart.new.steps
+    (subst (λ (most : ℕ). c.draw_chart.new.steps ≤ c.args.steps.now + most)
+    (ap (λ (held : HoldingsByKey). features_drawn before.portrayal (chart_of held c.in-Draw.key)) same
+    ∙ sym (draw-steps outside before c.args.event c.in-Draw.key c.in-Draw.is)) c.draw_chart.ensures.at_most))
+    (subst (λ (held : HoldingsByKey). Gives {A = Reply} c.draw_chart.result (draw_of before.portrayal held c.in-Draw.key)) same c.draw_chart.ensures.given) (λ after tells stood.
     no-call g.D.Desk.clock g.D.Desk.might c.args.desk.now (g.D.Desk.may_leave c.args.desk.now) (g.D.Desk.said c.args.desk.now)
-    (model_of c.args.self.now).state after
+    before.state after
     (λ images bytes left. g.met.D.Desk.only_now c.args.desk.now images bytes tells left)
     (λ images left. c.kept_stores_are_read.ensures.stands c.args.desk.now (store_of c.args.self.now) images (c.requires.ready.kept tells) stood left))
 
@@ -306,7 +315,7 @@ returns-in_ok-order-in-Reissue-clause-turned g c =
 pub draw_chart-requires : goal.draw_chart-requires
 draw_chart-requires g c = record {
   kept =
-      subst (λ (cells : HoldingsByKey). IsKeptOfEach AreUsersOf cells (users_in c.args.self.now)) (sym c.cells_of-cells.ensures.cells) c.requires.ready.charts.users;
+      subst (λ (cells : HoldingsByKey). IsKeptOfEach AreUsersOf cells (users_in c.args.self.now)) (sym c.cells_of-in-Draw.ensures.cells) c.requires.ready.charts.users;
 }
 
 pub check_route-requires : goal.check_route-requires
@@ -446,11 +455,16 @@ pub returns-in-Refresh-clause-turned : goal.returns-in-Refresh-clause-turned
 returns-in-Refresh-clause-turned g c =
     let fetches = (fetches_of (g.L.Shelf.files c.args.shelf.now) false) in
     let before = model_of c.args.self.now in
-    save-turns _ _ _ c.args.event before (within before.state before.state c.args.steps.now c.args.steps.now) (fetching fetches) _ c.refresh.result
+    let same = c.cells_of-in-Refresh.ensures.cells in
+    save-turns _ _ _ c.args.event before (within before.state before.state c.args.steps.now c.refresh.new.steps) (fetching fetches) _ c.refresh.result
     (with_scenes before c.refresh.new.scenes)
     (are-served g.L.Shelf.tells (g.L.Shelf.files c.args.shelf.now) _ _, unasked-panel _ _ _ _ _ _ _ (λ k is. let f : asks.Refresh c.in-Refresh.k ≡ asks.Panel k = sym c.in-Refresh.is ∙ is in cc))
-    (refresh-is (fetching fetches) before c.args.event c.in-Refresh.k c.in-Refresh.is) (none-taken _ before.state c.args.steps.now)
-    (c.refresh.ensures.given before (sym c.cells_of-in-Refresh.ensures.cells) refl refl) (λ after tells stood.
+    (refresh-is (fetching fetches) before c.args.event c.in-Refresh.k c.in-Refresh.is)
+    (within-none _ before.state c.args.steps.now c.refresh.new.steps
+    (subst (λ (most : ℕ). c.refresh.new.steps ≤ c.args.steps.now + most)
+    (ap (features_refreshed before.portrayal) same
+    ∙ sym (refresh-steps (fetching fetches) before c.args.event c.in-Refresh.k c.in-Refresh.is)) c.refresh.ensures.at_most))
+    (c.refresh.ensures.given before (sym same) refl refl) (λ after tells stood.
     no-call g.D.Desk.clock g.D.Desk.might c.args.desk.now (g.D.Desk.may_leave c.args.desk.now) (g.D.Desk.said c.args.desk.now)
     before.state after
     (λ images bytes left. g.met.D.Desk.only_now c.args.desk.now images bytes tells left)

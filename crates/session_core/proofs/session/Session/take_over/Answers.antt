@@ -1,5 +1,5 @@
 -- What is kept follows the store, as behind any other command.
-use Rattle.std.proofs.Common.{◌≡◌, refl, sym, ◌∙◌, subst}
+use Rattle.std.proofs.Common.{refl, sym, ◌∙◌, subst}
 use Rattle.chart_model.specs.State.{StateValue}
 use Rattle.chart_ports.specs.Moments.{LeavesOnly, images_of}
 use Rattle.chart_store.specs.Images.{StandFor}
