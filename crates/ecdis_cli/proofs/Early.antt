@@ -38,24 +38,27 @@ lines_or_none (Err ended) = []
 
 -- one that a run might have drawn by
 abbrev pub any_portrayal : Files → Option WordsValue → Portrayal
-any_portrayal files None = portrayal_with [] defaults
-any_portrayal files (Some said) = portrayal_with (lines_or_none (table_in files said)) said.settings
+any_portrayal files None = portrayal_with [] defaults None
+any_portrayal files (Some said) = portrayal_with (lines_or_none (table_in files said)) said.settings said.day
 
 pub any-is : (tells : Bool) (files : Files) (words : Option WordsValue) → IsPortrayal tells files words (any_portrayal files words)
 any-is tells files None = record {
   settings = λ said e. absurd (let f : ◌≡◌ {A = Option WordsValue} None (Some said) = e in cc);
+  day = λ said e. absurd (let f : ◌≡◌ {A = Option WordsValue} None (Some said) = e in cc);
   table = λ said lines e t h. absurd (let f : ◌≡◌ {A = Option WordsValue} None (Some said) = e in cc);
 }
 any-is tells files (Some said) = record {
   settings = λ other e. ap (λ (w : WordsValue). w.settings) (some-same said other e);
+  day = λ other e. ap (λ (w : WordsValue). w.day) (some-same said other e);
   table = λ other lines e t h. ap lines_or_none (ap (table_in files) (some-same said other e) ∙ h);
 }
 
--- the table that was read, and the settings of the words
+-- the table that was read, and the settings and the day of the words
 pub read-is : (tells : Bool) (files : Files) (words : Option WordsValue) (said : WordsValue) (table : List TableLine) → words ≡ Some said
-    → (IsTrue tells → table_in files said ≡ Ok table) → IsPortrayal tells files words (portrayal_with table said.settings)
+    → (IsTrue tells → table_in files said ≡ Ok table) → IsPortrayal tells files words (portrayal_with table said.settings said.day)
 read-is tells files words said table e h = record {
   settings = λ other f. ap (λ (w : WordsValue). w.settings) (some-same said other (sym e ∙ f));
+  day = λ other f. ap (λ (w : WordsValue). w.day) (some-same said other (sym e ∙ f));
   table = λ other lines f t g. ok-same table lines (sym (h t) ∙ sym (same-table files words said other e f) ∙ g);
 }
 

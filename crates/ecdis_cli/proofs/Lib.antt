@@ -13,3 +13,4 @@ mod Opening
 mod Tables
 mod Early
 mod Stops
+mod Days

@@ -9,7 +9,7 @@ use Rattle.session_core.specs.Steps.{TakesAtMost}
 use Rattle.ecdis_cli.specs.Step.{Step}
 
 -- The steps of lines raise a count to another, one after the other: each by no more than the data records that its line
--- may come to, and one for each name whose records differ after it.
+-- may come to and the features that it draws of a day, and one for each name whose records differ after it.
 abbrev pub StepsAreCounted : Model → List Step → ℕ → ℕ → Type 0
 StepsAreCounted model [] count count' = count' ≤ count
 StepsAreCounted model (step ∷ steps) count count' =

@@ -17,3 +17,4 @@ pub mod Tables
 pub mod FileStop
 pub mod Portrayal
 pub mod Stop
+pub mod Days

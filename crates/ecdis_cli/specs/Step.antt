@@ -15,7 +15,7 @@ use Rattle.session_core.specs.Turn.{turn_of}
 use Rattle.session_core.specs.declared.refusal.LineRefusal.TheVariants.{BadLine}
 
 -- what is replied, and the command that is accepted, where there are such; the model after it, and how many data
--- records are come to at most
+-- records are come to and features drawn of a day at most
 pub record Step : Type 0 where
   pub reply : Option Reply
   pub command : Option Command
@@ -26,7 +26,7 @@ pub record Step : Type 0 where
 abbrev pub silent_step : Model → Step
 silent_step model = record { reply = None; command = None; model = model; most = 0 }
 
--- a turn is taken, which comes to so many data records at most
+-- a turn is taken, which comes to so many of them at most
 abbrev pub step_of : ℕ → Turn → Step
 step_of most turn = record { reply = Some turn.reply; command = turn.command; model = turn.model; most = most }
 

@@ -27,7 +27,9 @@ ghost use Rattle.chart_store.specs.Store.{LeavesBefore, LeavesReading};
 ghost use Rattle.command_words.specs.Reading.{WordsValue, words_of};
 ghost use Rattle.lookup_table.specs.declared.line.TableLine.{TableLine as LineValue};
 ghost use Rattle.session_core.specs.Model.{Portrayal};
+ghost use Rattle.session_core.specs.Outside.{FromOutside};
 ghost use Rattle.ecdis_cli.specs.Counted.{most_at_opening, most_in_bank};
+ghost use Rattle.ecdis_cli.specs.Days.{AreFetchedAlike, GoAlike, without_day};
 ghost use Rattle.ecdis_cli.specs.Limits.{SCRIPT_LIMIT};
 ghost use Rattle.ecdis_cli.specs.Panels.{values_of};
 ghost use Rattle.ecdis_cli.specs.Portrayal.{IsPortrayal};
@@ -43,7 +45,7 @@ use crate::run::tables::fetch_tables;
 use chart_ports::{Desk, Shelf, Source, Steps};
 use command_words::{WordsFault, read_words};
 use panel_port::Panel;
-use session_core::turns_follow_their_commands;
+use session_core::{days_leave_charts, turns_follow_their_commands};
 use std::alloc::Global;
 use std::sync::ledger::Ledger;
 
@@ -52,8 +54,8 @@ use std::sync::ledger::Ledger;
 ///
 /// `words` are those of the command line, the program's name first. The files that words and lines name are those of
 /// the shelf. `panels` are those that lines name by their numbers, from 1: one that a line closes is taken out. `steps`
-/// counts the data records that are come to, the features of the charts that are held at the start, and those whose
-/// records differ after a command.
+/// counts the data records that are come to, the features of the charts that are held at the start, those that are
+/// drawn of a day, and those whose records differ after a command.
 pub fn run_ecdis<S: Source, L: Shelf, D: Desk, C: Ledger>(
     alloc: Global,
     words: &[String],
@@ -91,10 +93,11 @@ pub fn run_ecdis<S: Source, L: Shelf, D: Desk, C: Ledger>(
     // for what the first accepted commands leave: as many as have a reply that was begun, or one more; or the files as
     // one might have left them at the start. At the end of a run that is done it leaves what stands for what all of
     // them leave, and what is read of that has the bytes in use that the replies go by, so a save that was replied to
-    // was made. Cells are drawn by the table that was read and by the settings of the words. The count of steps rises
-    // by no more than the data records that the commands in the current bank may come to, the features of the charts
-    // that are held at the start, and, of each line that is come to, the data records that it may come to and the names
-    // whose records differ after it.
+    // was made. Cells are drawn by the table that was read and by the settings of the words; where these name a day,
+    // each drawing and each refresh is of the charts on that day. The count of steps rises by no more than the data
+    // records that the commands in the current bank may come to, the features of the charts that are held at the start,
+    // and, of each line that is come to, the data records that it may come to, the features that it draws of a day, and
+    // the names whose records differ after it.
     //
     // Replies tell the numbers of what panels show, and each panel that is not closed has counted a fault for each reply
     // that says it failed. Unless the desk fails or memory runs out, such a panel shows at the end what is known of it,
@@ -112,6 +115,15 @@ pub fn run_ecdis<S: Source, L: Shelf, D: Desk, C: Ledger>(
         (steps.old + most_at_opening (D.contents desk.old) opening) (values_of Panel-box panels.old.items))
         (outside_of (S.left script.new) (D.said desk.new) (L.faults shelf.new) steps.new
         (values_of Panel-box panels.new.items)) }
+
+    // The day changes what is drawn, and nothing else. Line by line the same command is accepted as without the option,
+    // the same is held, and the reply is the same, but to `draw` and to lines about panels: so live files, charts and
+    // reports are those of the same script without it, and so is what the files stand for and read as. The shelf has to
+    // answer the same; panels need not.
+    ensures days { (portrayal : Portrayal) (count : ℕ) (opening : Reading) (script : List ℕ)
+        (answers others : List FromOutside) → AreFetchedAlike answers others →
+        GoAlike script (model_at portrayal count opening) (model_at (without_day portrayal) count opening)
+        answers others }
 
     // A run that is done has read the whole script, which is no longer than may be.
     ensures done { result ≡ Status.Done → IsTrue (S.is_at_end script.new) }
@@ -165,6 +177,7 @@ pub fn run_ecdis<S: Source, L: Shelf, D: Desk, C: Ledger>(
         (result ≡ Status.Done) ⊎ ((result ≡ Status.ShelfFault) ⊎ (result ≡ Status.NoMemory)) }
 {
     turns_follow_their_commands();
+    days_leave_charts();
     let words = match read_words(alloc, words) {
         Ok(words) => words,
         Err(WordsFault::Refused) => return Status::Words,
@@ -180,5 +193,12 @@ pub fn run_ecdis<S: Source, L: Shelf, D: Desk, C: Ledger>(
         panels,
         steps,
     };
-    run_opened(alloc, table, words.settings, script, &mut devices)
+    run_opened(
+        alloc,
+        table,
+        words.settings,
+        words.day,
+        script,
+        &mut devices,
+    )
 }

@@ -4,11 +4,13 @@
 //! answered by what they seemed to hold, and they are left as they were.
 
 ghost use Rattle.std.specs.Prelude.{◌≡◌, ◌+◌, ◌<◌, ◌≤◌, ◌⊎◌, [], ℕ, IsTrue, false, length, vec_len, Ok, Err};
+ghost use Rattle.std.specs.Prelude.{option_map};
 ghost use Rattle.chart_ports.specs.Count.{IsSteady, Rose, RoseBy};
 ghost use Rattle.chart_ports.specs.Disk.{SameFiles};
 ghost use Rattle.chart_ports.specs.Moments.{MayBeLeft, images_of};
 ghost use Rattle.chart_store.specs.Images.{Reading, StandFor, read_of};
 ghost use Rattle.chart_store.specs.Store.{LeavesBefore, LeavesReading};
+ghost use Rattle.date_display.specs.Days.{date_of};
 ghost use Rattle.session_core.specs.Model.{portrayal_with};
 ghost use Rattle.ecdis_cli.specs.Counted.{most_at_opening, most_in_bank};
 ghost use Rattle.ecdis_cli.specs.Devices.{KeepsDevices, LeavesBetween, panels_in};
@@ -22,6 +24,7 @@ use crate::run::status::Status;
 use chart_model::Settings;
 use chart_ports::{Desk, Shelf, Source};
 use chart_store::open_store;
+use date_display::Day;
 use lookup_table::Table;
 use session_core::{Session, turns_follow_their_commands};
 use std::alloc::Global;
@@ -30,11 +33,13 @@ use std::sync::ledger::Ledger;
 /// How many bytes of the script are asked for at once.
 const BUFFER: usize = 16_384;
 
-/// Opens the store, and answers the script. Cells are drawn by the table and the settings.
+/// Opens the store, and answers the script. Cells are drawn by the table and the settings, with a day of their charts on
+/// that day.
 pub fn run_opened<S: Source, L: Shelf, D: Desk, C: Ledger>(
     alloc: Global,
     table: Table,
     settings: Settings,
+    day: Option<Day>,
     script: &mut S,
     devices: &mut Devices<L, D, C>,
 ) -> Status
@@ -44,7 +49,8 @@ pub fn run_opened<S: Source, L: Shelf, D: Desk, C: Ledger>(
     ensures ran { IsTrue S.tells → IsTrue D.tells → (opening : Reading) →
         read_of (images_of (D.contents devices.old.desk.now)) ≡ Ok opening →
         Ran L.tells (L.files devices.old.shelf.now)
-        (model_at (portrayal_with table settings) (vec_len devices.old.panels.now) opening) result
+        (model_at (portrayal_with table settings (option_map date_of day)) (vec_len devices.old.panels.now) opening)
+        result
         (StandFor (images_of (D.contents devices.old.desk.now)) opening.state)
         (LeavesBetween D.clock D.might devices.old devices.new)
         (LeavesBefore (D.may_leave devices.old.desk.now) (D.said devices.old.desk.now))
@@ -101,7 +107,7 @@ pub fn run_opened<S: Source, L: Shelf, D: Desk, C: Ledger>(
         Err(fault) => return Status::of_opening(fault),
     };
     let panels = devices.panels.len();
-    let Ok(session) = Session::new(alloc, store, table, settings, panels, devices.steps) else {
+    let Ok(session) = Session::new(alloc, store, table, settings, day, panels, devices.steps) else {
         return Status::NoMemory;
     };
     let Ok(mut buffer) = vec![in alloc; 0; BUFFER] else {

@@ -4,6 +4,7 @@ use Rattle.std.specs.Prelude.{Err, map, string_bytes}
 use Rattle.command_words.specs.Reading.{value_of, words_of}
 use Rattle.ecdis_cli.specs.declared.run.status.Status.TheVariants as status
 use Rattle.ecdis_cli.specs.Devices.{panels_in}
+use Rattle.ecdis_cli.proofs.Days.{goes-alike}
 use Rattle.ecdis_cli.proofs.Early.{begun-not, early-not, file-complete, file-either, file-ends, file-fault, file-status, not-file, read-is, read-not}
 use Rattle.ecdis_cli.proofs.Opening.{complete, or_early, other-status, ran-later, ran-lent, ran-untouched, reading-none, refused-words, steady-lent, words-status}
 use Rattle.ecdis_cli.proofs.Panels.{values-many}
@@ -197,3 +198,21 @@ returns-in-Err-clause-refused_moments g c =
     λ bank at d read.
     let desk = c.args.desk.now in
     reading-none g.D.Desk.clock g.D.Desk.might desk _ _ _ (λ images so_far left. g.met.D.Desk.only_now desk images so_far d left)
+
+-- ---- days
+
+pub returns-in-Err-Refused-clause-days : goal.returns-in-Err-Refused-clause-days
+returns-in-Err-Refused-clause-days g c =
+    λ portrayal count opening script answers others fetched. goes-alike c.days_leave_charts.ensures script _ _ answers others refl fetched
+
+pub returns-in-Err-NoMemory-clause-days : goal.returns-in-Err-NoMemory-clause-days
+returns-in-Err-NoMemory-clause-days g c =
+    λ portrayal count opening script answers others fetched. goes-alike c.days_leave_charts.ensures script _ _ answers others refl fetched
+
+pub returns-in-Err-clause-days : goal.returns-in-Err-clause-days
+returns-in-Err-clause-days g c =
+    λ portrayal count opening script answers others fetched. goes-alike c.days_leave_charts.ensures script _ _ answers others refl fetched
+
+pub returns-clause-days : goal.returns-clause-days
+returns-clause-days g c =
+    λ portrayal count opening script answers others fetched. goes-alike c.days_leave_charts.ensures script _ _ answers others refl fetched
