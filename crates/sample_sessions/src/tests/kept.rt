@@ -109,7 +109,15 @@ fn keeps_after<C: Ledger>(
     };
     let mut panels = panels(alloc)?;
     let count = panels.len();
-    let mut session = Session::new(alloc, store, table(alloc)?, SETTINGS, count, &mut steps)?;
+    let mut session = Session::new(
+        alloc,
+        store,
+        table(alloc)?,
+        SETTINGS,
+        None,
+        count,
+        &mut steps,
+    )?;
     let _ = replies(
         alloc,
         &mut session,

@@ -11,12 +11,14 @@ ghost use Rattle.session_core.specs.Session.{IsReady, scenes_of, store_of};
 use chart_model::{Settings, Shades};
 use chart_ports::{FailingCalls, FileBytes, MemoryDesk, MemoryShelf, Steps};
 use chart_store::open_store;
+use date_display::Day;
 use lookup_table::{Table, read_table};
 use object_catalogue::read_objects;
 use panel_port::{FailingPanel, MemoryPanel, Panel};
 use script_reader::{print_reply, read_line};
 use session_core::{
-    Session, TurnFault, targets_are_the_blocks_of_charts, turns_follow_their_commands,
+    Session, TurnFault, days_leave_charts, targets_are_the_blocks_of_charts,
+    turns_follow_their_commands,
 };
 use std::alloc::{AllocError, Global};
 use std::marker::Brand;
@@ -178,12 +180,13 @@ pub fn replies<C: Ledger>(
     Ok(said)
 }
 
-/// The replies to lines over the store of a desk, with the files of a shelf.
+/// The replies to lines over the store of a desk, with the files of a shelf, where cells are drawn as on a day.
 fn replies_with<C: Ledger>(
     alloc: Global,
     lines: &[&[u8]],
     shelf: &mut MemoryShelf,
     desk: &mut MemoryDesk,
+    day: Option<Day>,
     blank: Blank,
 ) -> Result<Vec<u8>, AllocError>
     requires name { blank.name ≡ C.name }
@@ -200,6 +203,7 @@ fn replies_with<C: Ledger>(
                 store,
                 table(alloc)?,
                 SETTINGS,
+                day,
                 count,
                 &mut steps,
             )?;
@@ -218,13 +222,24 @@ fn replies_with<C: Ledger>(
 }
 
 /// The same with a counter of its own.
+pub fn said_on_day(
+    alloc: Global,
+    lines: &[&[u8]],
+    shelf: &mut MemoryShelf,
+    desk: &mut MemoryDesk,
+    day: Option<Day>,
+) -> Result<Vec<u8>, AllocError> {
+    replies_with::<Brand>(alloc, lines, shelf, desk, day, Blank::new(1))
+}
+
+/// The same where cells are drawn whole.
 pub fn said_on(
     alloc: Global,
     lines: &[&[u8]],
     shelf: &mut MemoryShelf,
     desk: &mut MemoryDesk,
 ) -> Result<Vec<u8>, AllocError> {
-    replies_with::<Brand>(alloc, lines, shelf, desk, Blank::new(1))
+    said_on_day(alloc, lines, shelf, desk, None)
 }
 
 /// The replies over a new store, where a call of the shelf and one of the desk fail.
@@ -391,5 +406,6 @@ fn turns(rt: HostRuntime) -> Result<(), Fail> {
     }
     turns_follow_their_commands();
     targets_are_the_blocks_of_charts();
+    days_leave_charts();
     Ok(())
 }
