@@ -1,0 +1,13 @@
+pub mod Extent
+pub mod View
+pub mod Look
+pub mod Instruction
+pub mod Places
+pub mod Figure
+pub mod Element
+pub mod Dangers
+pub mod Voyage
+pub mod Escape
+pub mod Outline
+pub mod Spelling
+pub mod Document
