@@ -1,0 +1,5 @@
+-- the counter's ledger is that of its blank
+use Rattle.chart_picture.proofs.main.Given as goal
+
+abbrev pub ghosts-run_here : goal.ghosts-run_here
+ghosts-run_here a = record { name = a.blank.name; parts = a.blank.parts }

@@ -1,0 +1,10 @@
+pub mod Fault
+pub mod End
+pub mod Fetching
+pub mod Tables
+pub mod Files
+pub mod Charts
+pub mod Extent
+pub mod Picture
+pub mod Material
+pub mod Run

@@ -1,0 +1,5 @@
+pub mod Command
+pub mod Marked
+pub mod View
+pub mod Reading
+pub mod Naming
