@@ -1,11 +1,9 @@
 pub mod Causes
 pub mod Events
 pub mod Files
-pub mod Filling
 pub mod Front
 pub mod Given
 pub mod Halves
 pub mod Logging
 pub mod Logs
 pub mod Moments
-pub mod Reading

@@ -1,16 +1,15 @@
 //! The desk of a folder: the files of a store, and what is said on standard output.
 //!
 //! The folder and the files are made at the first call on one of them, and saying makes none. So a run that ends before
-//! its store is opened makes nothing there.
+//! its store is opened makes nothing there. How they are opened is a trait's, so that a desk can stand on another folder.
 
 ghost use Rattle.std.specs.Prelude.{◌≡◌, ◌≤◌, ⊤, [], false, IsTrue, IfOk, OnErr, OnOk, Ok, length};
 ghost use Rattle.std.proofs.Common.{refl};
 ghost use Rattle.chart_ports.specs.Count.{HasCause, Rose, one_more};
 
 use crate::desk::Desk;
-use crate::pieces::write_pieces;
 use crate::source::Failed;
-use crate::store_files::{StoreFiles, open_files};
+use folder_files::{CurrentFolder, LockFile, StoreFolder, write_pieces};
 use std::io;
 use std::rt::Files;
 
@@ -18,26 +17,42 @@ use std::rt::Files;
 /// current one, and standard output, on which it says. It tells contracts nothing of either.
 ///
 /// The first call on a file makes the folder and the files that aren't there, and opens all three;
-/// they are kept open. Whatever the system refuses is a fault, and so is a write that takes nothing, a
-/// place at 2^63 or behind it, and a sync after which the file isn't found in the folder. A read or a
-/// write that a signal interrupts is tried again, up to 64 times in a call, and one that moves a part goes on.
+/// they are kept open, and the folder locked. Whatever the system refuses is a fault, and so is a folder
+/// that another program has open, a file that is no plain one, a write that takes nothing, a place at
+/// 2^63 or behind it, and a sync after which the file isn't found in the folder. A read or a write that
+/// a signal interrupts is tried again, up to 64 times in a call, and one that moves a part goes on.
 #[derive(Drop)]
-pub struct FolderDesk<R: Files> {
-    rt: R,
-    files: Option<StoreFiles<R::File>>,
+pub struct FolderDesk<R: StoreFolder> {
+    folder: R,
+    files: Option<R::Files>,
     faults: u64,
 }
 
-impl<R: Print + Files> FolderDesk<R> {
+impl<R: Print + Files> FolderDesk<CurrentFolder<R>>
+where
+    R::File: LockFile,
+{
     ghost use Rattle.chart_ports.specs.FolderDesk.{faults_of, is_open};
 
     /// The desk of the current folder. Nothing is made or opened yet.
-    pub fn new(rt: R) -> FolderDesk<R>
+    pub fn new(rt: R) -> FolderDesk<CurrentFolder<R>>
+        ensures faults { faults_of result ≡ 0 }
+        ensures closed { is_open result ≡ false }
+    {
+        FolderDesk::over(CurrentFolder::new(rt))
+    }
+}
+
+impl<R: Print + StoreFolder> FolderDesk<R> {
+    ghost use Rattle.chart_ports.specs.FolderDesk.{faults_of, is_open};
+
+    /// The same over another folder of a store, through which is said too.
+    pub fn over(folder: R) -> FolderDesk<R>
         ensures faults { faults_of result ≡ 0 }
         ensures closed { is_open result ≡ false }
     {
         FolderDesk {
-            rt,
+            folder,
             files: None,
             faults: 0,
         }
@@ -62,21 +77,21 @@ impl<R: Print + Files> FolderDesk<R> {
     }
 
     /// Makes a call on the files, which the first one opens. A failure is counted.
-    fn on_files<T, C: FnOnce(&R, &mut StoreFiles<R::File>) -> io::Result<T>>(
+    fn on_files<T, C: FnOnce(&R, &mut R::Files) -> io::Result<T>>(
         &mut self,
         call: C,
     ) -> Result<T, Failed>
         requires { C.IsAlwaysCallable call }
-        ensures answer { IfOk result (λ answer. (rt : _) × (old : _) × (new : _) × C.post call rt old (Ok answer) new) }
+        ensures answer { IfOk result (λ answer. (folder : _) × (old : _) × (new : _) × C.post call folder old (Ok answer) new) }
         ensures opened { OnOk result (IsTrue (is_open self.new)) }
         ensures kept { IsTrue (is_open self.old) → IsTrue (is_open self.new) }
         ensures cause { HasCause (faults_of self.old) (faults_of self.new) result }
         ensures counted { OnErr result (faults_of self.new ≡ one_more (faults_of self.old)) }
         ensures steady { OnOk result (faults_of self.new ≡ faults_of self.old) }
     {
-        let rt = &self.rt;
-        if let Ok(files) = self.files.get_or_try_insert_with(|| open_files(rt)) {
-            if let Ok(answer) = call(rt, files) {
+        let folder = &self.folder;
+        if let Ok(files) = self.files.get_or_try_insert_with(|| folder.open_files()) {
+            if let Ok(answer) = call(folder, files) {
                 return Ok(answer);
             }
         }
@@ -84,7 +99,7 @@ impl<R: Print + Files> FolderDesk<R> {
     }
 }
 
-impl<R: Print + Files> Desk for FolderDesk<R> {
+impl<R: Print + StoreFolder> Desk for FolderDesk<R> {
     ghost use Rattle.chart_ports.specs.FolderDesk.{faults_of, is_open};
 
     ghost tells = { false };
@@ -109,7 +124,7 @@ impl<R: Print + Files> Desk for FolderDesk<R> {
         ensures counted { OnErr result (faults_of self.new ≡ one_more (faults_of self.old)) }
         ensures steady { OnOk result (faults_of self.new ≡ faults_of self.old) }
     {
-        self.on_files(|_, files| files.length(file))
+        self.on_files(|folder, files| folder.length(files, file))
     }
 
     fn read_at(&mut self, file: u8, at: u64, buf: &mut [u8]) -> Result<usize, Failed>
@@ -121,7 +136,7 @@ impl<R: Print + Files> Desk for FolderDesk<R> {
         ensures counted { OnErr result (faults_of self.new ≡ one_more (faults_of self.old)) }
         ensures steady { OnOk result (faults_of self.new ≡ faults_of self.old) }
     {
-        self.on_files(|_, files| files.read_at(file, at, buf))
+        self.on_files(|folder, files| folder.read_at(files, file, at, buf))
     }
 
     fn write_at(&mut self, file: u8, at: u64, bytes: &[u8]) -> Result<(), Failed>
@@ -132,7 +147,7 @@ impl<R: Print + Files> Desk for FolderDesk<R> {
         ensures counted { OnErr result (faults_of self.new ≡ one_more (faults_of self.old)) }
         ensures steady { OnOk result (faults_of self.new ≡ faults_of self.old) }
     {
-        self.on_files(|_, files| files.write_at(file, at, bytes))
+        self.on_files(|folder, files| folder.write_at(files, file, at, bytes))
     }
 
     fn cut(&mut self, file: u8, length: u64) -> Result<(), Failed>
@@ -143,7 +158,7 @@ impl<R: Print + Files> Desk for FolderDesk<R> {
         ensures counted { OnErr result (faults_of self.new ≡ one_more (faults_of self.old)) }
         ensures steady { OnOk result (faults_of self.new ≡ faults_of self.old) }
     {
-        self.on_files(|_, files| files.cut(file, length))
+        self.on_files(|folder, files| folder.cut(files, file, length))
     }
 
     fn sync(&mut self, file: u8) -> Result<(), Failed>
@@ -154,7 +169,7 @@ impl<R: Print + Files> Desk for FolderDesk<R> {
         ensures counted { OnErr result (faults_of self.new ≡ one_more (faults_of self.old)) }
         ensures steady { OnOk result (faults_of self.new ≡ faults_of self.old) }
     {
-        self.on_files(|rt, files| files.sync(rt, file))
+        self.on_files(|folder, files| folder.sync(files, file))
     }
 
     fn say(&mut self, bytes: &[u8]) -> Result<(), Failed>
@@ -165,7 +180,7 @@ impl<R: Print + Files> Desk for FolderDesk<R> {
         ensures counted { OnErr result (faults_of self.new ≡ one_more (faults_of self.old)) }
         ensures steady { OnOk result (faults_of self.new ≡ faults_of self.old) }
     {
-        match write_pieces(&mut io::writer(&self.rt), bytes) {
+        match write_pieces(&mut io::writer(&self.folder), bytes) {
             Ok(()) => Ok(()),
             Err(_) => Err(self.count_fault()),
         }

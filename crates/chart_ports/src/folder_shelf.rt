@@ -1,8 +1,8 @@
 //! The files under the current folder, as a shelf.
 //!
 //! Names come from a script, so those that lead out of the folder are answered as absent, whatever files there are;
-//! links inside it are followed. Of a file one byte more than the limit is read at most: it tells that the file is too
-//! long.
+//! links inside it are followed. Only plain files are opened: a pipe could have the program wait without end. Of a file
+//! one byte more than the limit is read at most: it tells that the file is too long.
 
 ghost use Rattle.std.specs.Prelude.{◌≡◌, ◌<◌, ◌≤◌, None, Some, false, IsTrue, IfOk, IfSome, IsErrOf, Ok, length};
 ghost use Rattle.chart_ports.specs.Count.{LAST, Rose, one_more};
@@ -11,8 +11,8 @@ ghost use Rattle.chart_ports.specs.Folder.{goes_up, leads_out};
 
 use crate::file_bytes::FileBytes;
 use crate::shelf::{Fetched, Shelf, ShelfError};
+use folder_files::open_plain;
 use std::alloc::Global;
-use std::fs::{File, OpenFile};
 use std::io;
 use std::io::{ErrorKind, Read};
 use std::rt::Files;
@@ -20,7 +20,8 @@ use std::rt::Files;
 /// The files under the current folder. It tells contracts nothing of their content.
 ///
 /// A name that begins with `/`, or has a part `..`, is no file of the folder. A file that can't be
-/// read, for another cause than that there is none, is a fault: a folder, one without permission.
+/// read, for another cause than that there is none, is a fault: a folder, a pipe, a device, one without
+/// permission.
 #[derive(Drop)]
 pub struct FolderShelf<R> {
     files: R,
@@ -62,9 +63,8 @@ fn read_front<F: Read + Drop>(file: F, alloc: Global, size: u64, limit: u64) -> 
 fn read_file<R: Files>(files: &R, alloc: Global, name: &str, limit: u64) -> io::Result<Fetched>
     ensures { IfOk result (IsWithin limit) }
 {
-    let file = File::open(files, name)?;
-    let size = file.metadata()?.len();
-    read_front(file, alloc, size, limit)
+    let plain = open_plain(files, name)?;
+    read_front(plain.file, alloc, plain.length, limit)
 }
 
 impl<R: Files> FolderShelf<R> {

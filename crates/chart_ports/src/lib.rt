@@ -18,13 +18,11 @@ mod memory_disk;
 mod memory_files;
 mod memory_shelf;
 mod memory_source;
-mod pieces;
 mod replay;
 mod shelf;
 mod source;
 mod std_source;
 mod steps;
-mod store_files;
 
 pub use calls::{Calls, FailingCalls};
 pub use desk::Desk;

@@ -7,8 +7,8 @@ ghost use Rattle.std.specs.Prelude.{◌≡◌, ◌+◌, ◌<◌, ◌≤◌, ◌�
 ghost use Rattle.std.specs.Io.KnownBytes.{ReadConsumes};
 ghost use Rattle.chart_ports.specs.Count.{HasCause, LAST, one_more};
 
-use crate::pieces::read_once;
 use crate::source::{Failed, Source};
+use folder_files::read_once;
 use std::io::{Input, Read};
 
 /// Standard input. It tells contracts nothing of its bytes.

@@ -6,6 +6,7 @@
 use super::calls::{gives, pulls};
 use chart_ports::{Failed, FolderShelf, StdSource};
 use std::io::{ErrorKind, Read};
+use std::os::unix::fs::symlink;
 use std::test::Fail;
 use std::{fs, io};
 
@@ -63,8 +64,16 @@ fn a_folder_gives_its_files(rt: HostRuntime) -> Result<(), Fail> {
     let alloc = rt.alloc();
     let name = "a_file_of_this_test";
     fs::write(&rt, name, "abcd")?;
+    let links = [
+        ("a_link_of_this_test", name),
+        ("a_device_of_this_test", "/dev/zero"),
+        ("a_link_to_nothing", "no_file_of_this_test"),
+    ];
+    for (link, target) in links {
+        symlink(&rt, target, link)?;
+    }
     let mut shelf = FolderShelf::new(&rt);
-    let calls: [(&str, u64, &str); 13] = [
+    let calls: [(&str, u64, &str); 16] = [
         (name, 9, "abcd"),
         (name, 4, "abcd"),
         (name, 3, "Long"),
@@ -75,6 +84,10 @@ fn a_folder_gives_its_files(rt: HostRuntime) -> Result<(), Fail> {
         ("/etc/passwd", 9, "Absent"),
         ("x/../a_file_of_this_test", 9, "Absent"),
         ("..", 9, "Absent"),
+        // Links are followed, and a device isn't opened.
+        ("a_link_of_this_test", 9, "abcd"),
+        ("a_link_to_nothing", 9, "Absent"),
+        ("a_device_of_this_test", 9, "Failed"),
         // What is no readable file is a fault: a folder, a file taken for one, a name with a NUL.
         (".", 9, "Failed"),
         ("a_file_of_this_test/a", 9, "Failed"),
@@ -86,8 +99,11 @@ fn a_folder_gives_its_files(rt: HostRuntime) -> Result<(), Fail> {
             "{name} {limit}"
         );
     }
-    assert_eq!(rt; shelf.faults(), 3);
+    assert_eq!(rt; shelf.faults(), 4);
     fs::remove_file(&rt, name)?;
+    for (link, _) in links {
+        fs::remove_file(&rt, link)?;
+    }
     Ok(())
 }
 

@@ -9,8 +9,10 @@ use crate::tests::calls::StoreFile::{Bank1, Bank2, Head};
 use crate::tests::calls::{Call, try_all};
 use crate::tests::slow::{Pace, Slow};
 use chart_ports::{Desk, Failed, FolderDesk};
+use folder_files::CurrentFolder;
 use std::cell::Cell;
 use std::fs;
+use std::os::unix::fs::symlink;
 use std::process::Abort;
 use std::test::Fail;
 
@@ -107,12 +109,55 @@ fn opens_no_file<D: Desk>(rt: &HostRuntime, test: &impl Abort, desk: &mut D) -> 
     Ok(())
 }
 
+// A name that leads to a device, or to nothing, is no plain file. It is neither opened nor made.
+fn opens_no_device<D: Desk>(rt: &HostRuntime, test: &impl Abort, desk: &mut D) -> Result<(), Fail>
+    requires untold { ¬ IsTrue D.tells }
+{
+    for target in ["/dev/null", "no_file_of_this_test"] {
+        fs::remove_file(rt, "chart-store/head")?;
+        symlink(rt, target, "chart-store/head")?;
+        try_all(test, desk, &[Call::Length(Head, Err(Failed))]);
+        assert!(test; !fs::exists(rt, "chart-store/no_file_of_this_test")?);
+    }
+    fs::remove_file(rt, "chart-store/head")?;
+    try_all(test, desk, &[Call::Length(Head, Ok(0))]);
+    Ok(())
+}
+
 fn counts_what_is_in_the_way(rt: &HostRuntime, test: &impl Abort) -> Result<(), Fail> {
     let mut desk = FolderDesk::new(rt);
     makes_no_folder(rt, test, &mut desk)?;
     opens_no_file(rt, test, &mut desk)?;
     assert_eq!(test; desk.faults(), 2);
     Ok(())
+}
+
+fn counts_what_is_no_plain_file(rt: &HostRuntime, test: &impl Abort) -> Result<(), Fail> {
+    let mut desk = FolderDesk::new(rt);
+    opens_no_device(rt, test, &mut desk)?;
+    assert_eq!(test; desk.faults(), 2);
+    Ok(())
+}
+
+const ITS_OWN: [Call; 1] = [Call::Write(Bank1, 0, "x", Ok(()))];
+
+const KEPT_OUT: [Call; 2] = [
+    Call::Length(Bank1, Err(Failed)),
+    Call::Write(Bank1, 0, "y", Err(Failed)),
+];
+
+const LET_IN: [Call; 1] = [Call::Read(Bank1, 0, 8, Ok("x"))];
+
+/// Two desks don't share a folder: the second one touches nothing until the first is gone.
+fn keeps_another_out(rt: &HostRuntime, test: &impl Abort) {
+    let mut second = FolderDesk::new(rt);
+    {
+        let mut first = FolderDesk::new(rt);
+        try_all(test, &mut first, &ITS_OWN);
+        try_all(test, &mut second, &KEPT_OUT);
+    }
+    assert_eq!(test; second.faults(), 2);
+    try_all(test, &mut second, &LET_IN);
 }
 
 const FOUND: [Call; 2] = [
@@ -151,7 +196,11 @@ fn counts_a_folder_that_went(rt: &HostRuntime, test: &impl Abort) -> Result<(), 
     Ok(())
 }
 
-fn slow<'a>(rt: &'a HostRuntime, syncs: &'a Cell<u8>, failing_sync: u8) -> FolderDesk<Slow<'a>> {
+fn slow<'a>(
+    rt: &'a HostRuntime,
+    syncs: &'a Cell<u8>,
+    failing_sync: u8,
+) -> FolderDesk<CurrentFolder<Slow<'a>>> {
     FolderDesk::new(Slow {
         rt,
         output: Pace::new(),
@@ -219,6 +268,8 @@ fn a_desk_has_real_files(rt: HostRuntime) -> Result<(), Fail> {
     begins_anew(&rt, &rt);
     fs::remove_dir_all(&rt, FOLDER)?;
     counts_what_is_in_the_way(&rt, &rt)?;
+    counts_what_is_no_plain_file(&rt, &rt)?;
+    keeps_another_out(&rt, &rt);
     counts_a_folder_that_went(&rt, &rt)?;
     fs::remove_dir_all(&rt, FOLDER)?;
     Ok(())

@@ -3,8 +3,9 @@
 //! A real system may do all this, and can't be made to: pieces of three bytes, an interruption, a write that takes
 //! nothing, a sync that fails. It moves the bytes of real files, so that what was moved can be read there.
 
-ghost use Rattle.std.specs.Prelude.{◌≤◌, IfOk};
+ghost use Rattle.std.specs.Prelude.{◌≤◌, ⊤, IfOk};
 
+use folder_files::LockFile;
 use std::alloc::Allocator;
 use std::cell::Cell;
 use std::fmt::Display;
@@ -111,6 +112,14 @@ impl<'a> OpenFile for SlowFile<'a> {
             syncs: self.syncs,
             failing_sync: self.failing_sync,
         })
+    }
+}
+
+impl<'a> LockFile for SlowFile<'a> {
+    ghost holds_lock = { λ _. ⊤ };
+
+    fn try_lock(&self) -> io::Result<()> {
+        LockFile::try_lock(&self.file)
     }
 }
 

@@ -1,6 +1,6 @@
 use Rattle.std.proofs.Common.{◌≡◌, ◌+◌, ℕ, List, ◌++◌, length}
 use Rattle.std.specs.Io.KnownBytes.{Appends}
-use Rattle.chart_ports.proofs.pieces.write_pieces.Given as goal
+use Rattle.folder_files.proofs.pieces.write_pieces.Given as goal
 
 -- what is gone from the rest was written, in order
 abbrev pub invariant-loop-rest : goal.invariant-loop-rest

@@ -14,7 +14,7 @@ const INTERRUPTIONS: u8 = 64;
 
 /// Writes all of the bytes, in order, a piece at a time. A write that takes nothing is an error; one
 /// that a signal interrupts is tried again, up to 64 times in all.
-pub(crate) fn write_pieces<W: Write>(to: &mut W, bytes: &[u8]) -> io::Result<()>
+pub fn write_pieces<W: Write>(to: &mut W, bytes: &[u8]) -> io::Result<()>
     ensures { OnOk result (Appends (W.contents to.old) (W.contents to.new) bytes.now) }
 {
     let mut rest = bytes;
@@ -34,7 +34,7 @@ pub(crate) fn write_pieces<W: Write>(to: &mut W, bytes: &[u8]) -> io::Result<()>
 
 /// One read, tried again where a signal interrupts it, up to 64 times.
 #[tactic(auto, using(crate::proofs::Reading::read_after))]
-pub(crate) fn read_once<R: Read>(reader: &mut R, buf: &mut [u8]) -> io::Result<usize>
+pub fn read_once<R: Read>(reader: &mut R, buf: &mut [u8]) -> io::Result<usize>
     ensures within { IfOk result (λ n. n ≤ length buf.old) }
     ensures read { ReadConsumes (R.remaining reader.old) (R.remaining reader.new) result buf.new }
 {
@@ -48,7 +48,7 @@ pub(crate) fn read_once<R: Read>(reader: &mut R, buf: &mut [u8]) -> io::Result<u
 }
 
 /// Reads into the front of the buffer, a piece at a time, until it is full or nothing is left.
-pub(crate) fn read_pieces<R: Read>(from: &mut R, buf: &mut [u8]) -> io::Result<usize>
+pub fn read_pieces<R: Read>(from: &mut R, buf: &mut [u8]) -> io::Result<usize>
     ensures within { IfOk result (λ n. n ≤ length buf.old) }
     ensures bytes { IfOk result (λ n. Consumes (R.remaining from.old) (R.remaining from.new) (take n buf.new)) }
     ensures end { IfOk result (λ n. n < length buf.old → IsAtEnd (R.remaining from.new)) }

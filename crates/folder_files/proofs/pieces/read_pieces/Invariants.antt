@@ -1,6 +1,6 @@
 use Rattle.std.proofs.Common.{length, ◌-◌, ◌≡◌, ◌≤◌, take}
 use Rattle.std.specs.Io.KnownBytes.{Consumes}
-use Rattle.chart_ports.proofs.pieces.read_pieces.Given as goal
+use Rattle.folder_files.proofs.pieces.read_pieces.Given as goal
 
 -- the buffer's front is what was read so far
 abbrev pub invariant-loop-filled : goal.invariant-loop-filled

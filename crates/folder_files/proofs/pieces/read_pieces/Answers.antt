@@ -1,6 +1,6 @@
 use Rattle.std.proofs.Common.{rules, length, ◌-◌}
-use Rattle.chart_ports.proofs.Filling.{Consumes-piece}
-use Rattle.chart_ports.proofs.pieces.read_pieces.Goals as goal
+use Rattle.folder_files.proofs.Filling.{Consumes-piece}
+use Rattle.folder_files.proofs.pieces.read_pieces.Goals as goal
 
 pub loop-filled-preserved : goal.loop-filled-preserved
 loop-filled-preserved g c =

@@ -1,11 +1,14 @@
-//! The three files of a store, in a folder of their own.
+//! The three files of a store, in a folder of their own, whose lock is held for as long as they are open.
 //!
 //! The folders are brought to the disk too, or a crash could leave a store without its files.
 
 ghost use Rattle.std.specs.Prelude.{◌≤◌, IfOk, OnOk, length};
+ghost use Rattle.folder_files.specs.StoreFiles.{folder_of};
 
+use crate::lock::LockFile;
 use crate::pieces::{read_pieces, write_pieces};
-use std::fs::{File, OpenFile, OpenOptions};
+use crate::plain::open_or_make;
+use std::fs::{File, OpenFile};
 use std::io::{ErrorKind, Read, Seek, SeekFrom, Write};
 use std::os::unix::fs::MetadataExt;
 use std::rt::Files;
@@ -16,10 +19,11 @@ const FOLDER: &str = "chart-store";
 
 const PARENT: &str = ".";
 
-/// The files of a store, open: `head`, `bank1` and `bank2` in the folder `chart-store`. They are known
-/// by their numbers, 0 to 2.
+/// The files of a store, open: `head`, `bank1` and `bank2` in the folder `chart-store`, which is open
+/// too, and locked. They are known by their numbers, 0 to 2.
 #[derive(Drop)]
-pub(crate) struct StoreFiles<F> {
+pub struct StoreFiles<F> {
+    folder: F,
     head: F,
     bank1: F,
     bank2: F,
@@ -44,22 +48,19 @@ fn make_folder<R: Files>(rt: &R) -> io::Result<()> {
     }
 }
 
-/// Opens a file, and makes it where it isn't there. What a file holds stays. A clone's descriptor is
-/// above those of the standard streams: where one of these was closed, what is said doesn't land in
-/// the file.
-fn open_file<R: Files>(rt: &R, file: u8) -> io::Result<R::File> {
-    let path = path_of(file)?;
-    let opened = OpenOptions::new()
-        .read(true)
-        .write(true)
-        .create(true)
-        .open(rt, path)?;
-    opened.try_clone()
-}
-
-/// What was made in the folder is found there after a crash.
-fn sync_folder<R: Files>(rt: &R, path: &str) -> io::Result<()> {
-    File::open(rt, path)?.sync_all()
+/// Opens the folder, and takes its lock. What is no folder isn't opened: it may be a pipe. As of a
+/// file, a clone is kept.
+fn lock_folder<R: Files>(rt: &R) -> io::Result<R::File>
+where
+    R::File: LockFile,
+    ensures { IfOk result (λ folder. R.File.holds_lock folder) }
+{
+    if !fs::metadata(rt, FOLDER)?.is_dir() {
+        return Err(ErrorKind::NotADirectory.into());
+    }
+    let folder = File::open(rt, FOLDER)?.try_clone()?;
+    folder.try_lock()?;
+    Ok(folder)
 }
 
 /// Whether an open file is the one that stands at the path. After its folder went it isn't, though a
@@ -69,18 +70,46 @@ fn stands_at<R: Files>(rt: &R, path: &str, file: &R::File) -> io::Result<bool> {
     Ok(named.dev() == held.dev() && named.ino() == held.ino())
 }
 
+/// Lets a file pass that stands at the path.
+fn keep_found<R: Files>(rt: &R, path: &str, file: &R::File) -> io::Result<()> {
+    if stands_at(rt, path, file)? {
+        Ok(())
+    } else {
+        Err(ErrorKind::NotFound.into())
+    }
+}
+
+/// Opens a file in the folder, and makes it where it isn't there. Before the folder is locked, and
+/// where another took its place since, no file is looked at.
+fn open_file<R: Files>(rt: &R, folder: &R::File, file: u8) -> io::Result<R::File>
+where
+    R::File: LockFile,
+    requires locked { R.File.holds_lock folder.now }
+{
+    keep_found(rt, FOLDER, folder)?;
+    open_or_make(rt, path_of(file)?)
+}
+
 /// Opens the files, and makes the folder and the files that aren't there. Their names are on the disk
 /// then, before anything is written, also those that an earlier run made and didn't come to sync.
-pub(crate) fn open_files<R: Files>(rt: &R) -> io::Result<StoreFiles<R::File>> {
+pub(crate) fn open_files<R: Files>(rt: &R) -> io::Result<StoreFiles<R::File>>
+where
+    R::File: LockFile,
+    ensures locked { IfOk result (λ files. R.File.holds_lock (folder_of files)) }
+{
     make_folder(rt)?;
-    let files = StoreFiles {
-        head: open_file(rt, 0)?,
-        bank1: open_file(rt, 1)?,
-        bank2: open_file(rt, 2)?,
-    };
-    sync_folder(rt, FOLDER)?;
-    sync_folder(rt, PARENT)?;
-    Ok(files)
+    let folder = lock_folder(rt)?;
+    let (head, bank1) = (open_file(rt, &folder, 0)?, open_file(rt, &folder, 1)?);
+    let bank2 = open_file(rt, &folder, 2)?;
+    folder.sync_all()?;
+    // What was made in the current folder is found there after a crash.
+    File::open(rt, PARENT)?.sync_all()?;
+    Ok(StoreFiles {
+        folder,
+        head,
+        bank1,
+        bank2,
+    })
 }
 
 impl<F: Read + Write + Seek + OpenFile> StoreFiles<F> {
@@ -136,10 +165,6 @@ impl<F: Read + Write + Seek + OpenFile> StoreFiles<F> {
         let path = path_of(file)?;
         let file = self.file(file)?;
         file.sync_all()?;
-        if stands_at(rt, path, file)? {
-            Ok(())
-        } else {
-            Err(ErrorKind::NotFound.into())
-        }
+        keep_found(rt, path, file)
     }
 }

@@ -1,6 +1,6 @@
 use Rattle.std.proofs.Common.{◌≡◌, length}
 use Rattle.std.specs.Io.KnownBytes.{Keeps}
-use Rattle.chart_ports.proofs.pieces.read_once.Given as goal
+use Rattle.folder_files.proofs.pieces.read_once.Given as goal
 
 -- an interrupted read took nothing
 abbrev pub invariant-loop : goal.invariant-loop
