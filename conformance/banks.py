@@ -37,7 +37,14 @@ def drop(key):
     return b"\x03" + key
 
 
-# ---- checkpoints
+def load_set(files):
+    return b"\x04" + several([text(data) for data in files])
+
+
+# ---- checkpoints, in the first version and in the second: what depends on the version is a function of it
+
+MARK = b"\xff\xff\xff\xff\x00\x00\x00\x02"
+
 
 def attributes(values):
     return several([number(code, 2) + text(value) for code, value in sorted(values.items())])
@@ -48,12 +55,26 @@ def pointer(rcnm, rcid, ornt=255, usag=255, topi=255, mask=255):
 
 
 def coordinate(x, y, depth=None):
-    return number(x, 4) + number(y, 4) + (b"\x00" if depth is None else b"\x01" + number(depth, 4))
+    """A place, and its depth where it is a sounding."""
+    return number(x, 4) + number(y, 4), None if depth is None else number(depth, 4)
+
+
+def flagged(place, depth):
+    """A coordinate with a flag of its own."""
+    return place + (b"\x00" if depth is None else b"\x01" + depth)
+
+
+def coordinates_in(pages, coordinates):
+    """The coordinates of a record: each with a flag, or all behind one."""
+    if pages == 1 or not coordinates:
+        return several([flagged(*each) for each in coordinates])
+    flag = bytes([coordinates[0][1] is not None])
+    return number(len(coordinates), 8) + flag + b"".join(place + (depth or b"") for place, depth in coordinates)
 
 
 def vector(rcnm, rcid, pointers=(), coordinates=(), version=1, values={}):
-    return (number(rcnm, 1) + number(rcid, 4) + number(version, 2) + attributes(values) + several(pointers)
-            + several(coordinates))
+    head = number(rcnm, 1) + number(rcid, 4) + number(version, 2) + attributes(values) + several(pointers)
+    return lambda pages: head + coordinates_in(pages, coordinates)
 
 
 def feature(rcid, prim, grup, code, pointers=(), values={}, version=1, foid=(550, None, 1), related=()):
@@ -64,17 +85,20 @@ def feature(rcid, prim, grup, code, pointers=(), values={}, version=1, foid=(550
 
 
 def chart(issued, agency, scale, vectors, features):
-    return issued + number(agency, 2) + number(scale, 4) + several(vectors) + several(features)
+    head = issued + number(agency, 2) + number(scale, 4)
+    return lambda pages: head + several([each(pages) for each in vectors]) + several(features)
 
 
 def cell(key, edition, update, files, a_chart):
     """A cell with its files, which is cancelled where it has no chart."""
     head = text(key) + number(edition, 4) + number(update, 4) + bytes([a_chart is None])
-    return head + several([text(data) for data in files]) + (a_chart or b"")
+    front = head + several([text(data) for data in files])
+    return lambda pages: front + (a_chart(pages) if a_chart else b"")
 
 
-def checkpoint(cells=()):
-    return several(cells)
+def checkpoint(cells=(), pages=2):
+    """A checkpoint of the second version, which a save writes, or of the first."""
+    return (MARK if pages == 2 else b"") + several([each(pages) for each in cells])
 
 
 # ---- banks

@@ -5,6 +5,7 @@
 
 use crate::key::Key;
 use crate::octets::Octets;
+use crate::state::FileList;
 
 /// A change of what is held.
 #[derive(Debug, Drop)]
@@ -15,4 +16,6 @@ pub enum Command {
     Rollback(Key, u32),
     /// Takes away a cell with its files.
     Drop(Key),
+    /// Takes over whole cell files, one after the other, or none of them. There are 1 to 1,000.
+    Set(FileList),
 }

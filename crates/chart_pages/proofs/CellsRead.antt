@@ -1,6 +1,8 @@
 -- Cells are read as they are spelled.
-use Rattle.std.proofs.Common.{◌≡◌, ℕ, ◌<◌, ◌≤◌, ◌^◌, true, List, [], ◌∷◌, ◌++◌, length, Option, All, refl, append_assoc, arith}
+use Rattle.std.proofs.Common.{◌≡◌, ℕ, ◌<◌, ◌≤◌, ◌^◌, true, List, [], ◌∷◌, ◌++◌, length, Option, All, refl, sym, ap, subst, append_assoc, arith}
 use Rattle.std.specs.Prelude.{◌==◌}
+use Rattle.std.specs.Int.{w64}
+use Rattle.std.specs.List.{AllByRecursion, flat_map}
 use Rattle.std.specs.FinMap as map
 use Rattle.std.proofs.lemmas.Bool.{ne_eqb, not_from_false}
 use Rattle.std.proofs.lemmas.List.Elements.{All-from_recursion, recursion_from_All}
@@ -10,16 +12,19 @@ use Rattle.chart_model.specs.Cell.{CellValue}
 use Rattle.chart_model.specs.Key.{IsKey}
 use Rattle.chart_model.specs.Keys.{key_cmp}
 use Rattle.chart_model.specs.State.{IsHeld, IsHolding}
-use Rattle.page_parts.specs.Reader.{Reads, then_at}
+use Rattle.page_parts.specs.declared.version.PageVersion.{PageVersion}
+use Rattle.page_parts.specs.Reader.{Reads, then_at, then_by}
+use Rattle.page_parts.specs.Numbers.{number}
 use Rattle.page_parts.specs.Texts.{file_at, text}
-use Rattle.page_parts.specs.Lists.{AreInRange, counted_list, rising_entries, rising_entries_at}
+use Rattle.page_parts.specs.Lists.{AreInRange, counted_list, entries_at, rising_entries}
 use Rattle.page_parts.proofs.FilesRead.{IsFile, file_reads}
 use Rattle.page_parts.proofs.ListsRead.{counted_list_reads}
-use Rattle.page_parts.proofs.ReadBehind.{both_read, ranged_as, read_as, read_that, spelled_as, then_by_reads}
-use Rattle.page_parts.proofs.RisingRead.{rising_entries_reads}
+use Rattle.page_parts.proofs.NumbersRead.{eight_read}
+use Rattle.page_parts.proofs.ReadBehind.{both_read, ranged_as, read_as, read_that, seen_reads, spelled_as, then_by_reads}
+use Rattle.page_parts.proofs.RisingRead.{entries_reads}
 use Rattle.chart_pages.specs.Held.{held_at, held_numbers, key_at}
 use Rattle.chart_pages.specs.Charts.{optional_chart, optional_chart_at}
-use Rattle.chart_pages.specs.Cells.{IsCellInRange, cell, cell_at, cell_of, files_at, has_files}
+use Rattle.chart_pages.specs.Cells.{IsCellInRange, cell, cell_at, cell_count_at, cell_of, cells_at, files_at, has_files, is_cell_count}
 use Rattle.chart_pages.proofs.HeldRead.{KeysAreTested, held_reads, key_reads}
 use Rattle.chart_pages.proofs.ChartsRead.{IsOptional, optional_reads}
 
@@ -74,13 +79,13 @@ pub record IsCellEntry (entry : List ℕ × Holding) : Type 0 where
 abbrev IsChartOfHead : Head → Option CellValue → Type 0
 IsChartOfHead head value = IsOptional head.0 head.1.0 value
 
-pub cell_reads : KeysAreTested → Reads cell_at cell IsCellEntry
+pub cell_reads : KeysAreTested → (version : PageVersion) → Reads (cell_at version) (cell version) IsCellEntry
 unfolding cell cell_at
-cell_reads tested =
-    spelled_as cell
+cell_reads tested version =
+    spelled_as (cell version)
     (read_as cell_of cell_fields IsCellEntry
-    (then_by_reads (then_at key_at (then_at held_at files_at)) (λ (head : Head). optional_chart_at head.0 head.1.0) head_text (λ _ value. optional_chart value)
-    IsHead IsChartOfHead (head_reads tested) (λ head h. optional_reads head.0 head.1.0 h.key h.held))
+    (then_by_reads (then_at key_at (then_at held_at files_at)) (λ (head : Head). optional_chart_at version head.0 head.1.0) head_text (λ _ value. optional_chart version value)
+    IsHead IsChartOfHead (head_reads tested) (λ head h. optional_reads version head.0 head.1.0 h.key h.held))
     (λ x h. (
       refl,
       record {
@@ -104,5 +109,36 @@ cell_reads tested =
     )))
     (λ entry. simp append_assoc)
 
-pub cells_read : KeysAreTested → Reads (rising_entries_at key_cmp cell_at) (rising_entries cell) (λ cells. AreInRange IsCellEntry (map.entries cells))
-cells_read tested = rising_entries_reads key_cmp cell_at cell IsCellEntry (cell_reads tested)
+abbrev Cells : Type 0
+Cells = map.FinMap key_cmp Holding
+
+-- a number of eight bytes that may be the number of cells
+abbrev IsCount : PageVersion → ℕ → Type 0
+IsCount version n = (n < 2 ^ 64) × (is_cell_count version n ≡ true)
+
+count_reads : (version : PageVersion) → Reads (cell_count_at version) (number w64) (IsCount version)
+count_reads version = read_that (is_cell_count version) (λ n. is_cell_count version n ≡ true) eight_read (λ n e. e) (λ n e. e)
+
+-- each cell is one, and there may be so many
+pub record AreCells (version : PageVersion) (cells : Cells) : Type 0 where
+  pub count : is_cell_count version (length (map.entries cells)) ≡ true
+  pub each : AreInRange IsCellEntry (map.entries cells)
+
+abbrev AreEntries : Cells → Type 0
+AreEntries cells = AllByRecursion IsCellEntry (map.entries cells)
+
+pub cells_read : KeysAreTested → (version : PageVersion) → Reads (cells_at version) (rising_entries (cell version)) (AreCells version)
+unfolding cells_at rising_entries counted_list
+cells_read tested version =
+    seen_reads (λ (x : ℕ × Cells). x.1) (λ (cells : Cells). (length (map.entries cells), cells)) (then_by (cell_count_at version) (entries_at key_cmp (cell_at version)))
+    (λ x. number w64 x.0 ++ flat_map (cell version) (map.entries x.1)) (λ x. IsCount version x.0 × ((length (map.entries x.1) ≡ x.0) × AreEntries x.1)) (AreCells version)
+    (then_by_reads (cell_count_at version) (entries_at key_cmp (cell_at version)) (number w64) (λ _ cells. flat_map (cell version) (map.entries cells)) (IsCount version)
+    (λ n cells. (length (map.entries cells) ≡ n) × AreEntries cells) (count_reads version) (λ n _. entries_reads key_cmp (cell_at version) (cell version) IsCellEntry (cell_reads tested version) n))
+    (λ x h. (
+      ap (λ (n : ℕ). (n, x.1)) h.1.0,
+      record {
+        count = subst (λ (n : ℕ). is_cell_count version n ≡ true) (sym h.1.0) h.0.1;
+        each = record { count = subst (λ (n : ℕ). n < 2 ^ 64) (sym h.1.0) h.0.0; each = h.1.1 };
+      },
+    ))
+    (λ cells h. (refl, ((h.each.count, h.count), (refl, h.each.each))))

@@ -12,6 +12,7 @@ use Rattle.chart_model.specs.Names.{name_cmp}
 use Rattle.chart_model.specs.State.{IsChartOf, IsHeld}
 use Rattle.chart_model.proofs.Names.{name_cmp-total, name_cmp-IsAntisymmetric}
 use Rattle.chart_model.proofs.Maps.{Each}
+use Rattle.page_parts.specs.declared.version.PageVersion.{PageVersion}
 use Rattle.page_parts.specs.Reader.{Reads, seen_as}
 use Rattle.page_parts.specs.Lists.{AreInRange, rising_entries, rising_entries_at}
 use Rattle.page_parts.proofs.NumbersRead.{four_read, front_reads, two_read}
@@ -38,8 +39,8 @@ AreVectors vectors = AreInRange IsVectorEntry (map.entries vectors)
 abbrev AreFeatures : FinMap name_cmp Feature → Type 0
 AreFeatures features = AreInRange IsFeatureEntry (map.entries features)
 
-pub vectors_read : Reads (rising_entries_at name_cmp vector_at) (rising_entries vector_record) AreVectors
-vectors_read = rising_entries_reads name_cmp vector_at vector_record IsVectorEntry vector_reads
+pub vectors_read : (version : PageVersion) → Reads (rising_entries_at name_cmp (vector_at version)) (rising_entries (vector_record version)) AreVectors
+vectors_read version = rising_entries_reads name_cmp (vector_at version) (vector_record version) IsVectorEntry (vector_reads version)
 
 pub features_read : Reads (rising_entries_at name_cmp feature_at) (rising_entries feature_record) AreFeatures
 features_read = rising_entries_reads name_cmp feature_at feature_record IsFeatureEntry feature_reads
@@ -85,7 +86,7 @@ pub record IsOptional (key : List ℕ) (held : Held) (value : Option CellValue) 
   pub cancelled : (value ≡ None) ↔ (held.cancelled ≡ true)
   pub is : IfSome value (IsChartOf key held)
 
-module _ (key : List ℕ) (held : Held) (keyed : IsKey key) (holds : IsHeld held) where
+module _ (version : PageVersion) (key : List ℕ) (held : Held) (keyed : IsKey key) (holds : IsHeld held) where
   -- what is read is a cell
   pub chart_is_cell : (fields : Fields) → AreVectors fields.1.1.1.0 → AreFeatures fields.1.1.1.1 → IsCell (chart_of key held fields)
   chart_is_cell fields vectors features = record {
@@ -112,12 +113,12 @@ module _ (key : List ℕ) (held : Held) (keyed : IsKey key) (holds : IsHeld held
         features = value.features;
       }
 
-  pub chart_reads : Reads (chart_at key held) chart (IsChart key held)
+  pub chart_reads : Reads (chart_at version key held) (chart version) (IsChart key held)
   unfolding chart chart_at
   chart_reads =
-      spelled_as chart
+      spelled_as (chart version)
       (read_as (chart_of key held) chart_fields (IsChart key held)
-      (both_read (front_reads 8) (both_read two_read (both_read four_read (both_read vectors_read features_read))))
+      (both_read (front_reads 8) (both_read two_read (both_read four_read (both_read (vectors_read version) features_read))))
       (λ x h. (
         refl,
         record {
@@ -159,25 +160,25 @@ module _ (key : List ℕ) (held : Held) (keyed : IsKey key) (holds : IsHeld held
   }
 
   optional_taken : (b : Bool) → held.cancelled ≡ b → (bytes : List ℕ) (value : Option CellValue) (rest : List ℕ)
-      → cond b (Some (None, bytes)) (seen_as with_chart (chart_at key held) bytes) ≡ Some (value, rest) → (bytes ≡ optional_chart value ++ rest) × IsOptional key held value
+      → cond b (Some (None, bytes)) (seen_as with_chart (chart_at version key held) bytes) ≡ Some (value, rest) → (bytes ≡ optional_chart version value ++ rest) × IsOptional key held value
   unfolding optional_chart
   optional_taken true so bytes value rest e =
-      subst (λ (x : Option CellValue × List ℕ). (bytes ≡ optional_chart x.0 ++ x.1) × IsOptional key held x.0) (some_is (None, bytes) (value, rest) e) (refl, none_read so)
+      subst (λ (x : Option CellValue × List ℕ). (bytes ≡ optional_chart version x.0 ++ x.1) × IsOptional key held x.0) (some_is (None, bytes) (value, rest) e) (refl, none_read so)
   optional_taken false so bytes value rest e =
-      let a = bind_some (chart_at key held bytes) (λ (a : CellValue × List ℕ). Some (with_chart a.0, a.1)) (value, rest) e in
-      subst (λ (x : Option CellValue × List ℕ). (bytes ≡ optional_chart x.0 ++ x.1) × IsOptional key held x.0) (some_is (with_chart a.0.0, a.0.1) (value, rest) a.2)
+      let a = bind_some (chart_at version key held bytes) (λ (a : CellValue × List ℕ). Some (with_chart a.0, a.1)) (value, rest) e in
+      subst (λ (x : Option CellValue × List ℕ). (bytes ≡ optional_chart version x.0 ++ x.1) × IsOptional key held x.0) (some_is (with_chart a.0.0, a.0.1) (value, rest) a.2)
       (chart_reads.spelled bytes a.0.0 a.0.1 a.1, some_read a.0.0 so (chart_reads.ranged bytes a.0.0 a.0.1 a.1))
 
-  optional_again : (value : Option CellValue) (rest : List ℕ) → IsOptional key held value → optional_chart_at key held (optional_chart value ++ rest) ≡ Some (value, rest)
+  optional_again : (value : Option CellValue) (rest : List ℕ) → IsOptional key held value → optional_chart_at version key held (optional_chart version value ++ rest) ≡ Some (value, rest)
   unfolding optional_chart optional_chart_at
   optional_again None rest h = rw (h.cancelled.0 refl) refl
   optional_again (Some value) rest h =
-      elim held.cancelled as (λ b. held.cancelled ≡ b → cond b (Some (None, chart value ++ rest)) (seen_as with_chart (chart_at key held) (chart value ++ rest)) ≡ Some (Some value, rest)) [
+      elim held.cancelled as (λ b. held.cancelled ≡ b → cond b (Some (None, chart version value ++ rest)) (seen_as with_chart (chart_at version key held) (chart version value ++ rest)) ≡ Some (Some value, rest)) [
         | true ↦ λ so. absurd (let none : ◌≡◌ {A = Option CellValue} (Some value) None = h.cancelled.1 so in cc)
         | false ↦ λ so. rw (chart_reads.again value rest (record { range = h.range; is = h.is })) refl
       ] refl
 
-  pub optional_reads : Reads (optional_chart_at key held) optional_chart (IsOptional key held)
+  pub optional_reads : Reads (optional_chart_at version key held) (optional_chart version) (IsOptional key held)
   unfolding optional_chart_at
   optional_reads = record {
     spelled = λ bytes value rest e. (optional_taken held.cancelled refl bytes value rest e).0;

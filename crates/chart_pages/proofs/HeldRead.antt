@@ -1,5 +1,5 @@
 -- Keys, and the numbers that are held of a cell, are read as they are spelled.
-use Rattle.std.proofs.Common.{◌≡◌, ◌↔◌, ℕ, zero, suc, ◌<◌, ◌≤◌, ◌^◌, ◌&&◌, Bool, true, false, List, [], ◌∷◌, ◌++◌, length, Some, refl, subst, append_assoc, arith}
+use Rattle.std.proofs.Common.{◌≡◌, ◌↔◌, ℕ, ◌<◌, ◌≤◌, ◌^◌, ◌&&◌, Bool, true, false, List, length, refl, append_assoc, arith}
 use Rattle.std.specs.Prelude.{nat_le}
 use Rattle.std.proofs.lemmas.Bool.{and_from, and_parts, false_from_ne_true, le-leb, leb-true}
 use Rattle.chart_model.specs.declared.state.Held.{Held}
@@ -7,9 +7,9 @@ use Rattle.chart_model.specs.Key.{IsKey, is_key}
 use Rattle.chart_model.specs.State.{IsHeld}
 use Rattle.page_parts.specs.Reader.{Reads}
 use Rattle.page_parts.specs.Texts.{text}
-use Rattle.page_parts.proofs.NumbersRead.{four_read, text_reads}
-use Rattle.page_parts.proofs.ReadBehind.{both_read, ranged_as, read_as, read_that, some_is, spelled_as}
-use Rattle.chart_pages.specs.Held.{flag, flag_at, held_at, held_numbers, held_of, is_held, key_at}
+use Rattle.page_parts.proofs.NumbersRead.{flag_reads, four_read, text_reads}
+use Rattle.page_parts.proofs.ReadBehind.{both_read, ranged_as, read_as, read_that, spelled_as}
+use Rattle.chart_pages.specs.Held.{held_at, held_numbers, held_of, is_held, key_at}
 
 -- ---- keys
 
@@ -29,30 +29,6 @@ key_reads tested =
     ranged_as IsKey (read_that is_key IsKey text_reads (λ bytes e. (tested bytes).0 e) (λ bytes is. (tested bytes).1 is))
     (λ bytes h. h.1)
     (λ bytes is. (key_small bytes is, is))
-
--- ---- flags
-
-abbrev Any : Bool → Type 0
-Any value = Unit {0}
-
-flag_taken : (bytes : List ℕ) (value : Bool) (rest : List ℕ) → flag_at bytes ≡ Some (value, rest) → bytes ≡ flag value ++ rest
-unfolding flag flag_at
-flag_taken [] value rest e = absurd (cc)
-flag_taken (zero ∷ bytes) value rest e = subst (λ (x : Bool × List ℕ). 0 ∷ bytes ≡ flag x.0 ++ x.1) (some_is (false, bytes) (value, rest) e) refl
-flag_taken (suc zero ∷ bytes) value rest e = subst (λ (x : Bool × List ℕ). 1 ∷ bytes ≡ flag x.0 ++ x.1) (some_is (true, bytes) (value, rest) e) refl
-flag_taken (suc (suc more) ∷ bytes) value rest e = absurd (cc)
-
-flag_again : (value : Bool) (rest : List ℕ) → flag_at (flag value ++ rest) ≡ Some (value, rest)
-unfolding flag flag_at
-flag_again true rest = refl
-flag_again false rest = refl
-
-flag_reads : Reads flag_at flag Any
-flag_reads = record {
-  spelled = flag_taken;
-  ranged = λ bytes value rest e. tt;
-  again = λ value rest any. flag_again value rest;
-}
 
 -- ---- numbers
 

@@ -13,6 +13,7 @@ use Rattle.chart_model.specs.Attrs.{Attrs}
 use Rattle.chart_model.specs.Cell.{AreKeptTexts, IsKeptText, IsVector}
 use Rattle.chart_model.specs.Codes.{CONNECTED_NODE, EDGE, ISOLATED_NODE}
 use Rattle.chart_model.specs.Record.{IsVectorName}
+use Rattle.page_parts.specs.declared.version.PageVersion.{PageVersion}
 use Rattle.page_parts.specs.Reader.{Reads}
 use Rattle.page_parts.specs.Lists.{AreInRange}
 use Rattle.page_parts.specs.Pointers.{IsNameInRange, IsPointerInRange, name, pointer, pointer_at}
@@ -83,13 +84,13 @@ pub record IsVectorEntry (entry : Name × Vector) : Type 0 where
   pub range : IsVectorInRange entry
   pub is : IsVector entry.0 entry.1
 
-pub vector_reads : Reads vector_at vector_record IsVectorEntry
+pub vector_reads : (version : PageVersion) → Reads (vector_at version) (vector_record version) IsVectorEntry
 unfolding vector_at vector_record
-vector_reads =
-    spelled_as vector_record
+vector_reads version =
+    spelled_as (vector_record version)
     (read_as vector_of vector_fields IsVectorEntry
     (both_read vector_name_reads
-    (both_read two_read (both_read attributes_reads (both_read (counted_list_reads pointer_at pointer IsPointerInRange pointer_reads) coords_reads))))
+    (both_read two_read (both_read attributes_reads (both_read (counted_list_reads pointer_at pointer IsPointerInRange pointer_reads) (coords_reads version)))))
     (λ x h. (
       refl,
       record {

@@ -1,28 +1,18 @@
 -- Keys, and the numbers that are held of a cell.
-use Rattle.std.specs.Prelude.{ℕ, zero, suc, nat_le, Bool, true, false, ◌&&◌, List, [], ◌∷◌, ◌++◌, Some, None}
+use Rattle.std.specs.Prelude.{ℕ, nat_le, Bool, ◌&&◌, List, ◌++◌}
 use Rattle.std.specs.Int.{w32}
 use Rattle.chart_model.specs.declared.state.Held.{Held}
 use Rattle.chart_model.specs.Key.{is_key}
 use Rattle.page_parts.specs.Reader.{Reader, seen_as, that, then_at}
-use Rattle.page_parts.specs.Numbers.{byte, number, number_at}
+use Rattle.page_parts.specs.Flags.{flag, flag_at}
+use Rattle.page_parts.specs.Numbers.{number, number_at}
 use Rattle.page_parts.specs.Texts.{text_at}
-
--- 1 where it is so, and else 0
-unfoldable pub flag : Bool → List ℕ
-flag true = byte 1
-flag false = byte 0
 
 -- the edition, the update, and whether the cell is cancelled
 unfoldable pub held_numbers : Held → List ℕ
 held_numbers held = number w32 held.edition ++ number w32 held.update ++ flag held.cancelled
 
 -- ---- read
-
-unfoldable pub flag_at : Reader Bool
-flag_at [] = None
-flag_at (zero ∷ rest) = Some (false, rest)
-flag_at (suc zero ∷ rest) = Some (true, rest)
-flag_at (suc (suc more) ∷ rest) = None
 
 unfoldable pub key_at : Reader (List ℕ)
 key_at bytes = that is_key text_at bytes

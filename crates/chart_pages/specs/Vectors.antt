@@ -8,6 +8,7 @@ use Rattle.chart_model.specs.declared.record.Pointer.{Pointer}
 use Rattle.chart_model.specs.declared.cell.Vector.{Vector}
 use Rattle.chart_model.specs.Attrs.{Attrs}
 use Rattle.chart_model.specs.Codes.{CONNECTED_NODE, EDGE, ISOLATED_NODE}
+use Rattle.page_parts.specs.declared.version.PageVersion.{PageVersion}
 use Rattle.page_parts.specs.Reader.{Reader, seen_as, that, then_at}
 use Rattle.page_parts.specs.Numbers.{number, number_at}
 use Rattle.page_parts.specs.Lists.{AreInRange, counted_list, counted_list_at}
@@ -16,10 +17,10 @@ use Rattle.page_parts.specs.Coordinates.{coords, coords_at}
 use Rattle.page_parts.specs.Attributes.{IsEntryInRange, attributes, attributes_at}
 
 -- RCNM and RCID, the version, attributes, pointers and coordinates
-unfoldable pub vector_record : Name × Vector → List ℕ
-vector_record entry =
+unfoldable pub vector_record : PageVersion → Name × Vector → List ℕ
+vector_record version entry =
     name entry.0 ++ number w16 entry.1.version ++ attributes entry.1.attrs ++ counted_list pointer entry.1.pointers
-    ++ coords entry.1.coords
+    ++ coords version entry.1.coords
 
 -- each number is within its width, and so is the number of each list's parts
 pub record IsVectorInRange (entry : Name × Vector) : Type 0 where
@@ -44,9 +45,9 @@ vector_of fields = (
   record { version = fields.1.0; attrs = fields.1.1.0; pointers = fields.1.1.1.0; coords = fields.1.1.1.1 },
 )
 
-unfoldable pub vector_at : Reader (Name × Vector)
-vector_at bytes =
+unfoldable pub vector_at : PageVersion → Reader (Name × Vector)
+vector_at version bytes =
     seen_as vector_of
     (then_at vector_name_at
-    (then_at (number_at w16) (then_at attributes_at (then_at (counted_list_at pointer_at) coords_at))))
+    (then_at (number_at w16) (then_at attributes_at (then_at (counted_list_at pointer_at) (coords_at version)))))
     bytes

@@ -5,19 +5,22 @@
 
 ghost use Rattle.std.specs.Prelude.{◌≡◌, ◌++◌, OnOk, IfSome};
 ghost use Rattle.chart_model.specs.State.{IsHeld};
+ghost use Rattle.page_parts.specs.declared.version.PageVersion.TheVariants.{Second};
 ghost use Rattle.page_parts.specs.Reader.{Finds};
 ghost use Rattle.page_parts.specs.Numbers.{front_at};
 ghost use Rattle.chart_pages.specs.Charts.{IsChartInRange, chart, chart_at, optional_chart, optional_chart_at};
 
 use crate::records::{put_records, read_records};
 use chart_model::{Cell, Header, Held, Key, Octets};
-use page_parts::{PageFault, put_four_bytes, put_two_bytes, read_four_bytes, read_two_bytes};
+use page_parts::{
+    PageFault, PageVersion, put_four_bytes, put_two_bytes, read_four_bytes, read_two_bytes,
+};
 use std::alloc::{AllocError, Global};
 
 /// Adds a chart, of which the cell has said the key, the edition and the update.
 #[tactic(auto, unfolding(crate::specs::Charts::chart))]
 fn put_chart(out: &mut Octets, cell: &Cell) -> Result<(), AllocError>
-    ensures bytes { OnOk result (out.new ≡ out.old ++ chart cell.now) }
+    ensures bytes { OnOk result (out.new ≡ out.old ++ chart Second cell.now) }
     ensures in_range { OnOk result (IsChartInRange cell.now) }
 {
     out.extend_from_slice(&cell.header.issued)?;
@@ -30,7 +33,7 @@ fn put_chart(out: &mut Octets, cell: &Cell) -> Result<(), AllocError>
 /// Adds the chart where there is one.
 #[tactic(auto, unfolding(crate::specs::Charts::optional_chart))]
 pub(crate) fn put_optional_chart(out: &mut Octets, cell: &Option<Cell>) -> Result<(), AllocError>
-    ensures bytes { OnOk result (out.new ≡ out.old ++ optional_chart cell.now) }
+    ensures bytes { OnOk result (out.new ≡ out.old ++ optional_chart Second cell.now) }
     ensures in_range { OnOk result (IfSome cell.now IsChartInRange) }
 {
     match cell {
@@ -51,15 +54,21 @@ fn read_issued(bytes: &[u8]) -> Result<([u8; 8], &[u8]), PageFault>
 
 /// Reads the chart of a cell.
 #[tactic(auto, unfolding(crate::specs::Charts::chart_at))]
-fn read_chart(alloc: Global, key: Key, held: Held, bytes: &[u8]) -> Result<(Cell, &[u8]), PageFault>
+fn read_chart(
+    alloc: Global,
+    version: PageVersion,
+    key: Key,
+    held: Held,
+    bytes: &[u8],
+) -> Result<(Cell, &[u8]), PageFault>
     requires { IsHeld held }
-    ensures { Finds (λ read. (read.0, read.1.now)) result (chart_at key held bytes.now) }
+    ensures { Finds (λ read. (read.0, read.1.now)) result (chart_at version key held bytes.now) }
 {
     let (issued, rest) = read_issued(bytes)?;
     let (agency, rest) = read_two_bytes(rest)?;
     let (scale, rest) = read_four_bytes(rest)?;
-    let (vectors, rest) = read_records(alloc, rest)?;
-    let (features, rest) = read_records(alloc, rest)?;
+    let (vectors, rest) = read_records(alloc, version, rest)?;
+    let (features, rest) = read_records(alloc, version, rest)?;
     // What the bytes of a key are, which a chart's key has to be.
     let _ = key.as_slice();
     let header = Header {
@@ -82,16 +91,17 @@ fn read_chart(alloc: Global, key: Key, held: Held, bytes: &[u8]) -> Result<(Cell
 #[tactic(auto, unfolding(crate::specs::Charts::optional_chart_at))]
 pub(crate) fn read_optional_chart(
     alloc: Global,
+    version: PageVersion,
     key: Key,
     held: Held,
     bytes: &[u8],
 ) -> Result<(Option<Cell>, &[u8]), PageFault>
     requires { IsHeld held }
-    ensures { Finds (λ read. (read.0, read.1.now)) result (optional_chart_at key held bytes.now) }
+    ensures { Finds (λ read. (read.0, read.1.now)) result (optional_chart_at version key held bytes.now) }
 {
     if held.cancelled {
         return Ok((None, bytes));
     }
-    let (cell, rest) = read_chart(alloc, key, held, bytes)?;
+    let (cell, rest) = read_chart(alloc, version, key, held, bytes)?;
     Ok((Some(cell), rest))
 }

@@ -13,8 +13,8 @@ use crate::records::Record;
 use chart_model::codes::{AREA, FEATURE, NO_PRIMITIVE, NULL, POINT};
 use chart_model::{Feature, Name, Octets, Pointer, Pointers};
 use page_parts::{
-    PageFault, put_attributes, put_foid, put_list, read_attributes, read_byte, read_foid,
-    read_four_bytes, read_list, read_two_bytes,
+    PageFault, PageVersion, put_attributes, put_foid, put_list, read_attributes, read_byte,
+    read_foid, read_four_bytes, read_list, read_two_bytes,
 };
 use std::alloc::{AllocError, Global};
 
@@ -87,14 +87,18 @@ fn identifier_bytes(rcid: u32, prim: u8, grup: u8, class: u16, version: u16) -> 
 impl Record for Feature {
     ghost use Rattle.chart_pages.specs.Features.{IsFeatureInRange, feature_at, feature_record};
 
-    ghost record_at = { feature_at };
+    ghost record_at = { λ _. feature_at };
 
     ghost spelling = { feature_record };
 
     ghost is_in_range = { IsFeatureInRange };
 
     #[tactic(auto, unfolding(crate::specs::Features::feature_at))]
-    fn read(alloc: Global, bytes: &[u8]) -> Result<((Name, Feature), &[u8]), PageFault> {
+    fn read(
+        alloc: Global,
+        _version: PageVersion,
+        bytes: &[u8],
+    ) -> Result<((Name, Feature), &[u8]), PageFault> {
         let (name, rest) = read_feature_name(bytes)?;
         let (prim, rest) = read_prim(rest)?;
         let (grup, rest) = read_byte(rest)?;

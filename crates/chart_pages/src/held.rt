@@ -1,15 +1,15 @@
 //! Keys, and the numbers that are held of a cell.
 //!
 //! EDTN and UPDN have at most nine digits, and a base file's edition isn't 0, so greater numbers and edition 0 are held
-//! of no cell, and are refused. Of the bytes of a flag 0 and 1 alone are read, so that it has one spelling.
+//! of no cell, and are refused.
 
 ghost use Rattle.std.specs.Prelude.{◌≡◌, ◌++◌, OnOk, IfOk};
 ghost use Rattle.chart_model.specs.State.{IsHeld};
 ghost use Rattle.page_parts.specs.Reader.{Finds};
-ghost use Rattle.chart_pages.specs.Held.{flag, flag_at, held_at, held_numbers, is_held, key_at};
+ghost use Rattle.chart_pages.specs.Held.{held_at, held_numbers, is_held, key_at};
 
 use chart_model::{Held, Key, Octets, keys_are_tested};
-use page_parts::{PageFault, put_byte, put_four_bytes, read_four_bytes, read_span};
+use page_parts::{PageFault, put_flag, put_four_bytes, read_flag, read_four_bytes, read_span};
 use std::alloc::AllocError;
 
 /// Reads a key, which is a text.
@@ -22,30 +22,6 @@ pub(crate) fn read_key(bytes: &[u8]) -> Result<(Key, &[u8]), PageFault>
     match Key::from_bytes(text) {
         Some(key) => Ok((key, rest)),
         None => Err(PageFault::Unspelled),
-    }
-}
-
-/// Adds a flag.
-#[tactic(auto, unfolding(crate::specs::Held::flag))]
-fn put_flag(out: &mut Octets, value: bool) -> Result<(), AllocError>
-    ensures { OnOk result (out.new ≡ out.old ++ flag value) }
-{
-    if value {
-        put_byte(out, 1)
-    } else {
-        put_byte(out, 0)
-    }
-}
-
-/// Reads a flag.
-#[tactic(auto, unfolding(crate::specs::Held::flag_at))]
-fn read_flag(bytes: &[u8]) -> Result<(bool, &[u8]), PageFault>
-    ensures { Finds (λ read. (read.0, read.1.now)) result (flag_at bytes.now) }
-{
-    match bytes {
-        [0, rest @ ..] => Ok((false, rest)),
-        [1, rest @ ..] => Ok((true, rest)),
-        _ => Err(PageFault::Unspelled),
     }
 }
 

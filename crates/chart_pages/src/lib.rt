@@ -1,13 +1,14 @@
 //! A store's state as the bytes of a checkpoint, and such bytes as the state.
 //!
-//! A state has one spelling, so a bank's bytes stand for one state and no other, and what was written is read back as
-//! it was. Any bytes may come from a disk: those that spell no state are told, and no memory is taken for what a count
+//! There are two versions. In each a state has one spelling, and none is a spelling in both, so a bank's bytes stand for
+//! one state and no other, and what was written is read back as it was. Both are read, and the second is written. Any bytes may come from a disk: those that spell no state are told, and no memory is taken for what a count
 //! promises and the bytes don't have.
 //!
 //! All numbers have their most significant byte first. A count has eight bytes, and so has the length in front of a
 //! text.
 //!
-//! - A checkpoint is a count of cells, and the cells in the order of their keys.
+//! - A checkpoint of the first version is a count of cells, at most 0xFFFFFFFE, and the cells in the order of their keys.
+//!   One of the second is 0xFFFFFFFF, 0x00000002, and the same with other coordinates.
 //! - A cell is its key as a text, edition (4 bytes), update (4), a flag that says whether it is cancelled, a count of
 //!   files with each as a text, and unless it is cancelled the chart.
 //! - A chart is issued (8), agency (2), scale (4), a count of vectors with the vectors in the order of their names, and
@@ -28,6 +29,7 @@ mod held;
 mod laws;
 mod records;
 mod vectors;
+mod version;
 
 pub use decode::decode_store;
 pub use encode::encode_store;

@@ -11,27 +11,32 @@ ghost use Rattle.page_parts.specs.Reader.{Finds};
 ghost use Rattle.page_parts.specs.Lists.{AreInRange, entries_at, rising_entries, rising_entries_at};
 
 use chart_model::{Name, NameMap, Octets};
-use page_parts::{PageFault, is_behind, put_eight_bytes, read_eight_bytes};
+use page_parts::{PageFault, PageVersion, is_behind, put_eight_bytes, read_eight_bytes};
 use std::alloc::{AllocError, Global};
 
 /// A record that stands under its name.
 pub(crate) trait Record: Drop {
     ghost use Rattle.std.specs.Prelude.{List, ℕ};
     ghost use Rattle.chart_model.specs.declared.name.Name.{Name as NameValue};
+    ghost use Rattle.page_parts.specs.declared.version.PageVersion.{PageVersion as VersionValue};
     ghost use Rattle.page_parts.specs.Reader.{Reader};
 
-    /// The name and the record that bytes begin with.
-    ghost record_at: { Reader (NameValue × Self) };
+    /// The name and the record that bytes of a version begin with.
+    ghost record_at: { VersionValue → Reader (NameValue × Self) };
 
-    /// Their bytes.
+    /// Their bytes in the second version.
     ghost spelling: { NameValue × Self → List ℕ };
 
     /// Their numbers are within their widths.
     ghost is_in_range: { NameValue × Self → Type 0 };
 
     /// Reads the name and the record at the front of bytes.
-    fn read(alloc: Global, bytes: &[u8]) -> Result<((Name, Self), &[u8]), PageFault>
-        ensures { Finds (λ read. (read.0, read.1.now)) result (record_at bytes.now) };
+    fn read(
+        alloc: Global,
+        version: PageVersion,
+        bytes: &[u8],
+    ) -> Result<((Name, Self), &[u8]), PageFault>
+        ensures { Finds (λ read. (read.0, read.1.now)) result (record_at version bytes.now) };
 
     /// Adds the name and the record behind other bytes.
     fn put(&self, out: &mut Octets, name: Name) -> Result<(), AllocError>
@@ -65,16 +70,18 @@ pub(crate) fn put_records<R: Record>(
 /// Reads so many records, in the order of their names.
 fn read_each<R: Record>(
     alloc: Global,
+    version: PageVersion,
     count: usize,
     bytes: &[u8],
 ) -> Result<(NameMap<R>, &[u8]), PageFault>
-    ensures { Finds (λ read. (read.0, read.1.now)) result (entries_at name_cmp R.record_at count bytes.now) }
+    ensures { Finds (λ read. (read.0, read.1.now)) result
+        (entries_at name_cmp (R.record_at version) count bytes.now) }
 {
     let mut records = NameMap::new(alloc);
     let mut last = None;
     let mut rest = bytes;
     for _ in 0..count {
-        let ((name, value), after) = R::read(alloc, rest)?;
+        let ((name, value), after) = R::read(alloc, version, rest)?;
         if !is_behind(&last, &name) {
             return Err(PageFault::Unspelled);
         }
@@ -89,10 +96,11 @@ fn read_each<R: Record>(
 #[tactic(auto, unfolding(page_parts::specs::Lists::rising_entries_at))]
 pub(crate) fn read_records<R: Record>(
     alloc: Global,
+    version: PageVersion,
     bytes: &[u8],
 ) -> Result<(NameMap<R>, &[u8]), PageFault>
-    ensures { Finds (λ read. (read.0, read.1.now)) result (rising_entries_at name_cmp R.record_at bytes.now) }
+    ensures { Finds (λ read. (read.0, read.1.now)) result (rising_entries_at name_cmp (R.record_at version) bytes.now) }
 {
     let (count, rest) = read_eight_bytes(bytes)?;
-    read_each(alloc, count, rest)
+    read_each(alloc, version, count, rest)
 }

@@ -14,8 +14,8 @@ use crate::records::Record;
 use chart_model::codes::{CONNECTED_NODE, EDGE, ISOLATED_NODE};
 use chart_model::{Name, Octets, Vector};
 use page_parts::{
-    PageFault, name_bytes, put_attributes, put_coords, put_list, read_attributes, read_coords,
-    read_list, read_name, read_two_bytes,
+    PageFault, PageVersion, name_bytes, put_attributes, put_coords, put_list, read_attributes,
+    read_coords, read_list, read_name, read_two_bytes,
 };
 use std::alloc::{AllocError, Global};
 
@@ -51,23 +51,28 @@ fn head_bytes(value: Name, version: u16) -> [u8; 7]
 }
 
 impl Record for Vector {
+    ghost use Rattle.page_parts.specs.declared.version.PageVersion.TheVariants.{Second};
     ghost use Rattle.chart_pages.specs.Vectors.{IsVectorInRange, vector_at, vector_record};
 
     ghost record_at = { vector_at };
 
-    ghost spelling = { vector_record };
+    ghost spelling = { vector_record Second };
 
     ghost is_in_range = { IsVectorInRange };
 
     #[tactic(auto, unfolding(crate::specs::Vectors::vector_at))]
-    fn read(alloc: Global, bytes: &[u8]) -> Result<((Name, Vector), &[u8]), PageFault> {
+    fn read(
+        alloc: Global,
+        version: PageVersion,
+        bytes: &[u8],
+    ) -> Result<((Name, Vector), &[u8]), PageFault> {
         let (name, rest) = read_vector_name(bytes)?;
-        let (version, rest) = read_two_bytes(rest)?;
+        let (record_version, rest) = read_two_bytes(rest)?;
         let (attrs, rest) = read_attributes(alloc, rest)?;
         let (pointers, rest) = read_list(alloc, rest)?;
-        let (coords, rest) = read_coords(alloc, rest)?;
+        let (coords, rest) = read_coords(alloc, version, rest)?;
         let vector = Vector {
-            version,
+            version: record_version,
             attrs,
             pointers,
             coords,

@@ -12,14 +12,16 @@ use Rattle.chart_model.specs.Cell.{CellValue, IsCell}
 use Rattle.chart_model.specs.State.{IsChartOf, IsHolding, IsState, StateValue}
 use Rattle.chart_model.specs.declared.state.Holding.{Holding}
 use Rattle.chart_model.proofs.Keys.{key_cmp-total, key_cmp-IsAntisymmetric}
-use Rattle.page_parts.specs.Lists.{counted_list, rising_entries, rising_entries_at}
+use Rattle.page_parts.specs.declared.version.PageVersion.{PageVersion}
+use Rattle.page_parts.specs.declared.version.PageVersion.TheVariants.{First, Second}
+use Rattle.page_parts.specs.Lists.{counted_list, rising_entries}
 use Rattle.page_parts.specs.Numbers.{number}
 use Rattle.page_parts.specs.Texts.{text}
-use Rattle.chart_pages.specs.Cells.{cell}
+use Rattle.chart_pages.specs.Cells.{cell, cells_at}
 use Rattle.chart_pages.specs.Charts.{optional_chart}
-use Rattle.chart_pages.specs.Grammar.{spelling}
+use Rattle.chart_pages.specs.Grammar.{MARK, spelling, checkpoint_of}
 use Rattle.chart_pages.specs.Held.{held_numbers}
-use Rattle.chart_pages.specs.Reading.{state_in}
+use Rattle.chart_pages.specs.Reading.{state_by, state_in, version_in}
 use Rattle.chart_pages.proofs.Entries.{all_of_each, each_of_all}
 use Rattle.chart_store.specs.Checkpoint.{checkpoint_in, have_closed_charts, is_closed_chart, where_closed}
 use Rattle.chart_store.specs.Live.{AreClosed, HasClosedChart}
@@ -28,7 +30,7 @@ use Rattle.chart_store.specs.Loaded.{bytes_of, live_bytes, nothing_held}
 -- ---- by its bytes
 
 nothing_spelled : state_in [] ≡ None
-unfolding state_in rising_entries_at
+unfolding state_in state_by version_in cells_at
 nothing_spelled = refl
 
 -- no bytes say that nothing is held
@@ -133,10 +135,10 @@ each-faultless law (entry ∷ es) holds closed =
     ∙ each-faultless law es holds.1 closed.1
 
 -- what is held is said by its own spelling
-pub own-said : ClosedHasNoFault → (state : StateValue) → state_in (spelling state) ≡ Some state → IsState state →
-    AreClosed state.cells → checkpoint_in (spelling state) ≡ Some state
+pub own-said : ClosedHasNoFault → (state : StateValue) → state_in (checkpoint_of state) ≡ Some state →
+    IsState state → AreClosed state.cells → checkpoint_in (checkpoint_of state) ≡ Some state
 own-said law state spelled is closed =
-    closed-said (spelling state) state spelled
+    closed-said (checkpoint_of state) state spelled
     (each-faultless law (finite.entries state.cells)
     (all_of_each key_cmp-total key_cmp-IsAntisymmetric IsHolding state.cells is.cells)
     (all_of_each key_cmp-total key_cmp-IsAntisymmetric HasClosedChart state.cells closed))
@@ -158,16 +160,16 @@ files-least (file ∷ files) =
       length-append (text file) (flat_map text files),
     )
 
-cell-least : (entry : Entry) → bytes_of entry.1.files ≤ length (cell entry)
+cell-least : (version : PageVersion) (entry : Entry) → bytes_of entry.1.files ≤ length (cell version entry)
 unfolding cell counted_list
-cell-least entry =
+cell-least version entry =
     omega (
       arith,
       files-least entry.1.files,
       length-append (number w64 (length entry.1.files)) (flat_map text entry.1.files),
       length-append (text entry.0 ++ held_numbers entry.1.held) (counted_list text entry.1.files),
       length-append (text entry.0 ++ held_numbers entry.1.held ++ counted_list text entry.1.files)
-          (optional_chart entry.1.chart),
+          (optional_chart version entry.1.chart),
     )
 
 -- the bytes of the live files of these cells
@@ -188,25 +190,33 @@ module _ (sum total : ℕ) (all rest : List Entry) (entry : Entry) (steps : all 
   pub bytes-go : (more : ℕ) → more ≡ bytes_of entry.1.files → sum + more + entries_bytes rest ≡ total
   bytes-go more adds = omega (arith, bytes-split, so_far, adds)
 
-cells-least : (es : List Entry) → entries_bytes es ≤ length (flat_map cell es)
-cells-least [] = omega arith
-cells-least (entry ∷ es) =
+cells-least : (version : PageVersion) (es : List Entry) → entries_bytes es ≤ length (flat_map (cell version) es)
+cells-least version [] = omega arith
+cells-least version (entry ∷ es) =
     omega (
       arith,
       sum_by-cons (λ (here : Holding). bytes_of here.files) entry.1 (map (λ (e : Entry). e.1) es),
-      cell-least entry,
-      cells-least es,
-      length-append (cell entry) (flat_map cell es),
+      cell-least version entry,
+      cells-least version es,
+      length-append (cell version entry) (flat_map (cell version) es),
     )
 
 -- the live files have no more bytes than the checkpoint
-pub live-least : (state : StateValue) → live_bytes state.cells ≤ length (spelling state)
-unfolding spelling rising_entries counted_list
-live-least state =
-    let least : live_bytes state.cells ≤ length (flat_map cell (finite.entries state.cells)) =
-    cells-least (finite.entries state.cells) in
+entries-least : (version : PageVersion) (state : StateValue) →
+    live_bytes state.cells ≤ length (rising_entries (cell version) state.cells)
+unfolding rising_entries counted_list
+entries-least version state =
+    let least : live_bytes state.cells ≤ length (flat_map (cell version) (finite.entries state.cells)) =
+    cells-least version (finite.entries state.cells) in
     omega (
       arith,
       least,
-      length-append (number w64 (length (finite.entries state.cells))) (flat_map cell (finite.entries state.cells)),
+      length-append (number w64 (length (finite.entries state.cells)))
+          (flat_map (cell version) (finite.entries state.cells)),
     )
+
+pub live-least : (version : PageVersion) (state : StateValue) → live_bytes state.cells ≤ length (spelling version state)
+unfolding spelling
+live-least First state = entries-least First state
+live-least Second state =
+    omega (arith, entries-least Second state, length-append MARK (rising_entries (cell Second) state.cells))

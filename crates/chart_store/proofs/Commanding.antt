@@ -1,5 +1,5 @@
 -- What a command that is accepted leaves.
-use Rattle.std.proofs.Common.{◌≡◌, ◌≢◌, ℕ, List, [], ◌∷◌, ◌++◌, Option, Some, None, Result, Ok, Err, refl, sym}
+use Rattle.std.proofs.Common.{◌≡◌, ◌≢◌, inl, inr, ℕ, List, [], ◌∷◌, ◌++◌, Option, Some, None, Result, Ok, Err, refl, sym}
 use Rattle.std.proofs.Common.{◌∙◌, ap, subst, fold, Bool, cond}
 use Rattle.std.specs.Prelude.{unwrap_or}
 use Rattle.std.specs.FinMap as map
@@ -7,7 +7,7 @@ use Rattle.chart_model.specs.Answers.{◌>>=◌, or_fault}
 use Rattle.chart_model.specs.Cell.{CellValue}
 use Rattle.chart_model.specs.State.{StateValue}
 use Rattle.chart_model.specs.declared.command.Command.{Command}
-use Rattle.chart_model.specs.declared.command.Command.TheVariants.{Load, Rollback, Drop}
+use Rattle.chart_model.specs.declared.command.Command.TheVariants.{Load, Rollback, Drop, Set}
 use Rattle.chart_model.specs.declared.state.Held.{Held}
 use Rattle.chart_model.specs.declared.state.Holding.{Holding}
 use Rattle.update_sequence.specs.Rebuilt.{rebuilt}
@@ -17,11 +17,11 @@ use Rattle.chart_store.specs.declared.refusal.Refusal.TheVariants.{NoCell, NoUpd
 use Rattle.chart_store.specs.Images.{AreAccepted}
 use Rattle.chart_store.specs.KeptFiles.{kept_by}
 use Rattle.chart_store.specs.Live.{IsLive, AreLive, state_or, state_after, state_by}
-use Rattle.chart_store.specs.Loaded.{Outcome, HoldingsByKey, nothing_held}
+use Rattle.chart_store.specs.Loaded.{Outcome, HoldingsByKey, loaded, nothing_held}
 use Rattle.chart_store.specs.Next.{cells_with, outcome_by}
 use Rattle.chart_store.specs.declared.next.Next.{Next}
 use Rattle.chart_store.specs.Outcome.{left_by, outcome_of_rollback, outcome_of_drop, outcome, state_with, after, charts}
-use Rattle.chart_store.specs.Outcome.{IsKeyOf}
+use Rattle.chart_store.specs.Outcome.{IsKeyOf, IsKeyOfFile, IsKeyOfOne, IsSingle, outcome_of_set}
 use Rattle.chart_store.specs.Loaded.{chart_of}
 use Rattle.chart_model.proofs.Keys.{key_cmp-total}
 use Rattle.chart_store.proofs.Accepting.{loaded-is, accepted-is, loaded-alone, loaded-live, apart}
@@ -143,7 +143,32 @@ left-live sequences holds key number before files kept keeps =
       builds = refl;
     }
 
+-- ---- a set of which a file is loaded before others
+
+-- the first file is accepted, and then the others are
+pub record IsSetBy (state : StateValue) (file next : List ℕ) (files : List (List ℕ)) (done : Outcome) : Type 0 where
+  pub first : Outcome
+  pub loads : loaded state file ≡ Ok first
+  pub others : outcome_of_set first.state (next ∷ files) ≡ Ok done
+
+pub outcome_of_set-is : (state : StateValue) (file next : List ℕ) (files : List (List ℕ)) (done : Outcome) →
+    outcome_of_set state (file ∷ (next ∷ files)) ≡ Ok done → IsSetBy state file next files done
+outcome_of_set-is state file next files done e = by-first (loaded state file) refl e
+  where
+    by-first : (r : Result Outcome Refusal) → loaded state file ≡ r →
+        (r >>= λ first. outcome_of_set first.state (next ∷ files)) ≡ Ok done → IsSetBy state file next files done
+    by-first (Ok first) loads e = record { first = first; loads = loads; others = e }
+    by-first (Err refusal) loads e = absurd cc
+
 module _ (laws : Laws) (sequences : Sequences) (holds : Holds) where
+  set-live : (state : StateValue) (files : List (List ℕ)) (done : Outcome) → AreLive state.cells →
+      outcome_of_set state files ≡ Ok done → AreLive done.state.cells
+  set-live state [] done live e = absurd cc
+  set-live state (file ∷ []) done live e = loaded-live laws state file done live e
+  set-live state (file ∷ (next ∷ files)) done live e =
+      let s = outcome_of_set-is state file next files done e in
+      set-live s.first.state (next ∷ files) done (loaded-live laws state file s.first live s.loads) s.others
+
   outcome-live : (state : StateValue) (command : Command) (done : Outcome) → AreLive state.cells →
       outcome state command ≡ Ok done → AreLive done.state.cells
   unfolding outcome
@@ -156,6 +181,7 @@ module _ (laws : Laws) (sequences : Sequences) (holds : Holds) where
   outcome-live state (Drop key) done live e =
       let d = outcome_of_drop-is state key done e in
       subst (λ (d : Outcome). AreLive d.state.cells) d.leaves (AreLive-with state.cells key None live tt)
+  outcome-live state (Set files) done live e = set-live state files done live e
 
   pub state_with-live : (state : StateValue) (command : Command) → AreLive state.cells →
       AreLive (state_with state command).cells
@@ -229,16 +255,29 @@ charts-live laws state key live = sym (chart-before laws key (map.get state.cell
 
 -- ---- the cell of a command
 
-pub outcome-keyed : (state : StateValue) (command : Command) (done : Outcome) → outcome state command ≡ Ok done →
-    IsKeyOf command done.key
-unfolding outcome
-outcome-keyed state (Load file) done e =
+pub loaded-keyed : (state : StateValue) (file : List ℕ) (done : Outcome) → loaded state file ≡ Ok done →
+    IsKeyOfFile file done.key
+loaded-keyed state file done e =
     let l = loaded-is state file done e in
     let p = accepted-is state l.dataset file _ done l.accepts in
     (l.dataset, l.reads, p.keyed)
+
+set-keyed : (state : StateValue) (files : List (List ℕ)) (done : Outcome) → outcome_of_set state files ≡ Ok done →
+    IsKeyOfOne files done.key
+set-keyed state [] done e = absurd cc
+set-keyed state (file ∷ []) done e = inl (loaded-keyed state file done e)
+set-keyed state (file ∷ (next ∷ files)) done e =
+    let s = outcome_of_set-is state file next files done e in
+    inr (set-keyed s.first.state (next ∷ files) done s.others)
+
+pub outcome-keyed : (state : StateValue) (command : Command) (done : Outcome) → outcome state command ≡ Ok done →
+    IsKeyOf command done.key
+unfolding outcome
+outcome-keyed state (Load file) done e = loaded-keyed state file done e
 outcome-keyed state (Rollback key number) done e =
     ap (λ (d : Outcome). d.key) (outcome_of_rollback-is state key number done e).leaves
 outcome-keyed state (Drop key) done e = ap (λ (d : Outcome). d.key) (outcome_of_drop-is state key done e).leaves
+outcome-keyed state (Set files) done e = set-keyed state files done e
 
 get-apart : (cells : HoldingsByKey) (key other : List ℕ) (holding : Option Holding) → other ≢ key →
     map.get (cells_with cells key holding) other ≡ map.get cells other
@@ -249,16 +288,47 @@ get-apart cells key other (Some here) h =
     map.get-insert key_cmp-total cells key here other
     ∙ ap (λ (b : Bool). cond b (Some here) (map.get cells other)) (apart other key h)
 
-pub outcome-alone : (state : StateValue) (command : Command) (done : Outcome) (key : List ℕ) →
+pub outcome-single : (state : StateValue) (command : Command) (done : Outcome) (key : List ℕ) → IsSingle command →
     outcome state command ≡ Ok done → key ≢ done.key → map.get done.state.cells key ≡ map.get state.cells key
 unfolding outcome
-outcome-alone state (Load file) done key e other = loaded-alone state file done key e other
-outcome-alone state (Rollback own number) done key e other =
+outcome-single state (Load file) done key single e other = loaded-alone state file done key e other
+outcome-single state (Rollback own number) done key single e other =
     let r = outcome_of_rollback-is state own number done e in
     ap (λ (d : Outcome). map.get d.state.cells key) (sym r.leaves)
     ∙ get-apart state.cells own key (Some (left_by r.here.held r.kept))
     (λ same. other (same ∙ ap (λ (d : Outcome). d.key) r.leaves))
-outcome-alone state (Drop own) done key e other =
+outcome-single state (Drop own) done key single e other =
     let d = outcome_of_drop-is state own done e in
     ap (λ (d : Outcome). map.get d.state.cells key) (sym d.leaves)
     ∙ get-apart state.cells own key None (λ same. other (same ∙ ap (λ (d : Outcome). d.key) d.leaves))
+outcome-single state (Set files) done key single e other = absurd single
+
+-- a cell of which no file is, is none that a file changes
+pub file-alone : (state : StateValue) (file : List ℕ) (done : Outcome) (key : List ℕ) → loaded state file ≡ Ok done →
+    ¬ IsKeyOfFile file key → map.get done.state.cells key ≡ map.get state.cells key
+file-alone state file done key e other =
+    loaded-alone state file done key e
+    (λ same. other (subst (λ (k : List ℕ). IsKeyOfFile file k) (sym same) (loaded-keyed state file done e)))
+
+pub set-alone : (state : StateValue) (files : List (List ℕ)) (done : Outcome) (key : List ℕ) →
+    outcome_of_set state files ≡ Ok done → ¬ IsKeyOfOne files key →
+    map.get done.state.cells key ≡ map.get state.cells key
+set-alone state [] done key e other = absurd cc
+set-alone state (file ∷ []) done key e other = file-alone state file done key e (λ is. other (inl is))
+set-alone state (file ∷ (next ∷ files)) done key e other =
+    let s = outcome_of_set-is state file next files done e in
+    set-alone s.first.state (next ∷ files) done key s.others (λ is. other (inr is))
+    ∙ file-alone state file s.first key s.loads (λ is. other (inl is))
+
+pub outcome-alone : (state : StateValue) (command : Command) (done : Outcome) (key : List ℕ) →
+    outcome state command ≡ Ok done → ¬ IsKeyOf command key →
+    map.get done.state.cells key ≡ map.get state.cells key
+unfolding outcome
+outcome-alone state (Load file) done key e other = file-alone state file done key e other
+outcome-alone state (Rollback own number) done key e other =
+    outcome-single state (Rollback own number) done key tt e
+    (λ same. other (sym (same ∙ sym (outcome-keyed state (Rollback own number) done e))))
+outcome-alone state (Drop own) done key e other =
+    outcome-single state (Drop own) done key tt e
+    (λ same. other (sym (same ∙ sym (outcome-keyed state (Drop own) done e))))
+outcome-alone state (Set files) done key e other = set-alone state files done key e other

@@ -9,6 +9,7 @@ mod Placing
 mod Keeping
 mod Following
 mod Commanding
+mod Sets
 mod Reissuing
 mod Differing
 mod Taking
@@ -16,8 +17,10 @@ mod Preparing
 mod Checkpoints
 mod Naming
 mod Reading
+mod SetRows
 mod Replaying
 mod Submitting
+mod SetRecords
 mod Saved
 mod Staying
 mod Leaving

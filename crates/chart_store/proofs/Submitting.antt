@@ -48,7 +48,7 @@ use Rattle.chart_store.proofs.Naming.{left_says, read_says}
 -- ---- the room
 
 -- what the store answers where a pair lacks room
-abbrev lacking : Option Lack → Result (Unit {0}) Refusal
+abbrev pub lacking : Option Lack → Result (Unit {0}) Refusal
 lacking None = Ok tt
 lacking (Some lack) = Err (BankFull lack.length lack.need)
 
@@ -79,7 +79,7 @@ lacks_by : (full : Bool) (used need : ℕ) (save : Option SaveValue) →
 lacks_by true used need save = refl
 lacks_by false used need save = other_lacks save need
 
-room_lacks : (pair : PairValue) (need : ℕ) → room_within (room_by pair) need ≡ lacking (lack_for pair need)
+pub room_lacks : (pair : PairValue) (need : ℕ) → room_within (room_by pair) need ≡ lacking (lack_for pair need)
 room_lacks pair need = lacks_by (ltb BANK_LIMIT (pair.gate + 1 + need)) (pair.gate + 1) need pair.save
 
 -- ---- what is answered

@@ -27,6 +27,10 @@ abbrev pub left_by_outcome : Result Outcome Refusal → Option StateValue
 left_by_outcome (Ok done) = Some done.state
 left_by_outcome (Err refusal) = None
 
+-- the same, or its refusal
+abbrev pub state_by_outcome : Result Outcome Refusal → Result StateValue Refusal
+state_by_outcome left = left >>= λ done. Ok done.state
+
 -- what is held after a record: its body spells a command that is accepted, but for the room in the bank
 abbrev pub state_after_record : StateValue → List ℕ → Option StateValue
 state_after_record state body = option_and_then (λ command. left_by_outcome (outcome state command)) (command_in body)

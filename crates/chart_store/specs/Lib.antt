@@ -18,5 +18,6 @@ pub mod Opened
 pub mod Prepared
 pub mod Staging
 pub mod Begun
+pub mod Sets
 pub mod Keeping
 pub mod Staged

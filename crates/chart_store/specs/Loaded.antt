@@ -92,7 +92,7 @@ within_limit file = if nat_le (length file) FILE_LIMIT then Ok file else Err (Fi
 
 -- the most cells that are held, cancelled ones too
 abbrev pub CELLS_LIMIT : ℕ
-CELLS_LIMIT = 32
+CELLS_LIMIT = 256
 
 -- no room for the cell of this key, which is another
 abbrev pub is_full_for : HoldingsByKey → List ℕ → Bool

@@ -1,5 +1,5 @@
 -- A command that is given: by what is held it is accepted, or refused.
-use Rattle.std.specs.Prelude.{◌≡◌, ◌+◌, ◌*◌, ℕ, nat_lt, if◌then◌else◌, List, fold, length}
+use Rattle.std.specs.Prelude.{◌≡◌, ◌⊎◌, ◌+◌, ◌*◌, ℕ, nat_lt, if◌then◌else◌, List, [], ◌∷◌, fold, length, sum_by}
 use Rattle.std.specs.Prelude.{Option, Some, None, option_map, unwrap_or, Result, Ok, Err}
 use Rattle.std.specs.FinMap as map
 use Rattle.chart_model.specs.Answers.{◌>>=◌, or_fault}
@@ -7,14 +7,14 @@ use Rattle.chart_model.specs.Cell.{CellValue}
 use Rattle.chart_model.specs.Dataset.{DatasetValue}
 use Rattle.chart_model.specs.State.{StateValue}
 use Rattle.chart_model.specs.declared.command.Command.{Command}
-use Rattle.chart_model.specs.declared.command.Command.TheVariants.{Load, Rollback, Drop}
+use Rattle.chart_model.specs.declared.command.Command.TheVariants.{Load, Rollback, Drop, Set}
 use Rattle.chart_model.specs.declared.state.Held.{Held}
 use Rattle.chart_model.specs.declared.state.Holding.{Holding}
 use Rattle.command_codec.specs.Spelling.{spelling}
 use Rattle.update_sequence.specs.Reading.{data_set_in}
 use Rattle.update_sequence.specs.Rebuilt.{held_by, rebuilt, data_records_of}
 use Rattle.chart_store.specs.declared.refusal.Refusal.{Refusal}
-use Rattle.chart_store.specs.declared.refusal.Refusal.TheVariants.{BankFull, NoCell, NoUpdate}
+use Rattle.chart_store.specs.declared.refusal.Refusal.TheVariants.{BankFull, NoCell, NoGeneral, NoUpdate}
 use Rattle.chart_store.specs.KeptFiles.{kept_by}
 use Rattle.chart_store.specs.Live.{state_or}
 use Rattle.chart_store.specs.Loaded.{files_of, Outcome, loaded, come_to}
@@ -42,6 +42,17 @@ outcome_of_drop state key = do
   here ← or_fault (NoCell key) (map.get state.cells key)
   Ok (record { key = key; held = here.held; state = record { cells = map.remove state.cells key } })
 
+-- ---- a set
+
+-- Files are loaded one after the other; the cell and the numbers are those of the last. A set has a file, so what stands
+-- for none is never seen.
+abbrev pub outcome_of_set : StateValue → List (List ℕ) → Result Outcome Refusal
+outcome_of_set state [] = Err NoGeneral
+outcome_of_set state (file ∷ []) = loaded state file
+outcome_of_set state (file ∷ (next ∷ files)) = do
+  done ← loaded state file
+  outcome_of_set done.state (next ∷ files)
+
 -- ---- a command
 
 -- what is held once the command is accepted, or its first refusal, but for the room in the bank
@@ -49,19 +60,38 @@ unfoldable pub outcome : StateValue → Command → Result Outcome Refusal
 outcome state (Load file) = loaded state file
 outcome state (Rollback key number) = outcome_of_rollback state key number
 outcome state (Drop key) = outcome_of_drop state key
+outcome state (Set files) = outcome_of_set state files
 
--- the cell that a command speaks of
+-- the command speaks of one cell alone
+abbrev pub IsSingle : Command → Type 0
+IsSingle (Load file) = Unit {0}
+IsSingle (Rollback key number) = Unit {0}
+IsSingle (Drop key) = Unit {0}
+IsSingle (Set files) = ⊥
+
+-- the cell that a file is of
+abbrev pub IsKeyOfFile : List ℕ → List ℕ → Type 0
+IsKeyOfFile file key = (dataset : DatasetValue) × (data_set_in file ≡ Ok dataset) × (dataset.header.key ≡ key)
+
+-- a cell that one of the files is of
+abbrev pub IsKeyOfOne : List (List ℕ) → List ℕ → Type 0
+IsKeyOfOne [] key = ⊥
+IsKeyOfOne (file ∷ files) key = IsKeyOfFile file key ⊎ IsKeyOfOne files key
+
+-- a cell that a command speaks of
 abbrev pub IsKeyOf : Command → List ℕ → Type 0
-IsKeyOf (Load file) key = (dataset : DatasetValue) × (data_set_in file ≡ Ok dataset) × (dataset.header.key ≡ key)
+IsKeyOf (Load file) key = IsKeyOfFile file key
 IsKeyOf (Rollback own number) key = own ≡ key
 IsKeyOf (Drop own) key = own ≡ key
+IsKeyOf (Set files) key = IsKeyOfOne files key
 
--- how many data records are come to at most: those of a file that is loaded once, those of a cell's files that is
+-- how many data records are come to at most: those of each file that is loaded once, those of a cell's files that is
 -- rolled back twice
 abbrev pub most_steps : StateValue → Command → ℕ
 most_steps state (Load file) = come_to file
 most_steps state (Rollback key number) = 2 * data_records_of (files_of (map.get state.cells key))
 most_steps state (Drop key) = 0
+most_steps state (Set files) = sum_by come_to files
 
 -- ---- the room in the bank
 

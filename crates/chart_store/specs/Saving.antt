@@ -1,7 +1,7 @@
 -- What a save does to a store.
 use Rattle.std.specs.Prelude.{◌≡◌, ℕ, ◌+◌, nat_le, if◌then◌else◌, Bool, [], Option, Some, None}
 use Rattle.bank_pair.specs.Saving.{AreSlicesOf, SaveValue, gate_of_save}
-use Rattle.chart_pages.specs.Grammar.{spelling}
+use Rattle.chart_pages.specs.Grammar.{checkpoint_of}
 use Rattle.chart_store.specs.declared.save_state.SaveState.{SaveState}
 use Rattle.chart_store.specs.declared.save_state.SaveState.TheVariants.{Saved, Under}
 use Rattle.chart_store.specs.declared.store.Store.{Store}
@@ -11,7 +11,7 @@ use Rattle.chart_store.specs.Store.{count_of, is_sound, pair_of, save_of, state_
 -- the save of what is held, of which nothing is written
 abbrev pub begun_save : Store → ℕ → SaveValue
 begun_save store slices =
-    record { checkpoint = spelling (state_of store); slices = slices; written = 0; since = [] }
+    record { checkpoint = checkpoint_of (state_of store); slices = slices; written = 0; since = [] }
 
 -- a store that has begun to save what it holds, in so many slices: all else is as it was
 pub record HasBegun (slices : ℕ) (old new : Store) : Type 0 where
@@ -21,9 +21,9 @@ pub record HasBegun (slices : ℕ) (old new : Store) : Type 0 where
   pub file : (pair_of new).file ≡ (pair_of old).file
   pub gate : (pair_of new).gate ≡ (pair_of old).gate
   pub save : save_of new ≡ Some (begun_save old slices)
-  pub sliced : AreSlicesOf (spelling (state_of old)) slices
+  pub sliced : AreSlicesOf (checkpoint_of (state_of old)) slices
   -- what is saved is read as what is held
-  pub says : checkpoint_in (spelling (state_of old)) ≡ Some (state_of old)
+  pub says : checkpoint_in (checkpoint_of (state_of old)) ≡ Some (state_of old)
 
 -- whether no slice is left once so many more are written
 abbrev pub is_done_by : SaveValue → ℕ → Bool

@@ -8,7 +8,7 @@ ghost use Rattle.chart_model.specs.declared.command.Command.TheVariants.{Load};
 ghost use Rattle.chart_difference.specs.Difference.{AreChanged};
 ghost use Rattle.chart_store.specs.Loaded.{loaded, GivesLoaded, come_to};
 ghost use Rattle.chart_store.specs.Next.{IsNext, GivesNext};
-ghost use Rattle.chart_store.specs.Outcome.{most_steps, outcome, outcome_of_drop};
+ghost use Rattle.chart_store.specs.Outcome.{IsSingle, most_steps, outcome, outcome_of_drop};
 ghost use Rattle.chart_store.specs.Loaded.{chart_of};
 ghost use Rattle.chart_store.specs.declared.next.Naming.TheVariants as Naming;
 
@@ -50,8 +50,8 @@ fn next_of_drop(
     })
 }
 
-/// What is held once a command is accepted, or its first refusal but for the room in the bank. Nothing that is held
-/// changes.
+/// What is held once a command that speaks of one cell is accepted, or its first refusal but for the room in the bank.
+/// Nothing that is held changes.
 ///
 /// Each data record that is come to is a step: those of a file that is loaded once, those of a cell that is rolled back
 /// at most twice.
@@ -63,6 +63,7 @@ pub(crate) fn next_of<C: Ledger>(
     naming: Naming,
     steps: &mut Steps<C>,
 ) -> Result<Next, TakeFault>
+    requires { IsSingle command }
     ensures after { GivesNext result live.now (outcome live.now command) }
     ensures stands { IfOk result (IsNext live.now) }
     ensures changed { naming ≡ Naming.Named → IfOk result (λ next.
@@ -77,6 +78,7 @@ pub(crate) fn next_of<C: Ledger>(
             next_of_rollback(alloc, live, key, number, naming, steps)
         }
         Command::Drop(key) => next_of_drop(alloc, live, key, naming),
+        Command::Set(_) => unreachable!(),
     }
 }
 
@@ -89,6 +91,7 @@ impl LiveCells {
         naming: Naming,
         steps: &mut Steps<C>,
     ) -> Result<Taken, TakeFault>
+        requires { IsSingle command }
         ensures outcome { GivesLoaded result self.new (outcome self.old command) }
         ensures changed { naming ≡ Naming.Named →
             IfOk result (λ taken. AreChanged (chart_of (map.get self.old.cells taken.key))
@@ -115,7 +118,8 @@ impl LiveCells {
         })
     }
 
-    /// Carries a command out, without a bank: a cell file is loaded, a cell is rolled back, or it is taken away.
+    /// Carries a command out that speaks of one cell, without a bank: a cell file is loaded, a cell is rolled back, or it
+    /// is taken away.
     ///
     /// Each data record that is come to is a step: those of a file that is loaded once, those of a cell that is rolled
     /// back at most twice.
@@ -129,6 +133,7 @@ impl LiveCells {
         command: Command,
         steps: &mut Steps<C>,
     ) -> Result<Taken, TakeFault>
+        requires { IsSingle command }
         ensures outcome { GivesLoaded result self.new (outcome self.old command) }
         ensures changed { IfOk result (λ taken. AreChanged (chart_of (map.get self.old.cells taken.key))
             (chart_of (map.get self.new.cells taken.key)) taken.changed) }

@@ -17,7 +17,7 @@ ghost use Rattle.chart_store.specs.Loaded.{Outcome, held_with, nothing_held, loa
 ghost use Rattle.chart_store.specs.Reissued.{IsReissueOf, held_by_file};
 ghost use Rattle.chart_store.specs.KeptFiles.{MayKeep, IsShortestKept, kept_by};
 ghost use Rattle.chart_store.specs.Live.{AreLive, state_after, state_by};
-ghost use Rattle.chart_store.specs.Outcome.{IsKeyOf, outcome, state_with, after, charts};
+ghost use Rattle.chart_store.specs.Outcome.{IsKeyOf, IsSingle, outcome, state_with, after, charts};
 ghost use Rattle.chart_store.specs.Loaded.{chart_of};
 
 use update_sequence::{
@@ -78,12 +78,15 @@ pub fn commands_follow_in_turn()
         after state (commands ++ command ∷ []) ≡ state_with (after state commands) command }
 {}
 
-/// A command that is accepted speaks of its key, and changes the cell of that key alone. A refused one changes none.
+/// A command that is accepted speaks of its key, and changes the cells alone that it speaks of, which is the one of its
+/// key unless it is a set. A refused one changes none.
 pub fn commands_change_their_cell_alone()
     ensures keyed { (state : StateValue) (command : Command) (done : Outcome) →
         outcome state command ≡ Ok done → IsKeyOf command done.key }
-    ensures alone { (state : StateValue) (command : Command) (done : Outcome) (key : List ℕ) →
+    ensures single { (state : StateValue) (command : Command) (done : Outcome) (key : List ℕ) → IsSingle command →
         outcome state command ≡ Ok done → key ≢ done.key → map.get done.state.cells key ≡ map.get state.cells key }
+    ensures alone { (state : StateValue) (command : Command) (done : Outcome) (key : List ℕ) →
+        outcome state command ≡ Ok done → ¬ IsKeyOf command key → map.get done.state.cells key ≡ map.get state.cells key }
     ensures refused { (state : StateValue) (command : Command) (refusal : Refusal) →
         outcome state command ≡ Err refusal → state_with state command ≡ state }
 {}

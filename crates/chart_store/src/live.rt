@@ -17,7 +17,7 @@ use std::alloc::{AllocError, Global};
 use std::marker::Model;
 
 /// The most cells that are held, cancelled ones too.
-pub(crate) const CELLS_LIMIT: usize = 32;
+pub(crate) const CELLS_LIMIT: usize = 256;
 
 /// The most bytes of all live files once a file is loaded.
 pub(crate) const STORE_LIMIT: u64 = 67_108_864;
@@ -26,9 +26,9 @@ pub(crate) const STORE_LIMIT: u64 = 67_108_864;
 /// at most 67,108,864, and what a checkpoint says has no more than its bytes.
 #[derive(Debug, Drop)]
 pub struct LiveCells {
-    state: State,
+    pub(crate) state: State,
     /// The bytes of all live files.
-    bytes: u64,
+    pub(crate) bytes: u64,
 }
 
 impl Model for LiveCells {

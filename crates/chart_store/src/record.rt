@@ -2,30 +2,32 @@
 //!
 //! It is made before the disk is touched, so that nothing but the desk can fail from then on.
 
-ghost use Rattle.std.specs.Prelude.{◌≡◌, IfOk, IfErr, IsErrOf, OnOk, length};
+ghost use Rattle.std.specs.Prelude.{◌≡◌, ◌≤◌, All, IfOk, IfErr, IsErrOf, OnOk, length};
 ghost use Rattle.bank_journal.specs.Bank.{frame_of, IsBodyLength};
 ghost use Rattle.chart_model.specs.State.{IsFileLength};
-ghost use Rattle.chart_model.specs.declared.command.Command.TheVariants.{Load};
-ghost use Rattle.command_codec.specs.Spelling.{spelling, Spells};
+ghost use Rattle.chart_model.specs.declared.command.Command.TheVariants.{Load, Set};
+ghost use Rattle.command_codec.specs.Spelling.{IsSetLength, spelling, Spells};
 ghost use Rattle.chart_store.specs.declared.submit_fault.SubmitFault.TheVariants.{DeskFault, NoMemory};
 ghost use Rattle.chart_store.specs.declared.refusal.Refusal.TheVariants.{FileLong};
-ghost use Rattle.chart_store.specs.Outcome.{record_size};
+ghost use Rattle.chart_store.specs.Loaded.{bytes_of};
+ghost use Rattle.chart_store.specs.Outcome.{IsSingle, record_size};
 ghost use Rattle.chart_store.specs.Submitted.{IsTooLong, RefusedHas};
 
 use crate::load::FILE_LIMIT;
 use crate::refusal::Refusal;
 use crate::submit_fault::SubmitFault;
 use bank_journal::{Framed, frame};
-use chart_model::{Command, Octets};
+use chart_model::{Command, FileList, Octets};
 use command_codec::encode_command;
-use std::alloc::Global;
+use std::alloc::{AllocError, Global};
 
-/// The record that a command is kept as.
+/// The record that a command that speaks of one cell is kept as.
 ///
 /// # Errors
 ///
 /// The command is refused where it loads a file that has too many bytes to be kept; `NoMemory`.
 pub(crate) fn record_of(alloc: Global, command: &Command) -> Result<Framed, SubmitFault>
+    requires { IsSingle command.now }
     ensures framed { IfOk result (λ framed. framed ≡ frame_of (spelling command.now)) }
     ensures need { IfOk result (λ framed. length framed ≡ record_size command.now) }
     ensures spelled { OnOk result (Spells (spelling command.now) command.now) }
@@ -59,4 +61,18 @@ pub(crate) fn record_of_load(alloc: Global, file: Octets) -> Result<(Framed, Oct
         Command::Load(file) => Ok((framed, file)),
         _ => unreachable!(),
     }
+}
+
+/// The record that a set is kept as.
+pub(crate) fn record_of_set(alloc: Global, files: FileList) -> Result<Framed, AllocError>
+    requires length { IsSetLength (length files) }
+    requires short { All (λ file. IsFileLength (length file)) files }
+    requires bytes { bytes_of files ≤ 67108864 }
+    ensures framed { IfOk result (λ framed. framed ≡ frame_of (spelling (Set files))) }
+    ensures need { IfOk result (λ framed. length framed ≡ record_size (Set files)) }
+    ensures spelled { OnOk result (Spells (spelling (Set files)) (Set files)) }
+    ensures length { OnOk result (IsBodyLength (length (spelling (Set files)))) }
+{
+    let body = encode_command(alloc, &Command::Set(files))?;
+    frame(alloc, body.as_slice())
 }

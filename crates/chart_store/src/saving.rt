@@ -73,7 +73,7 @@ fn under(pair: &Pair) -> SaveState
 impl Store {
     ghost use Rattle.std.specs.Prelude.{is_some};
     ghost use Rattle.bank_journal.specs.Fault.{HasDeskCause};
-    ghost use Rattle.chart_pages.specs.Grammar.{spelling};
+    ghost use Rattle.chart_pages.specs.Grammar.{checkpoint_of};
     ghost use Rattle.chart_store.specs.declared.refusal.Refusal.TheVariants.{BankFull};
     ghost use Rattle.chart_store.specs.declared.submit_fault.SubmitFault.TheVariants.{DeskFault, NoMemory, Refused};
     ghost use Rattle.chart_store.specs.Images.{StandFor};
@@ -102,10 +102,10 @@ impl Store {
 
         // A desk that keeps the store keeps it with the save too (`begun_saves_are_kept`).
         ensures begun { IfOk result (λ slices. HasBegun slices self.old self.new) }
-        ensures fits { OnOk result (length (spelling (state_of self.old)) + 9 ≤ 268435456) }
+        ensures fits { OnOk result (length (checkpoint_of (state_of self.old)) + 9 ≤ 268435456) }
         ensures full { IfErr result (RefusedHas (λ refusal.
-            (refusal ≡ BankFull 0 (length (spelling (state_of self.old)) + 9))
-            × (268435456 < length (spelling (state_of self.old)) + 9))) }
+            (refusal ≡ BankFull 0 (length (checkpoint_of (state_of self.old)) + 9))
+            × (268435456 < length (checkpoint_of (state_of self.old)) + 9))) }
         ensures no_desk { result ≢ Err DeskFault }
         ensures err { OnErr result (store_of self.new ≡ store_of self.old) }
     {

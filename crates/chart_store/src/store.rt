@@ -51,7 +51,7 @@ impl Store {
     ghost use Rattle.chart_store.specs.Live.{AreLive, state_or};
     ghost use Rattle.chart_store.specs.Loaded.{come_to};
     ghost use Rattle.chart_store.specs.Next.{IsNext, outcome_by};
-    ghost use Rattle.chart_store.specs.Outcome.{accepted, most_steps, record_size, room_after};
+    ghost use Rattle.chart_store.specs.Outcome.{IsSingle, accepted, most_steps, record_size, room_after};
     ghost use Rattle.chart_store.specs.Store.{IsKept, StandsForEither, count_of, pair_of};
     ghost use Rattle.chart_store.specs.Store.{is_sound, room_of, save_of, state_of, store_of};
     ghost use Rattle.chart_store.specs.Submitted.{GivesAccepted};
@@ -98,7 +98,7 @@ impl Store {
         self.sound
     }
 
-    /// Accepts a command, which is on the disk when this returns, or refuses it.
+    /// Accepts a command that speaks of one cell, and which is on the disk when this returns, or refuses it.
     ///
     /// All memory is taken before the record is written. A crash at any moment leaves files that hold what was held
     /// before, or what the command leaves.
@@ -117,6 +117,7 @@ impl Store {
         desk: &mut D,
         steps: &mut Steps<C>,
     ) -> Result<Accepted, SubmitFault>
+        requires single { IsSingle command }
         requires sound { IsTrue (is_sound self.old) }
         requires count { count_of self.old < 9223372036854775808 }
         requires kept { IsTrue D.tells → IsKept (D.contents desk.old) (D.may_leave desk.old) self.old }

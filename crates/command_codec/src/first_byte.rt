@@ -10,3 +10,6 @@ pub const ROLLS_BACK: u8 = 0x02;
 
 /// Stands before the key of a cell that is dropped.
 pub const DROPS: u8 = 0x03;
+
+/// Stands before the files that are loaded together.
+pub const SETS: u8 = 0x04;

@@ -23,4 +23,6 @@ pub fn spelled_once()
         Spells a command → Spells b command → a ≡ b }
     ensures command { (bytes : List ℕ) (a b : Command) →
         Spells bytes a → Spells bytes b → a ≡ b }
-{}
+{
+    keys_are_tested();
+}

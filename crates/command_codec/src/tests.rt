@@ -14,7 +14,7 @@ fn files_to_load(rt: HostRuntime) -> Result<(), Fail> {
         let octets = Octets::from_vec(Vec::from_slice(rt.alloc(), file)?);
         let written = encode_command(rt.alloc(), &Command::Load(octets))?;
         assert_eq!(rt; written.as_slice(), bytes);
-        match decode_command(rt.alloc(), bytes)? {
+        match &decode_command(rt.alloc(), bytes)? {
             Some(Command::Load(read)) => assert_eq!(rt; read.as_slice(), file),
             _ => assert!(rt; false, "{bytes:?}"),
         }
@@ -54,11 +54,60 @@ fn a_drop(rt: HostRuntime) -> Result<(), Fail> {
 }
 
 #[test]
+fn a_set(rt: HostRuntime) -> Result<(), Fail> {
+    let bytes = b"\x04\0\0\0\0\0\0\0\x02\0\0\0\0\0\0\0\x02xy\0\0\0\0\0\0\0\0".as_slice();
+    match &decode_command(rt.alloc(), bytes)? {
+        Some(command) => {
+            let written = encode_command(rt.alloc(), command)?;
+            assert_eq!(rt; written.as_slice(), bytes);
+            match command {
+                Command::Set(files) => match files.as_slice() {
+                    [first, second] => {
+                        assert_eq!(rt; first.get().as_slice(), b"xy".as_slice());
+                        assert_eq!(rt; second.get().as_slice(), b"".as_slice());
+                    }
+                    _ => assert!(rt; false),
+                },
+                _ => assert!(rt; false),
+            }
+        }
+        None => assert!(rt; false),
+    }
+    Ok(())
+}
+
+#[test]
+fn the_most_files_of_a_set(rt: HostRuntime) -> Result<(), Fail> {
+    let mut bytes = Vec::from_slice(rt.alloc(), b"\x04\0\0\0\0\0\0\x03\xE8")?;
+    for _ in 0..1000 {
+        bytes.extend_from_slice(&[0; 8])?;
+    }
+    match &decode_command(rt.alloc(), bytes.as_slice())? {
+        Some(Command::Set(files)) => assert_eq!(rt; files.as_slice().len(), 1000),
+        _ => assert!(rt; false),
+    }
+    bytes.extend_from_slice(&[0; 8])?;
+    assert!(rt; decode_command(rt.alloc(), bytes.as_slice())?.is_none());
+    if bytes.len() > 8 {
+        bytes[8] = 0xE9;
+    }
+    assert!(rt; decode_command(rt.alloc(), bytes.as_slice())?.is_none());
+    Ok(())
+}
+
+#[test]
 fn no_commands(rt: HostRuntime) -> Result<(), Fail> {
-    let cases: [&[u8]; 9] = [
+    let cases: [&[u8]; 14] = [
         b"",
         b"\x00AA5TEST1",
-        b"\x04AA5TEST1",
+        b"\x05AA5TEST1",
+        // a set without a whole count, of no file, of more files than there are bytes, with a file that is cut, and with
+        // a byte behind the last
+        b"\x04\0\0\0\0\0\0\x01",
+        b"\x04\0\0\0\0\0\0\0\0",
+        b"\x04\xFF\xFF\xFF\xFF\xFF\xFF\xFF\xFF",
+        b"\x04\0\0\0\0\0\0\0\x01\0\0\0\0\0\0\0\x02x",
+        b"\x04\0\0\0\0\0\0\0\x01\0\0\0\0\0\0\0\x01xy",
         // a rollback without a key, with a number of three bytes, and with a space in its key
         b"\x02\x00\x00\x00\x01",
         b"\x02\x00\x00",

@@ -1,14 +1,15 @@
 -- Numbers and texts are read as they are spelled.
-use Rattle.std.proofs.Common.{◌≡◌, ℕ, ◌<◌, ◌^◌, ◌&&◌, Bool, true, cond, leb, ltb, List, [], ◌∷◌, ◌++◌, length, take, drop, Some, None, refl, sym, ap, subst, ◌∙◌, take-append-drop, length-take-le, length-append, arith}
+use Rattle.std.proofs.Common.{◌≡◌, ℕ, zero, suc, ◌<◌, ◌^◌, ◌&&◌, Bool, true, false, cond, leb, ltb, List, [], ◌∷◌, ◌++◌, length, take, drop, Some, None, refl, sym, ap, subst, ◌∙◌, take-append-drop, length-take-le, length-append, arith}
 use Rattle.std.specs.Int.{Width, w16, w32, w64, byte_len, from_be_bytes, to_be_bytes}
 use Rattle.std.proofs.lemmas.Bool.{leb-true, le-leb, lt-ltb, ltb-true, and_parts}
 use Rattle.std.proofs.lemmas.List.{take_at, drop_at}
 use Rattle.std.proofs.lemmas.Nat.{be_bytes_2, be_bytes_4, be_bytes_8, from_be_bytes-to_be_bytes_2, from_be_bytes-to_be_bytes_4, from_be_bytes-to_be_bytes_8}
 use Rattle.page_parts.specs.Reader.{Reads, then_by}
 use Rattle.page_parts.specs.Numbers.{byte, byte_at, number, number_at, front_at, are_bytes}
+use Rattle.page_parts.specs.Flags.{flag, flag_at}
 use Rattle.page_parts.specs.Texts.{text, text_at}
 use Rattle.page_parts.proofs.Bytes.{AreSmall, small_bytes, all_small}
-use Rattle.page_parts.proofs.ReadBehind.{given_where, seen_reads, then_by_reads}
+use Rattle.page_parts.proofs.ReadBehind.{given_where, seen_reads, some_is, then_by_reads}
 
 -- ---- a byte
 
@@ -23,6 +24,30 @@ byte_reads = record {
   spelled = λ bytes value rest e. (byte_taken bytes value rest e).0;
   ranged = λ bytes value rest e. (byte_taken bytes value rest e).1;
   again = λ value rest fits. ap (λ (b : Bool). cond b (Some (value, rest)) None) (lt-ltb value 256 fits);
+}
+
+-- ---- flags
+
+abbrev pub AnyFlag : Bool → Type 0
+AnyFlag value = Unit {0}
+
+flag_taken : (bytes : List ℕ) (value : Bool) (rest : List ℕ) → flag_at bytes ≡ Some (value, rest) → bytes ≡ flag value ++ rest
+unfolding flag flag_at
+flag_taken [] value rest e = absurd (cc)
+flag_taken (zero ∷ bytes) value rest e = subst (λ (x : Bool × List ℕ). 0 ∷ bytes ≡ flag x.0 ++ x.1) (some_is (false, bytes) (value, rest) e) refl
+flag_taken (suc zero ∷ bytes) value rest e = subst (λ (x : Bool × List ℕ). 1 ∷ bytes ≡ flag x.0 ++ x.1) (some_is (true, bytes) (value, rest) e) refl
+flag_taken (suc (suc more) ∷ bytes) value rest e = absurd (cc)
+
+flag_again : (value : Bool) (rest : List ℕ) → flag_at (flag value ++ rest) ≡ Some (value, rest)
+unfolding flag flag_at
+flag_again true rest = refl
+flag_again false rest = refl
+
+pub flag_reads : Reads flag_at flag AnyFlag
+flag_reads = record {
+  spelled = flag_taken;
+  ranged = λ bytes value rest e. tt;
+  again = λ value rest any. flag_again value rest;
 }
 
 -- ---- so many from the front

@@ -100,6 +100,22 @@ reads_like reader one other P Q reads same forth back = record {
   again = λ x rest q. ap (λ (l : List ℕ). reader (l ++ rest)) (sym (same x)) ∙ reads.again x rest (back x q);
 }
 
+-- the same where the spellings agree on what is in range
+pub reads_where : {X : Type 0} {reader : Reader X} {one : X → List ℕ} {P : X → Type 0} (other : X → List ℕ) → Reads reader one P → ((x : X) → P x → one x ≡ other x) → Reads reader other P
+reads_where {reader = reader} {one = one} {P = P} other reads same = record {
+  spelled = λ bytes x rest e. reads.spelled bytes x rest e ∙ ap (λ (l : List ℕ). l ++ rest) (same x (reads.ranged bytes x rest e));
+  ranged = reads.ranged;
+  again = λ x rest p. ap (λ (l : List ℕ). reader (l ++ rest)) (sym (same x p)) ∙ reads.again x rest p;
+}
+
+-- the same of a reader that reads alike
+pub read_like : {X : Type 0} {other : Reader X} {spelling : X → List ℕ} {P : X → Type 0} (reader : Reader X) → Reads other spelling P → ((bytes : List ℕ) → reader bytes ≡ other bytes) → Reads reader spelling P
+read_like {spelling = spelling} reader reads same = record {
+  spelled = λ bytes x rest e. reads.spelled bytes x rest (sym (same bytes) ∙ e);
+  ranged = λ bytes x rest e. reads.ranged bytes x rest (sym (same bytes) ∙ e);
+  again = λ x rest p. same (spelling x ++ rest) ∙ reads.again x rest p;
+}
+
 -- bytes begin with one value at most
 pub read_once : {X : Type 0} (reader : Reader X) (spelling : X → List ℕ) (P : X → Type 0) → Reads reader spelling P
     → (x y : X) (rest tail : List ℕ) → P x → P y → spelling x ++ rest ≡ spelling y ++ tail → ◌≡◌ {A = X × List ℕ} (x, rest) (y, tail)

@@ -44,7 +44,7 @@ counted_list_behind spelling xs n out mid put is = rw (put, is) (append_assoc ou
 -- ---- the law
 
 module _ {K X : Type 0} (R : K → K → Ordering) (entry : Reader (K × X)) (spelling : K × X → List ℕ) (P : K × X → Type 0) (reads : Reads entry spelling P) where
-  entries_reads : (n : ℕ) → Reads (entries_at R entry n) (λ m. flat_map spelling (map.entries m)) (λ m. (length (map.entries m) ≡ n) × AllByRecursion P (map.entries m))
+  pub entries_reads : (n : ℕ) → Reads (entries_at R entry n) (λ m. flat_map spelling (map.entries m)) (λ m. (length (map.entries m) ≡ n) × AllByRecursion P (map.entries m))
   entries_reads n =
       let Q : List (K × X) → Type 0 = λ es. (length es ≡ n) × AllByRecursion P es in
       seen_reads (map.from_sorted {R = R}) map.entries (that (is_sorted R) (items_at entry n)) (flat_map spelling)

@@ -1,5 +1,6 @@
 pub mod Reader
 pub mod Numbers
+pub mod Flags
 pub mod Texts
 pub mod Lists
 pub mod Pointers

@@ -9,16 +9,19 @@ mod attributes;
 mod coordinates;
 mod fault;
 mod files;
+mod flags;
 mod lists;
 mod numbers;
 mod order;
 mod pointers;
 mod related;
 mod texts;
+mod version;
 
 pub use attributes::{put_attributes, read_attributes};
 pub use coordinates::{put_coords, read_coords};
 pub use fault::PageFault;
+pub use flags::{put_flag, read_flag};
 pub use lists::{Part, put_list, read_list};
 pub use numbers::{
     put_byte, put_eight_bytes, put_four_bytes, put_two_bytes, read_byte, read_eight_bytes,
@@ -28,3 +31,4 @@ pub use order::is_behind;
 pub use pointers::{name_bytes, read_name};
 pub use related::{put_foid, read_foid};
 pub use texts::{put_text, read_span, read_text};
+pub use version::PageVersion;

@@ -3,10 +3,11 @@
 //! In cell files the least significant byte is first (S-57 Part 3). A checkpoint is no cell file, and has the order of
 //! the other numbers that a bank and its commands are written with.
 
-ghost use Rattle.std.specs.Prelude.{◌≡◌, ◌<◌, ◌^◌, ◌++◌, OnOk};
+ghost use Rattle.std.specs.Prelude.{◌≡◌, ◌≢◌, ◌<◌, ◌^◌, ◌++◌, Err, OnOk};
 ghost use Rattle.std.specs.Int.{w16, w32, w64};
 ghost use Rattle.page_parts.specs.Reader.{Finds};
 ghost use Rattle.page_parts.specs.Numbers.{byte, byte_at, number, number_at};
+ghost use Rattle.page_parts.specs.declared.fault.PageFault.TheVariants.{NoMemory};
 
 use crate::fault::PageFault;
 use chart_model::Octets;
@@ -79,7 +80,8 @@ pub fn read_four_bytes(bytes: &[u8]) -> Result<(u32, &[u8]), PageFault>
 
 /// Reads a number of eight bytes: a count, or a length.
 pub fn read_eight_bytes(bytes: &[u8]) -> Result<(usize, &[u8]), PageFault>
-    ensures { Finds (λ read. (read.0, read.1.now)) result (number_at w64 bytes.now) }
+    ensures found { Finds (λ read. (read.0, read.1.now)) result (number_at w64 bytes.now) }
+    ensures memory { result ≢ Err NoMemory }
 {
     if bytes.len() < 8 {
         return Err(PageFault::Unspelled);

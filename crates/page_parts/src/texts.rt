@@ -3,10 +3,11 @@
 //! The length is held against the bytes that are there before any memory is taken, so one that promises more costs
 //! nothing. A text can be read where it stands, so that what is refused then isn't copied.
 
-ghost use Rattle.std.specs.Prelude.{◌≡◌, ◌<◌, ◌^◌, ◌++◌, length, OnOk};
+ghost use Rattle.std.specs.Prelude.{◌≡◌, ◌≢◌, ◌<◌, ◌^◌, ◌++◌, length, Err, OnOk};
 ghost use Rattle.page_parts.specs.Reader.{Finds};
 ghost use Rattle.page_parts.specs.Numbers.{front_at};
 ghost use Rattle.page_parts.specs.Texts.{text, text_at};
+ghost use Rattle.page_parts.specs.declared.fault.PageFault.TheVariants.{NoMemory};
 
 use crate::fault::PageFault;
 use crate::numbers::{put_eight_bytes, read_eight_bytes};
@@ -25,7 +26,8 @@ pub fn put_text(out: &mut Octets, bytes: &[u8]) -> Result<(), AllocError>
 
 /// So many bytes from the front.
 fn front_of(bytes: &[u8], size: usize) -> Result<(&[u8], &[u8]), PageFault>
-    ensures { Finds (λ read. (read.0.now, read.1.now)) result (front_at size bytes.now) }
+    ensures found { Finds (λ read. (read.0.now, read.1.now)) result (front_at size bytes.now) }
+    ensures memory { result ≢ Err NoMemory }
 {
     if bytes.len() < size {
         return Err(PageFault::Unspelled);
@@ -36,7 +38,8 @@ fn front_of(bytes: &[u8], size: usize) -> Result<(&[u8], &[u8]), PageFault>
 /// Reads a text where it stands.
 #[tactic(auto, unfolding(crate::specs::Texts::text_at))]
 pub fn read_span(bytes: &[u8]) -> Result<(&[u8], &[u8]), PageFault>
-    ensures { Finds (λ read. (read.0.now, read.1.now)) result (text_at bytes.now) }
+    ensures found { Finds (λ read. (read.0.now, read.1.now)) result (text_at bytes.now) }
+    ensures memory { result ≢ Err NoMemory }
 {
     let (size, rest) = read_eight_bytes(bytes)?;
     front_of(rest, size)

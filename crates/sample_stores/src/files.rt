@@ -4,6 +4,9 @@
 //! lengths in a bank can be summed by hand. A command is given by the records of its file, since those can stand in a
 //! `static` table.
 
+ghost use Rattle.std.specs.Prelude.{IfOk};
+ghost use Rattle.chart_store.specs.Outcome.{IsSingle};
+
 use chart_model::{Command, Key, Octets};
 use std::alloc::{AllocError, Global};
 
@@ -119,7 +122,9 @@ fn key() -> Key {
 }
 
 /// The command itself.
-pub fn command_of(alloc: Global, given: Given) -> Result<Command, AllocError> {
+pub fn command_of(alloc: Global, given: Given) -> Result<Command, AllocError>
+    ensures { IfOk result IsSingle }
+{
     Ok(match given {
         Given::Load(records) => Command::Load(file_of(alloc, records)?),
         Given::Rollback(update) => Command::Rollback(key(), update),
@@ -127,11 +132,19 @@ pub fn command_of(alloc: Global, given: Given) -> Result<Command, AllocError> {
     })
 }
 
-/// A base file of the cell whose name ends with this letter.
-pub fn base_of(alloc: Global, letter: u8) -> Result<Octets, AllocError> {
+/// A base file of the cell whose name ends with these letters.
+pub fn base_of(alloc: Global, letters: [u8; 2]) -> Result<Octets, AllocError> {
     let mut general = GENERAL.to_vec(alloc)?;
     if general.len() > 50 {
-        general[50] = letter;
+        general[49] = letters[0];
+        general[50] = letters[1];
     }
     file_of(alloc, &[general.as_slice(), RECORDS])
+}
+
+/// The letters of one of 400 cells.
+pub fn letters_of(number: u16) -> [u8; 2] {
+    let [_, tens] = (number / 20).to_be_bytes();
+    let [_, ones] = (number % 20).to_be_bytes();
+    [b'A'.wrapping_add(tens), b'A'.wrapping_add(ones)]
 }

@@ -9,4 +9,5 @@ mod foreign;
 mod memory;
 mod refusals;
 mod script;
+mod sets;
 mod staged;

@@ -6,7 +6,7 @@ use Rattle.std.proofs.lemmas.Bool.Decides.{nat_tests}
 use Rattle.std.specs.FinMap as finite
 use Rattle.bank_pair.specs.Saving.{AreSlicesOf, SaveValue, gate_of_save}
 use Rattle.chart_model.specs.State.{StateValue}
-use Rattle.chart_pages.specs.Grammar.{spelling}
+use Rattle.chart_pages.specs.Grammar.{checkpoint_of}
 use Rattle.chart_store.specs.Saving.{HasBegun, begun_save, save_after, saved_by, used_after}
 use Rattle.chart_store.specs.Saving as of_store
 use Rattle.bank_pair.specs.Pair.{IsPairInStep}
@@ -75,7 +75,7 @@ begun-model : (old new : Session) (slices : ℕ) → HasBegun slices (store_of o
 begun-model old new slices begun drawn known staged =
     let state : StateValue = state_of (store_of old) in
     let bytes : bank_bytes state ≡ gate_of_save (begun_save (store_of old) slices) + 1 = omega arith in
-    let in_slices : slices_of state ≡ slices = counted (spelling state) slices begun.sliced in
+    let in_slices : slices_of state ≡ slices = counted (checkpoint_of state) slices begun.sliced in
     (λ i. record {
       state = state;
       room = record { used = used_of (store_of old); other = Some (bytes i) };
@@ -91,7 +91,7 @@ begun-model old new slices begun drawn known staged =
 fits : (state : StateValue) → bank_bytes state ≤ 268435456 → is_too_long state ≡ false
 fits state h = grind (arith, nat_tests)
 
-pub begun-gives : (old new : Session) (slices : ℕ) → save_of (store_of old) ≡ None → length (spelling (state_of (store_of old))) + 9 ≤ 268435456
+pub begun-gives : (old new : Session) (slices : ℕ) → save_of (store_of old) ≡ None → length (checkpoint_of (state_of (store_of old))) + 9 ≤ 268435456
     → HasBegun slices (store_of old) (store_of new) → portrayal_of new ≡ portrayal_of old → scenes_of new ≡ scenes_of old
     → staging_in new ≡ staging_in old → ((begin_turn (model_of old) (model_of old).save).reply ≡ replies.Save slices) × ((begin_turn (model_of old) (model_of old).save).model ≡ model_of new)
 begun-gives old new slices idle room begun drawn known staged =
@@ -101,7 +101,7 @@ begun-gives old new slices idle room begun drawn known staged =
     = ap (begin_turn model) none
     ∙ ap (λ (b : Bool). cond b (refusal_turn model (line.Store (BankFull 0 (bank_bytes model.state))))
     (save_turn (replies.Save (slices_of model.state)) (model_saving model))) (fits model.state room) in (
-      ap (λ turn. turn.reply) is ∙ ap replies.Save (counted (spelling model.state) slices begun.sliced),
+      ap (λ turn. turn.reply) is ∙ ap replies.Save (counted (checkpoint_of model.state) slices begun.sliced),
       ap (λ turn. turn.model) is ∙ begun-model old new slices begun drawn known staged,
     )
 
@@ -109,8 +109,8 @@ begun-gives old new slices idle room begun drawn known staged =
 too_long : (state : StateValue) → 268435456 < bank_bytes state → is_too_long state ≡ true
 too_long state h = grind (arith, nat_tests)
 
-pub full-refuses : (model : Model) → model.save ≡ None → 268435456 < length (spelling model.state) + 9
-    → begin_turn model model.save ≡ refusal_turn model (line.Store (BankFull 0 (length (spelling model.state) + 9)))
+pub full-refuses : (model : Model) → model.save ≡ None → 268435456 < length (checkpoint_of model.state) + 9
+    → begin_turn model model.save ≡ refusal_turn model (line.Store (BankFull 0 (length (checkpoint_of model.state) + 9)))
 full-refuses model none long =
     ap (begin_turn model) none
     ∙ ap (λ (b : Bool). cond b (refusal_turn model (line.Store (BankFull 0 (bank_bytes model.state))))
@@ -133,8 +133,8 @@ under-some (Some save) under = (save, refl)
 -- a store that refuses it, or lacks memory, is as it was
 pub refused-gives : (old new : Session) (fault : SubmitFault) (r : Result Reply EventFault) → IsErrAnd r (λ passed. passed ≡ fault_of_submit fault)
     → save_of (store_of old) ≡ None
-    → RefusedHas (λ refusal. (refusal ≡ BankFull 0 (length (spelling (state_of (store_of old))) + 9))
-    × (268435456 < length (spelling (state_of (store_of old))) + 9)) fault
+    → RefusedHas (λ refusal. (refusal ≡ BankFull 0 (length (checkpoint_of (state_of (store_of old))) + 9))
+    × (268435456 < length (checkpoint_of (state_of (store_of old))) + 9)) fault
     → value_of (store_of new) ≡ value_of (store_of old) → portrayal_of new ≡ portrayal_of old → scenes_of new ≡ scenes_of old
     → staging_in new ≡ staging_in old → fault ≢ of_submit.DeskFault
     → GivesEvent r (model_of old) (model_of new) (begin_turn (model_of old) (model_of old).save)

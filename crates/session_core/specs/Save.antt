@@ -1,7 +1,7 @@
 -- What the lines `save` and `save-step` make of a model. What is held stays.
 use Rattle.std.specs.Prelude.{ℕ, ◌+◌, ◌/◌, nat_le, nat_lt, if◌then◌else◌, Bool, length, Some, None, unwrap_or}
 use Rattle.chart_model.specs.State.{StateValue}
-use Rattle.chart_pages.specs.Grammar.{spelling}
+use Rattle.chart_pages.specs.Grammar.{checkpoint_of}
 use Rattle.chart_store.specs.Outcome.{BANK_LIMIT, Room}
 use Rattle.session_core.specs.Model.{Model, Progress}
 
@@ -10,7 +10,7 @@ use Rattle.session_core.specs.Model.{Model, Progress}
 -- the bytes of a bank that has what is held as its checkpoint, and no record: the header stands before it, and a closed
 -- gate behind it
 abbrev pub bank_bytes : StateValue → ℕ
-bank_bytes state = length (spelling state) + 9
+bank_bytes state = length (checkpoint_of state) + 9
 
 -- whether it would be too long
 abbrev pub is_too_long : StateValue → Bool
@@ -18,7 +18,7 @@ is_too_long state = nat_lt BANK_LIMIT (bank_bytes state)
 
 -- in how many slices of 65,536 bytes, of which the last may be shorter, the header and the checkpoint are written
 abbrev pub slices_of : StateValue → ℕ
-slices_of state = (length (spelling state) + 8 + 65535) / 65536
+slices_of state = (length (checkpoint_of state) + 8 + 65535) / 65536
 
 -- the model once a save of what is held has begun
 abbrev pub model_saving : Model → Model

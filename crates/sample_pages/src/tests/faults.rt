@@ -1,6 +1,6 @@
 //! Bytes that spell no state.
 //!
-//! Of a whole checkpoint one byte is exchanged at a time, so that a row has one cause. Then it is cut at each length:
+//! Of a whole checkpoint of the first version one byte is exchanged at a time, so that a row has one cause. Then it is cut at each length:
 //! none of its fronts spells a state.
 
 use super::TWO_CELLS;

@@ -7,6 +7,7 @@ ghost use Rattle.std.specs.Prelude.{◌≡◌, ◌<◌};
 
 use crate::files::{
     BASE, CANCEL, FIRST_UPDATE, Given, INSERTED, MOVED, SECOND, UPDATE, base_of, command_of,
+    letters_of,
 };
 use crate::texts::{answered, shown};
 use chart_ports::Steps;
@@ -103,7 +104,7 @@ fn commands_are_given_one_after_the_other(rt: HostRuntime) -> Result<(), Fail> {
 /// What is answered to the base files of so many cells, and then to the first of them once more.
 fn last_with<C: Ledger>(
     alloc: Global,
-    count: u8,
+    count: u16,
     blank: Blank,
 ) -> Result<(usize, String, String), AllocError>
     requires name { blank.name ≡ C.name }
@@ -114,23 +115,26 @@ fn last_with<C: Ledger>(
     let mut live = LiveCells::new(alloc);
     let mut last = String::new(alloc);
     for number in 0..count {
-        let file = base_of(alloc, b'A'.wrapping_add(number))?;
+        let file = base_of(alloc, letters_of(number))?;
         last = answered(alloc, live.load(alloc, file, &mut steps))?;
     }
-    let again = answered(alloc, live.load(alloc, base_of(alloc, b'A')?, &mut steps))?;
+    let again = answered(
+        alloc,
+        live.load(alloc, base_of(alloc, letters_of(0))?, &mut steps),
+    )?;
     Ok((live.cells().len(), last, again))
 }
 
 /// The same, with a counter of its own.
-fn last_of(alloc: Global, count: u8) -> Result<(usize, String, String), AllocError> {
+fn last_of(alloc: Global, count: u16) -> Result<(usize, String, String), AllocError> {
     last_with::<Brand>(alloc, count, Blank::new(1))
 }
 
 #[test]
-fn thirty_two_cells_are_held(rt: HostRuntime) -> Result<(), Fail> {
-    for (count, answer) in [(32, "1 0 false 100/1 110/1"), (33, "CellsFull(32)")] {
+fn two_hundred_and_fifty_six_cells_are_held(rt: HostRuntime) -> Result<(), Fail> {
+    for (count, answer) in [(256, "1 0 false 100/1 110/1"), (257, "CellsFull(256)")] {
         let told = last_of(rt.alloc(), count)?;
-        assert!(rt; told.0 == 32 && told.1.as_str() == answer, "{}", told.1);
+        assert!(rt; told.0 == 256 && told.1.as_str() == answer, "{}", told.1);
         assert_eq!(rt; told.2.as_str(), "1 0 false");
     }
     Ok(())

@@ -6,4 +6,4 @@ use Rattle.chart_pages.specs.Cells.{cell_at}
 use Rattle.chart_pages.proofs.cells.read_each.Given as goal
 
 abbrev pub invariant-loop : goal.invariant-loop
-invariant-loop l = GoesOn key_cmp key_cmp-total cell_at l.count l.bytes l.last l.cells (l.count - l.counter) l.rest
+invariant-loop l = GoesOn key_cmp key_cmp-total (cell_at l.version) l.count l.bytes l.last l.cells (l.count - l.counter) l.rest

@@ -32,8 +32,8 @@ of_state-requires-clause-closed c =
 pub of_state-requires-clause-within : goal.of_state-requires-clause-within
 of_state-requires-clause-within c =
     let spelled = sym c.in_ok-state.ensures.function ∙ c.in-Some.is in
-    let spells = (c.states_are_spelled.ensures c.args.checkpoint.now c.in-Some.state).0 spelled in
-    omega (arith, live-least c.in-Some.state, ap (λ (b : List ℕ). length b) spells.spelled, c.requires)
+    let spells = c.states_are_spelled.ensures.found c.args.checkpoint.now c.in-Some.state spelled in
+    omega (arith, live-least spells.0 c.in-Some.state, ap (λ (b : List ℕ). length b) spells.1.spelled, c.requires)
 
 pub returns : goal.returns
 returns c =
