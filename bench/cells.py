@@ -135,6 +135,11 @@ def coverage_passage(points):
     return b"box 100 100\n" + b"".join(b"%d 25000\n" % (100_000 + 9_900 * at + 5_000) for at in range(points))
 
 
+def track(fixes):
+    """A ship's positions along the row of 13,000 areas, so many, with a box of 100 to each side."""
+    return b"guard 100 100\n" + b"".join(b"fix %d 450\n" % (13_000_000 * at // fixes) for at in range(1, fixes + 1))
+
+
 def passage(points):
     """A route of so many points through the row of 13,000 areas, with a box of 100 to each side."""
     return b"box 100 100\n" + b"".join(b"%d 450\n" % (13_000 * at) for at in range(1, points + 1))

@@ -12,7 +12,8 @@ CATALOGUE = b"O 42 DEPARE\nO 129 SOUNDG\nO 159 WRECKS\nA 87 DRVAL1\nA 88 DRVAL2\
 TABLE = b"DEPARE A 1 - AC(DEPVS)\nWRECKS P 4 - SY(WRECKS01)\nSOUNDG P 6 - -\n"
 PASSAGE = b"box 50 20\n-100 450\n500 450\n1100 450\n"
 CELLS = 6
-# The words of replies that have a list, whose length is their last word, and of those that tell an accepted command.
+# The words of replies that have a list, whose length is their last word (of `fix` two lists, with a word each), and of
+# those that tell an accepted command.
 LISTS = (b"cells", b"draw", b"route", b"cover")
 ACCEPTED = (b"load", b"commit", b"cancel", b"make", b"reissue", b"rollback", b"drop")
 # The bytes of another program.
@@ -106,6 +107,8 @@ def replies(output):
     while rest:
         words = rest[0].split()
         count = 1 + (int(words[-1]) if words[0] == b"ok" and words[1] in LISTS else 0)
+        if words[:2] == [b"ok", b"fix"]:
+            count += int(words[2]) + int(words[3])
         found.append(b"".join(rest[:count]))
         rest = rest[count:]
     return found

@@ -51,6 +51,8 @@ told-failure (replies.Begin key total) h = absurd (let e : false ≡ true = h in
 told-failure (replies.Step done total) h = absurd (let e : false ≡ true = h in cc)
 told-failure (replies.Commit key edition update) h = absurd (let e : false ≡ true = h in cc)
 told-failure (replies.Cover legs count lines) h = absurd (let e : false ≡ true = h in cc)
+told-failure (replies.Guard w half) h = absurd (let e : false ≡ true = h in cc)
+told-failure (replies.Fix raised cleared lines) h = absurd (let e : false ≡ true = h in cc)
 
 -- a step says so only where a fetch failed
 failed-by : TellsFailure → (outside : FromOutside) (model : Model) (number : ℕ) (asked : Result (Option Event) LineFault)

@@ -17,8 +17,8 @@ use Rattle.chart_store.specs.declared.store.Store.{Store}
 use Rattle.panel_scenes.specs.Scene.{SceneValue, new_scenes}
 use Rattle.session_core.specs.Fetch.{Files}
 use Rattle.session_core.specs.Kept.{feature_count}
-use Rattle.session_core.specs.Model.{Model, Portrayal, Staging}
-use Rattle.session_core.specs.Session.{model_of, portrayal_of, progress_of, scenes_of, staging_in, store_of}
+use Rattle.session_core.specs.Model.{Model, Portrayal, Staging, with_guard}
+use Rattle.session_core.specs.Session.{guard_in, model_of, portrayal_of, progress_of, scenes_of, staging_in, store_of}
 use Rattle.session_core.specs.declared.session.Session.{Session}
 use Rattle.chart_store.specs.declared.open_fault.OpenFault.{OpenFault}
 use Rattle.chart_store.specs.declared.open_fault.OpenFault.TheVariants as of_opening
@@ -86,6 +86,7 @@ pub opened-model : (portrayal : Portrayal) (panels : ℕ) (found : Result Readin
       count = 0;
       save = None;
       staging = None;
+      guard = None;
       portrayal = portrayal;
       scenes = new_scenes panels;
     }
@@ -110,19 +111,21 @@ opened-within found opening state used bank a b c e f h k =
 -- the model of a session over a store with no save under way
 pub session-model : (session : Session) (store : Store) (portrayal : Portrayal) (scenes : List SceneValue)
     → store_of session ≡ store → portrayal_of session ≡ portrayal → scenes_of session ≡ scenes → save_of store ≡ None
-    → count_of store ≡ 0 → staging_in session ≡ None → model_of session
+    → count_of store ≡ 0 → staging_in session ≡ None → guard_in session ≡ None → model_of session
     ≡ record {
       state = state_of store;
       room = record { used = used_of store; other = None };
       count = 0;
       save = None;
       staging = None;
+      guard = None;
       portrayal = portrayal;
       scenes = scenes;
     }
-session-model session store portrayal scenes same drawn known idle fresh unstaged =
+session-model session store portrayal scenes same drawn known idle fresh unstaged unguarded =
     ap (λ (s : Store). model_by s (count_of s) (save_of s) (staging_in session) (portrayal_of session) (scenes_of session)) same
     ∙ (λ i. model_by store (fresh i) (idle i) (unstaged i) (drawn i) (known i))
+    ∙ ap (with_guard (model_by store 0 None None portrayal scenes)) unguarded
   where
     model_by : Store → ℕ → Option SaveValue → Option Staging → Portrayal → List SceneValue → Model
     model_by store count save staging portrayal scenes = record {
@@ -131,6 +134,7 @@ session-model session store portrayal scenes same drawn known idle fresh unstage
       count = count;
       save = option_map progress_of save;
       staging = staging;
+      guard = guard_in session;
       portrayal = portrayal;
       scenes = scenes;
     }

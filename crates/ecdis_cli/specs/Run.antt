@@ -44,6 +44,7 @@ model_at portrayal panels opening = record {
   count = 0;
   save = None;
   staging = None;
+  guard = None;
   portrayal = portrayal;
   scenes = new_scenes panels;
 }

@@ -38,7 +38,7 @@ use Rattle.route_check.proofs.Dangerous.{one_has, object_out}
 nat_less : (m n : ℕ) → m < n → nat_cmp m n ≡ Less
 nat_less m n lt = sym (nat_cmp_is m n Less lt)
 
-nat_tie : (m n : ℕ) → m ≡ n → nat_cmp m n ≡ Equal
+pub nat_tie : (m n : ℕ) → m ≡ n → nat_cmp m n ≡ Equal
 nat_tie m n e = sym (nat_cmp_is m n Equal e)
 
 key_tie : (k l : List ℕ) → k ≡ l → key_cmp k l ≡ Equal
@@ -50,7 +50,7 @@ then_less a b e = ap (λ (o : Ordering). ordering_then o b) e
 then_tie : (a b : Ordering) → a ≡ Equal → b ≡ Less → ordering_then a b ≡ Less
 then_tie a b e f = ap (λ (o : Ordering). ordering_then o b) e ∙ f
 
-tied_then : (a b : Ordering) → a ≡ Equal → ordering_then a b ≡ Less → b ≡ Less
+pub tied_then : (a b : Ordering) → a ≡ Equal → ordering_then a b ≡ Less → b ≡ Less
 tied_then a b e f = sym (ap (λ (o : Ordering). ordering_then o b) e) ∙ f
 
 -- objects by key, by the feature's number and by place

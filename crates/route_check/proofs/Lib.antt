@@ -19,3 +19,4 @@ pub mod Unique
 pub mod Asking
 pub mod Asked
 pub mod Whole
+pub mod OneLeg

@@ -1,5 +1,5 @@
 -- The elements of lists that are joined of others, and the order of such lists.
-use Rattle.std.proofs.Common.{◌≡◌, ◌⊎◌, inl, inr, List, [], ◌∷◌, ◌++◌, refl, sym, subst}
+use Rattle.std.proofs.Common.{inl, inr, List, [], ◌∷◌, ◌++◌, refl, sym, subst}
 use Rattle.std.specs.List.{flat_map}
 use Rattle.common_lemmas.proofs.Members.{Has, has_left, has_right, has_either, Rises, before_each, before_all}
 

@@ -1,77 +1,26 @@
 -- A line is a box or a point as it is spelled.
 use Rattle.std.proofs.Common.{◌≡◌, ◌≢◌, ℕ, ◌≤◌, Bool, true, false, cond, eqb, List, [], ◌∷◌, length, Option, Some, None, refl, sym, ap, ◌∙◌, subst, arith, ◌↔◌, inl, inr}
-use Rattle.std.specs.Prelude.{codes, nat_le, option_and_then, ℤ, pos, neg_ℤ, ◌≤ℤ◌, unsigned_abs}
+use Rattle.std.specs.Prelude.{codes, ℤ}
 use Rattle.std.specs.List.{join_with_byte}
 use Rattle.std.specs.Str.{bytes_eq}
-use Rattle.std.proofs.lemmas.Bool.{leb-true, le-leb}
-use Rattle.std.proofs.lemmas.Int.{ints}
 use Rattle.std.proofs.lemmas.List.Elements.{All-nil, All-cons}
 use Rattle.std.proofs.lemmas.List.Splits.{length-slice_split}
 use Rattle.std.proofs.lemmas.Slice.Eq.{bytes_eq-Decides}
 use Rattle.common_lemmas.proofs.Choices.{some_is}
-use Rattle.text_scan.specs.Number.{number_of, SpellsSigned, signed_of}
+use Rattle.text_scan.specs.Number.{SpellsSigned}
+use Rattle.position_texts.specs.Position.{SpellsHalfWidth, SpellsCoordinate, half_width_of, coordinate_of}
 use Rattle.text_lines.specs.Lines.{parts_at, Lacks}
 use Rattle.plane_geometry.specs.declared.point.Pt.{Pt}
 use Rattle.route_check.specs.declared.line.HalfWidths.{HalfWidths}
-use Rattle.route_check.specs.RouteLine.{SpellsHalfWidth, SpellsBox, SpellsCoordinate, SpellsPoint, half_width_of, coordinate_of, widths_with, box_with, box_in, box_of, point_with, point_in, point_of}
-use Rattle.text_scan.proofs.Numbers.{NumbersAreSpelled}
+use Rattle.route_check.specs.RouteLine.{SpellsBox, SpellsPoint, widths_with, box_with, box_in, box_of, point_with, point_in, point_of}
 use Rattle.text_lines.proofs.Parting.{PartsAreFound, PartsAreJoined, digits_lack}
 
--- what the laws of the crates below say of numbers and of parts
-abbrev pub SignedAreSpelled : Type 0
-SignedAreSpelled = (text : List ℕ) (z : ℤ) → (signed_of text ≡ Some z) ↔ SpellsSigned text z
+-- what the law of positions in text says
+abbrev pub HalfWidthsAreSpelled : Type 0
+HalfWidthsAreSpelled = (text : List ℕ) (n : ℕ) → (half_width_of text ≡ Some n) ↔ SpellsHalfWidth text n
 
--- ---- numbers of a range
-
--- a value that a test lets pass
-tested : {A : Type 0} (test : Bool) (x y : A) → cond test (Some x) None ≡ Some y → (test ≡ true) × (x ≡ y)
-tested true x y e = (refl, some_is x y e)
-tested false x y e = absurd cc
-
-half_width_is : NumbersAreSpelled → (text : List ℕ) (n : ℕ) → half_width_of text ≡ Some n → SpellsHalfWidth text n
-half_width_is spelled text n e = by (number_of text) refl e
-  where
-    by : (o : Option ℕ) → number_of text ≡ o → option_and_then (λ k. cond (nat_le k 100000000) (Some k) None) o ≡ Some n → SpellsHalfWidth text n
-    by None is e = absurd cc
-    by (Some k) is e =
-        let number = (spelled text k).0 is in
-        let range = tested (nat_le k 100000000) k n e in
-        let within : k ≤ 100000000 = leb-true k 100000000 range.0 in
-        record {
-          number = number.0;
-          value = sym (number.1 ∙ range.1);
-          range = subst (λ (m : ℕ). m ≤ 100000000) range.1 within;
-        }
-
-half_width_told : NumbersAreSpelled → (text : List ℕ) (n : ℕ) → SpellsHalfWidth text n → half_width_of text ≡ Some n
-half_width_told spelled text n s =
-    ap (option_and_then (λ k. cond (nat_le k 100000000) (Some k) None)) ((spelled text n).1 (s.number, sym s.value))
-    ∙ ap (λ (b : Bool). cond b (Some n) None) (le-leb n 100000000 s.range)
-
-near-from : (z : ℤ) (most : ℕ) → unsigned_abs z ≤ most → (neg_ℤ (pos most) ≤ℤ z) × (z ≤ℤ pos most)
-near-from z most h = (omega (arith, ints), omega (arith, ints))
-
-near-to : (z : ℤ) (most : ℕ) → neg_ℤ (pos most) ≤ℤ z → z ≤ℤ pos most → unsigned_abs z ≤ most
-near-to z most low high = omega (arith, ints)
-
-coordinate_is : SignedAreSpelled → (most : ℕ) (text : List ℕ) (z : ℤ) → coordinate_of most text ≡ Some z → SpellsCoordinate most text z
-coordinate_is spelled most text z e = by (signed_of text) refl e
-  where
-    by : (o : Option ℤ) → signed_of text ≡ o → option_and_then (λ k. cond (nat_le (unsigned_abs k) most) (Some k) None) o ≡ Some z → SpellsCoordinate most text z
-    by None is e = absurd cc
-    by (Some k) is e =
-        let range = tested (nat_le (unsigned_abs k) most) k z e in
-        let near = near-from k most (leb-true (unsigned_abs k) most range.0) in
-        subst (SpellsCoordinate most text) range.1 (record {
-          spelled = (spelled text k).0 is;
-          low = near.0;
-          high = near.1;
-        })
-
-coordinate_told : SignedAreSpelled → (most : ℕ) (text : List ℕ) (z : ℤ) → SpellsCoordinate most text z → coordinate_of most text ≡ Some z
-coordinate_told spelled most text z s =
-    ap (option_and_then (λ k. cond (nat_le (unsigned_abs k) most) (Some k) None)) ((spelled text z).1 s.spelled)
-    ∙ ap (λ (b : Bool). cond b (Some z) None) (le-leb (unsigned_abs z) most (near-to z most s.low s.high))
+abbrev pub CoordinatesAreSpelled : Type 0
+CoordinatesAreSpelled = (most : ℕ) (text : List ℕ) (z : ℤ) → (coordinate_of most text ≡ Some z) ↔ SpellsCoordinate most text z
 
 -- ---- texts without a space
 
@@ -101,7 +50,7 @@ named word w h box e = by (bytes_eq word (codes "box")) refl e
     by true is e = ((bytes_eq-Decides word (codes "box")).0 is, e)
     by false is e = absurd cc
 
-box_words : NumbersAreSpelled → (line word w_text h_text : List ℕ) (box : HalfWidths) → line ≡ join_with_byte 32 (word ∷ w_text ∷ h_text ∷ [])
+box_words : HalfWidthsAreSpelled → (line word w_text h_text : List ℕ) (box : HalfWidths) → line ≡ join_with_byte 32 (word ∷ w_text ∷ h_text ∷ [])
     → box_with word (half_width_of w_text) (half_width_of h_text) ≡ Some box → SpellsBox line box.w box.h
 box_words spelled line word w_text h_text box parted e =
     let name = named word (half_width_of w_text) (half_width_of h_text) box e in
@@ -110,11 +59,11 @@ box_words spelled line word w_text h_text box parted e =
       w_text = w_text;
       h_text = h_text;
       parted = parted ∙ ap (λ (l : List ℕ). join_with_byte 32 (l ∷ w_text ∷ h_text ∷ [])) name.0;
-      w_spelled = half_width_is spelled w_text box.w made.0;
-      h_spelled = half_width_is spelled h_text box.h made.1;
+      w_spelled = (spelled w_text box.w).0 made.0;
+      h_spelled = (spelled h_text box.h).0 made.1;
     }
 
-in_box_words : NumbersAreSpelled → (line : List ℕ) (words : List (List ℕ)) (box : HalfWidths) → line ≡ join_with_byte 32 words → box_in words ≡ Some box → SpellsBox line box.w box.h
+in_box_words : HalfWidthsAreSpelled → (line : List ℕ) (words : List (List ℕ)) (box : HalfWidths) → line ≡ join_with_byte 32 words → box_in words ≡ Some box → SpellsBox line box.w box.h
 unfolding box_in
 in_box_words spelled line [] box parted e = absurd cc
 in_box_words spelled line (word ∷ []) box parted e = absurd cc
@@ -122,7 +71,7 @@ in_box_words spelled line (word ∷ w ∷ []) box parted e = absurd cc
 in_box_words spelled line (word ∷ w ∷ h ∷ []) box parted e = box_words spelled line word w h box parted e
 in_box_words spelled line (word ∷ w ∷ h ∷ other ∷ more) box parted e = absurd cc
 
-pub box_spelled : NumbersAreSpelled → PartsAreJoined → (line : List ℕ) (box : HalfWidths) → box_of line ≡ Some box → SpellsBox line box.w box.h
+pub box_spelled : HalfWidthsAreSpelled → PartsAreJoined → (line : List ℕ) (box : HalfWidths) → box_of line ≡ Some box → SpellsBox line box.w box.h
 box_spelled spelled joined line box e = in_box_words spelled line (parts_at 32 line) box (sym (joined 32 line)) e
 
 three : (w_text h_text : List ℕ) (w h : ℕ) → half_width_of w_text ≡ Some w → half_width_of h_text ≡ Some h
@@ -138,10 +87,10 @@ box_parts found line w h s =
     (All-cons (Lacks 32) s.w_text (s.h_text ∷ []) (digits_lack s.w_text s.w_spelled.number.0.1)
     (All-cons (Lacks 32) s.h_text [] (digits_lack s.h_text s.h_spelled.number.0.1) (All-nil (Lacks 32)))))
 
-pub spelled_box : NumbersAreSpelled → PartsAreFound → (line : List ℕ) (w h : ℕ) → SpellsBox line w h → box_of line ≡ Some (record { w = w; h = h })
+pub spelled_box : HalfWidthsAreSpelled → PartsAreFound → (line : List ℕ) (w h : ℕ) → SpellsBox line w h → box_of line ≡ Some (record { w = w; h = h })
 spelled_box spelled found line w h s =
     ap box_in (box_parts found line w h s)
-    ∙ three s.w_text s.h_text w h (half_width_told spelled s.w_text w s.w_spelled) (half_width_told spelled s.h_text h s.h_spelled)
+    ∙ three s.w_text s.h_text w h ((spelled s.w_text w).1 s.w_spelled) ((spelled s.h_text h).1 s.h_spelled)
 
 -- ---- points
 
@@ -152,7 +101,7 @@ point_made (Some x) (Some y) p e =
 point_made (Some x) None p e = absurd cc
 point_made None y p e = absurd cc
 
-in_point_words : SignedAreSpelled → (line : List ℕ) (words : List (List ℕ)) (p : Pt) → line ≡ join_with_byte 32 words → point_in words ≡ Some p → SpellsPoint line p
+in_point_words : CoordinatesAreSpelled → (line : List ℕ) (words : List (List ℕ)) (p : Pt) → line ≡ join_with_byte 32 words → point_in words ≡ Some p → SpellsPoint line p
 unfolding point_in
 in_point_words spelled line [] p parted e = absurd cc
 in_point_words spelled line (x ∷ []) p parted e = absurd cc
@@ -162,12 +111,12 @@ in_point_words spelled line (x ∷ y ∷ []) p parted e =
       x_text = x;
       y_text = y;
       parted = parted;
-      x_spelled = coordinate_is spelled 1800000000 x p.x made.0;
-      y_spelled = coordinate_is spelled 900000000 y p.y made.1;
+      x_spelled = (spelled 1800000000 x p.x).0 made.0;
+      y_spelled = (spelled 900000000 y p.y).0 made.1;
     }
 in_point_words spelled line (x ∷ y ∷ other ∷ more) p parted e = absurd cc
 
-pub point_spelled : SignedAreSpelled → PartsAreJoined → (line : List ℕ) (p : Pt) → point_of line ≡ Some p → SpellsPoint line p
+pub point_spelled : CoordinatesAreSpelled → PartsAreJoined → (line : List ℕ) (p : Pt) → point_of line ≡ Some p → SpellsPoint line p
 point_spelled spelled joined line p e = in_point_words spelled line (parts_at 32 line) p (sym (joined 32 line)) e
 
 two : (x_text y_text : List ℕ) (x y : ℤ) → coordinate_of 1800000000 x_text ≡ Some x → coordinate_of 900000000 y_text ≡ Some y
@@ -182,10 +131,10 @@ point_parts found line p s =
     (All-cons (Lacks 32) s.x_text (s.y_text ∷ []) (signed_lacks s.x_text p.x s.x_spelled.spelled)
     (All-cons (Lacks 32) s.y_text [] (signed_lacks s.y_text p.y s.y_spelled.spelled) (All-nil (Lacks 32))))
 
-pub spelled_point : SignedAreSpelled → PartsAreFound → (line : List ℕ) (p : Pt) → SpellsPoint line p → point_of line ≡ Some p
+pub spelled_point : CoordinatesAreSpelled → PartsAreFound → (line : List ℕ) (p : Pt) → SpellsPoint line p → point_of line ≡ Some p
 spelled_point spelled found line p s =
     ap point_in (point_parts found line p s)
-    ∙ two s.x_text s.y_text p.x p.y (coordinate_told spelled 1800000000 s.x_text p.x s.x_spelled) (coordinate_told spelled 900000000 s.y_text p.y s.y_spelled)
+    ∙ two s.x_text s.y_text p.x p.y ((spelled 1800000000 s.x_text p.x).1 s.x_spelled) ((spelled 900000000 s.y_text p.y).1 s.y_spelled)
 
 -- ---- a line, word by word
 
@@ -212,11 +161,11 @@ no_point words x y rest e = sym (ap point_in e ∙ point_too_long x y (parts_at 
 
 -- ---- laws
 
-pub boxes_are_spelled : NumbersAreSpelled → PartsAreJoined → PartsAreFound
+pub boxes_are_spelled : HalfWidthsAreSpelled → PartsAreJoined → PartsAreFound
     → (line : List ℕ) (w h : ℕ) → (box_of line ≡ Some (record { w = w; h = h })) ↔ SpellsBox line w h
 boxes_are_spelled spelled joined found line w h = (box_spelled spelled joined line (record { w = w; h = h }), spelled_box spelled found line w h)
 
-pub points_are_spelled : SignedAreSpelled → PartsAreJoined → PartsAreFound → (line : List ℕ) (p : Pt) → (point_of line ≡ Some p) ↔ SpellsPoint line p
+pub points_are_spelled : CoordinatesAreSpelled → PartsAreJoined → PartsAreFound → (line : List ℕ) (p : Pt) → (point_of line ≡ Some p) ↔ SpellsPoint line p
 points_are_spelled spelled joined found line p = (point_spelled spelled joined line p, spelled_point spelled found line p)
 
 pub one_box : ((line : List ℕ) (w h : ℕ) → (box_of line ≡ Some (record { w = w; h = h })) ↔ SpellsBox line w h)

@@ -8,6 +8,7 @@ pub mod Gains
 pub mod Grids
 pub mod Danger
 pub mod Report
+pub mod Near
 pub mod Ask
 pub mod Found
 pub mod RouteLine

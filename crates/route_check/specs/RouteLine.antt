@@ -1,18 +1,12 @@
 -- What a line of a route's file is: its box or a point.
-use Rattle.std.specs.Prelude.{◌≡◌, ℕ, ◌≤◌, nat_le, ℤ, pos, neg_ℤ, ◌≤ℤ◌, unsigned_abs, if◌then◌else◌}
-use Rattle.std.specs.Prelude.{List, [], ◌∷◌, codes, Option, Some, None, option_and_then}
+use Rattle.std.specs.Prelude.{◌≡◌, ℕ, ℤ, if◌then◌else◌, List, [], ◌∷◌, codes, Option, Some, None}
 use Rattle.std.specs.List.{join_with_byte}
 use Rattle.std.specs.Str.{bytes_eq}
-use Rattle.text_scan.specs.Number.{IsNumber, value_of, number_of, SpellsSigned, signed_of}
+use Rattle.position_texts.specs.Position.{SpellsHalfWidth, SpellsLongitude, SpellsLatitude, half_width_of, longitude_of}
+use Rattle.position_texts.specs.Position.{latitude_of}
 use Rattle.text_lines.specs.Lines.{parts_at}
 use Rattle.plane_geometry.specs.declared.point.Pt.{Pt}
 use Rattle.route_check.specs.declared.line.HalfWidths.{HalfWidths}
-
--- a half-width: at most 10 degrees
-pub record SpellsHalfWidth (text : List ℕ) (n : ℕ) : Type 0 where
-  pub number : IsNumber text
-  pub value : n ≡ value_of text
-  pub range : n ≤ 100000000
 
 -- the line is `box` and two half-widths, parted by single spaces
 pub record SpellsBox (line : List ℕ) (w h : ℕ) : Type 0 where
@@ -22,28 +16,15 @@ pub record SpellsBox (line : List ℕ) (w h : ℕ) : Type 0 where
   pub w_spelled : SpellsHalfWidth w_text w
   pub h_spelled : SpellsHalfWidth h_text h
 
--- a coordinate: at most so far from 0, on either side
-pub record SpellsCoordinate (most : ℕ) (text : List ℕ) (z : ℤ) : Type 0 where
-  pub spelled : SpellsSigned text z
-  pub low : neg_ℤ (pos most) ≤ℤ z
-  pub high : z ≤ℤ pos most
-
 -- the line is a longitude of up to 180 degrees and a latitude of up to 90, parted by a single space
 pub record SpellsPoint (line : List ℕ) (p : Pt) : Type 0 where
   pub x_text : List ℕ
   pub y_text : List ℕ
   pub parted : line ≡ join_with_byte 32 (x_text ∷ y_text ∷ [])
-  pub x_spelled : SpellsCoordinate 1800000000 x_text p.x
-  pub y_spelled : SpellsCoordinate 900000000 y_text p.y
+  pub x_spelled : SpellsLongitude x_text p.x
+  pub y_spelled : SpellsLatitude y_text p.y
 
 -- ---- as functions
-
-abbrev pub half_width_of : List ℕ → Option ℕ
-half_width_of text = option_and_then (λ n. if nat_le n 100000000 then Some n else None) (number_of text)
-
-abbrev pub coordinate_of : ℕ → List ℕ → Option ℤ
-coordinate_of most text =
-    option_and_then (λ z. if nat_le (unsigned_abs z) most then Some z else None) (signed_of text)
 
 -- a box, where the word is `box` and both half-widths are there
 abbrev pub widths_with : Option ℕ → Option ℕ → Option HalfWidths
@@ -76,7 +57,7 @@ point_with None y = None
 unfoldable pub point_in : List (List ℕ) → Option Pt
 point_in [] = None
 point_in (x ∷ []) = None
-point_in (x ∷ y ∷ []) = point_with (coordinate_of 1800000000 x) (coordinate_of 900000000 y)
+point_in (x ∷ y ∷ []) = point_with (longitude_of x) (latitude_of y)
 point_in (x ∷ y ∷ other ∷ more) = None
 
 -- the point that a line is

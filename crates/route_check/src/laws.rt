@@ -11,8 +11,8 @@ ghost use Rattle.route_check.specs.Reading.{SpellsRoute, HasPoints, HasFirstBad,
 ghost use Rattle.route_check.specs.declared.route.Route.{Route as RouteValue};
 ghost use Rattle.route_check.specs.declared.fault.RouteFault.TheVariants.{BadLine, Few, Many, NoMemory};
 
+use position_texts::positions_are_spelled;
 use text_lines::parts_are_joined;
-use text_scan::numbers_are_spelled;
 
 /// The functions that definitions cite give the box or the point that a line spells, and a line spells one box or one
 /// point at most. A file's route is the one that its lines spell; its fault is the first line that is not understood,
@@ -38,5 +38,5 @@ pub fn routes_are_read()
     ensures no_other { (bytes : List ℕ) → route_in bytes ≢ Err NoMemory }
 {
     parts_are_joined();
-    numbers_are_spelled();
+    positions_are_spelled();
 }

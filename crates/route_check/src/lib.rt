@@ -14,10 +14,13 @@
 //! and each sounding up to the safety depth, a point. Rows stand by leg, then by the charts' keys, the features'
 //! numbers and the places of soundings among the coordinates of their features.
 //!
+//! The objects near a position are those that the leg from it to itself meets, without a leg's number.
+//!
 //! Charts come with their grids (`spatial_grid`): a leg is tried with the features alone whose boxes it reaches. With
 //! the grids of all charts nothing is lost by that; a chart without a grid isn't looked at.
 #![tactic(auto)]
 
+mod alarm;
 mod asks;
 mod chart_objects;
 mod danger;
@@ -36,10 +39,11 @@ mod reports;
 mod route;
 mod target;
 
+pub use alarm::{Alarm, AlarmList, near};
 pub use danger::{Danger, DangerList};
 pub use fault::RouteFault;
 pub use laws::routes_are_read;
 pub use read::read_route;
-pub use report_laws::{reports_are_exact, reports_are_one};
+pub use report_laws::{near_objects_are_exact, reports_are_exact, reports_are_one};
 pub use reports::report;
 pub use route::{PtList, Route};

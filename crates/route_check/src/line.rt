@@ -1,23 +1,15 @@
 //! One line of a route's file: the box or a point.
 //!
 //! Words are parted by one space each: two in a row have an empty word between them, which is no number, so such a line
-//! is bad. A longitude of up to 180 degrees, in degrees times 10,000,000, fits 32 bits with its sign.
+//! is bad.
 
-ghost use Rattle.std.specs.Prelude.{◌≡◌, ◌<◌, ◌^◌};
-ghost use Rattle.route_check.specs.RouteLine.{half_width_of, coordinate_of, box_with, box_of, point_with, point_of};
+ghost use Rattle.std.specs.Prelude.{◌≡◌};
+ghost use Rattle.position_texts.specs.Position.{half_width_of, longitude_of, latitude_of};
+ghost use Rattle.route_check.specs.RouteLine.{box_with, box_of, point_with, point_of};
 
 use plane_geometry::Pt;
+use position_texts::{read_half_width, read_latitude, read_longitude};
 use text_lines::cut_part;
-use text_scan::{read_number, read_signed};
-
-/// The largest half-width, in degrees times 10,000,000: 10 degrees.
-const MOST_HALF_WIDTH: u64 = 100_000_000;
-
-/// The longitude that lies farthest from 0, in degrees times 10,000,000: 180 degrees.
-const MOST_LONGITUDE: u64 = 1_800_000_000;
-
-/// The latitude that lies farthest from 0, in degrees times 10,000,000: 90 degrees.
-const MOST_LATITUDE: u64 = 900_000_000;
 
 /// The half-widths of the box that legs are widened by: `w` in longitude and `h` in latitude, in degrees times
 /// 10,000,000.
@@ -25,27 +17,6 @@ const MOST_LATITUDE: u64 = 900_000_000;
 pub(crate) struct HalfWidths {
     pub w: u32,
     pub h: u32,
-}
-
-/// The half-width that digits write: 0 to 100,000,000.
-fn read_half_width(digits: &[u8]) -> Option<u32>
-    ensures { result ≡ half_width_of digits.now }
-{
-    match read_number(digits) {
-        Some(number) if number <= MOST_HALF_WIDTH => Some(number as u32),
-        _ => None,
-    }
-}
-
-/// The coordinate that a text is, at most so far from 0.
-fn read_coordinate(text: &[u8], most: u64) -> Option<i32>
-    requires { most < 2 ^ 31 }
-    ensures { result ≡ coordinate_of most text.now }
-{
-    match read_signed(text) {
-        Some(number) if number.unsigned_abs() <= most => Some(number as i32),
-        _ => None,
-    }
 }
 
 /// The half-widths of three words.
@@ -76,10 +47,10 @@ pub(crate) fn read_box(line: &[u8]) -> Option<HalfWidths>
 
 /// The point of two words.
 fn read_words(x: &[u8], y: &[u8]) -> Option<Pt>
-    ensures { result ≡ point_with (coordinate_of 1800000000 x.now) (coordinate_of 900000000 y.now) }
+    ensures { result ≡ point_with (longitude_of x.now) (latitude_of y.now) }
 {
-    let x = read_coordinate(x, MOST_LONGITUDE)?;
-    let y = read_coordinate(y, MOST_LATITUDE)?;
+    let x = read_longitude(x)?;
+    let y = read_latitude(y)?;
     Some(Pt { x, y })
 }
 

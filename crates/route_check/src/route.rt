@@ -3,13 +3,14 @@
 //! That a route has 2 to 1,000 points is kept with its list, so that nobody tests it again: a route has a leg, and each
 //! leg up to the last is there by its number.
 
-ghost use Rattle.std.specs.Prelude.{◌≡◌, ◌+◌, ◌-◌, length, slice_get, Some};
+ghost use Rattle.std.specs.Prelude.{◌≡◌, ◌+◌, ◌-◌, length, slice_get, Some, IfOk};
 ghost use Rattle.std.specs.Option.{SomeIff};
 ghost use Rattle.std.specs.Int.{IsInRange};
 ghost use Rattle.route_check.specs.PointCount.{IsPointCount};
 
 use plane_geometry::Pt;
 use route_geometry::Leg;
+use std::alloc::{AllocError, Global};
 use std::marker::Model;
 
 /// The points of a route in order: 2 to 1,000. Contracts see a list.
@@ -60,7 +61,20 @@ pub struct Route {
 }
 
 impl Route {
+    ghost use Rattle.route_check.specs.Near.{route_at};
     ghost use Rattle.route_check.specs.Route.{legs_of};
+
+    /// The route of one leg, from a position to itself.
+    pub(crate) fn at(alloc: Global, w: u32, h: u32, at: Pt) -> Result<Route, AllocError>
+        ensures { IfOk result (λ route. route ≡ route_at w h at) }
+    {
+        let points = vec![in alloc; at, at]?;
+        Ok(Route {
+            w,
+            h,
+            points: PtList { points },
+        })
+    }
 
     /// How many legs there are: one fewer than points.
     pub fn leg_count(&self) -> u32

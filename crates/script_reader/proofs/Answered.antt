@@ -5,13 +5,13 @@ use Rattle.std.specs.List.{join_with_byte}
 use Rattle.std.proofs.lemmas.Bool.{false_from_ne_true, true≢false, eqb-true, eq-eqb}
 use Rattle.common_lemmas.proofs.Choices.{chosen, some_is}
 use Rattle.script_reader.specs.declared.event.Event.{Event}
-use Rattle.script_reader.specs.declared.event.Event.TheVariants.{Info, Load, Rollback, Drop, Cells, Draw, Route, Save, SaveStep, Refresh, Paint, Panel, ClosePanel, Make, Reissue, Begin, Step, Commit, Cover}
+use Rattle.script_reader.specs.declared.event.Event.TheVariants.{Info, Load, Rollback, Drop, Cells, Draw, Route, Save, SaveStep, Refresh, Paint, Panel, ClosePanel, Make, Reissue, Begin, Step, Commit, Cover, Guard, Fix}
 use Rattle.script_reader.specs.declared.fault.LineFault.{LineFault}
 use Rattle.script_reader.specs.declared.fault.LineFault.TheVariants.{BadLine, NoMemory}
 use Rattle.script_reader.specs.Line.{AskFor, NamesFile, Spells, IsBad}
 use Rattle.script_reader.specs.Reading.{event_of, event_or_bad, event_in, Answers}
 use Rattle.text_lines.specs.Lines.{IsSilent, is_silent, words_of}
-use Rattle.script_reader.proofs.WordTests.{KeysAreTested}
+use Rattle.script_reader.proofs.WordTests.{AreTested}
 use Rattle.script_reader.proofs.Events.{found, given, spelled_short}
 
 abbrev pub Answer : Type 0
@@ -48,6 +48,8 @@ asked_speaks (Begin name) words a = ap (λ (w : List (List ℕ)). is_silent (joi
 asked_speaks (Step changes) words a = ap (λ (w : List (List ℕ)). is_silent (join_with_byte 32 w)) a.spoken
 asked_speaks Commit words a = ap (λ (w : List (List ℕ)). is_silent (join_with_byte 32 w)) a
 asked_speaks (Cover name) words a = ap (λ (w : List (List ℕ)). is_silent (join_with_byte 32 w)) a.0
+asked_speaks (Guard w h) words a = ap (λ (l : List (List ℕ)). is_silent (join_with_byte 32 l)) a.spoken
+asked_speaks (Fix x y) words a = ap (λ (l : List (List ℕ)). is_silent (join_with_byte 32 l)) a.spoken
 
 pub spelled_speaks : (line : List ℕ) (event : Event) → Spells line event → is_silent line ≡ false
 spelled_speaks line event s = ap is_silent s.parted ∙ asked_speaks event s.words s.asking
@@ -70,14 +72,14 @@ none_if : (o : Option Event) → ((event : Event) → o ≡ Some event → ⊥) 
 none_if (Some event) h = absurd (h event refl)
 none_if None h = refl
 
-pub read_event : KeysAreTested → (number : ℕ) (line : List ℕ) (event : Event) → event_in number line ≡ Ok (Some event) → Spells line event
+pub read_event : AreTested → (number : ℕ) (line : List ℕ) (event : Event) → event_in number line ≡ Ok (Some event) → Spells line event
 read_event tested number line event e =
     elim (chosen (is_silent line) (Ok None) (event_or_bad number (event_of (words_of line))) (Ok (Some event)) e) [
       | inl h ↦ absurd (let none = h.1 in cc)
       | inr h ↦ found tested line event (or_bad_event number _ event h.1)
     ]
 
-pub read_again : KeysAreTested → (number : ℕ) (line : List ℕ) (event : Event) → Spells line event → event_in number line ≡ Ok (Some event)
+pub read_again : AreTested → (number : ℕ) (line : List ℕ) (event : Event) → Spells line event → event_in number line ≡ Ok (Some event)
 read_again tested number line event s = rw (spelled_speaks line event s, given tested line event s) refl
 
 pub read_silent : (number : ℕ) (line : List ℕ) → (event_in number line ≡ Ok None) ↔ IsSilent line
@@ -89,7 +91,7 @@ read_silent number line = (
   λ s. rw (silent_again line s) refl,
 )
 
-pub read_bad : KeysAreTested → (number : ℕ) (line : List ℕ) (fault : LineFault) → event_in number line ≡ Err fault → (fault ≡ BadLine number) × IsBad line
+pub read_bad : AreTested → (number : ℕ) (line : List ℕ) (fault : LineFault) → event_in number line ≡ Err fault → (fault ≡ BadLine number) × IsBad line
 read_bad tested number line fault e =
     elim (chosen (is_silent line) (Ok None) (event_or_bad number (event_of (words_of line))) (Err fault) e) [
       | inl h ↦ absurd (let none = h.1 in cc)
@@ -103,18 +105,18 @@ read_bad tested number line fault e =
           )
     ]
 
-pub read_bad_again : KeysAreTested → (number : ℕ) (line : List ℕ) → IsBad line → event_in number line ≡ Err (BadLine number)
+pub read_bad_again : AreTested → (number : ℕ) (line : List ℕ) → IsBad line → event_in number line ≡ Err (BadLine number)
 read_bad_again tested number line b =
     let speaks : is_silent line ≡ false = false_from_ne_true (is_silent line) (λ h. b.speaks (silent_is line h)) in
     let none : event_of (words_of line) ≡ None = none_if (event_of (words_of line)) (λ event e. b.asks_nothing event (found tested line event e)) in
     rw (speaks, none) refl
 
-pub one_event : KeysAreTested → (line : List ℕ) (a b : Event) → Spells line a → Spells line b → a ≡ b
+pub one_event : AreTested → (line : List ℕ) (a b : Event) → Spells line a → Spells line b → a ≡ b
 one_event tested line a b s t = some_is a b (sym (given tested line a s) ∙ given tested line b t)
 
 -- ---- long lines
 
-pub long_asks_nothing : KeysAreTested → (line : List ℕ) → 1024 < length line → event_of (words_of line) ≡ None
+pub long_asks_nothing : AreTested → (line : List ℕ) → 1024 < length line → event_of (words_of line) ≡ None
 long_asks_nothing tested line long =
     none_if (event_of (words_of line)) (λ event e. let short = spelled_short line event (found tested line event e) in omega arith)
 
@@ -122,12 +124,12 @@ is_silent-append : (line more : List ℕ) → 1024 < length line → is_silent (
 is_silent-append [] more h = absurd (omega arith)
 is_silent-append (byte ∷ line) more h = refl
 
-pub long_front : KeysAreTested → (number : ℕ) (front rest : List ℕ) → 1024 < length front → event_in number (front ++ rest) ≡ event_in number front
+pub long_front : AreTested → (number : ℕ) (front rest : List ℕ) → 1024 < length front → event_in number (front ++ rest) ≡ event_in number front
 long_front tested number front rest long =
     let longer : 1024 < length (front ++ rest) = omega (arith, length-append front rest) in
     rw (is_silent-append front rest long, long_asks_nothing tested (front ++ rest) longer, long_asks_nothing tested front long) refl
 
-pub long_bad : KeysAreTested → (line : List ℕ) → 1024 < length line → ¬ IsSilent line → IsBad line
+pub long_bad : AreTested → (line : List ℕ) → 1024 < length line → ¬ IsSilent line → IsBad line
 long_bad tested line long speaks = record {
   speaks = speaks;
   asks_nothing = λ event s. let short = spelled_short line event s in omega arith;

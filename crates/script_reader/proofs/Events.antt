@@ -1,5 +1,5 @@
 -- A line is read as it is spelled.
-use Rattle.std.proofs.Common.{◌≡◌, ℕ, ◌≤◌, nat_le, Bool, true, false, cond, not, eqb, ◌&&◌, List, [], ◌∷◌, ◌++◌, length, Some, None, refl, sym, ap, ◌∙◌, subst, inl, inr, arith, length-append}
+use Rattle.std.proofs.Common.{◌≡◌, ℕ, ◌≤◌, nat_le, Bool, true, false, cond, not, eqb, ◌&&◌, ℤ, List, [], ◌∷◌, ◌++◌, length, Option, Some, None, refl, sym, ap, ◌∙◌, subst, inl, inr, arith, length-append}
 use Rattle.std.specs.Prelude.{codes}
 use Rattle.std.specs.List.{join_with_byte, list_all}
 use Rattle.std.specs.Str.{bytes_eq}
@@ -9,16 +9,17 @@ use Rattle.std.proofs.lemmas.Slice.Eq.{bytes_eq-Decides}
 use Rattle.common_lemmas.proofs.Choices.{chosen, some_is}
 use Rattle.chart_model.specs.Key.{is_key}
 use Rattle.text_scan.specs.Number.{value_of}
+use Rattle.position_texts.specs.Position.{SpellsHalfWidth, SpellsLongitude, SpellsLatitude, half_width_of, longitude_of, latitude_of}
 use Rattle.script_reader.specs.Word.{is_word}
 use Rattle.script_reader.specs.Number.{IsShortNumber, is_short_number}
 use Rattle.script_reader.specs.declared.event.Event.{Event}
-use Rattle.script_reader.specs.declared.event.Event.TheVariants.{Info, Load, Rollback, Drop, Cells, Draw, Route, Save, SaveStep, Refresh, Paint, Panel, ClosePanel, Make, Reissue, Begin, Step, Commit, Cover}
+use Rattle.script_reader.specs.declared.event.Event.TheVariants.{Info, Load, Rollback, Drop, Cells, Draw, Route, Save, SaveStep, Refresh, Paint, Panel, ClosePanel, Make, Reissue, Begin, Step, Commit, Cover, Guard, Fix}
 use Rattle.script_reader.specs.Line.{AreInRange, AskFor, AskForPanel, AskForSteps, CanBeMade, Spells}
-use Rattle.script_reader.specs.Reading.{info_in, load_in, rollback_in, drop_in, draw_in, route_in, save_step_with, save_step_in, refresh_in, paint_with, paint_in, panel_in, close_panel_in, can_be_made, make_with, make_in, reissue_in, begin_in, step_with, step_in, cover_in, event_alone, event_with_number, event_with_cell, event_with_one, event_with_two, event_of}
-use Rattle.script_reader.proofs.WordTests.{KeysAreTested, Decides-word, Decides-short, Decides-some, Decides-made}
+use Rattle.script_reader.specs.Reading.{info_in, load_in, rollback_in, drop_in, draw_in, route_in, save_step_with, save_step_in, refresh_in, paint_with, paint_in, panel_in, close_panel_in, can_be_made, make_with, make_in, reissue_in, begin_in, step_with, step_in, cover_in, guard_with, guard_in, fix_with, fix_in, event_alone, event_with_number, event_with_cell, event_with_one, event_with_two, event_of}
+use Rattle.script_reader.proofs.WordTests.{KeysAreTested, AreTested, Decides-word, Decides-short, Decides-some, Decides-made}
 use Rattle.text_lines.specs.Lines.{words_of}
 use Rattle.text_lines.proofs.Parting.{digits_lack, one_part}
-use Rattle.script_reader.proofs.Parting.{visible_lack, tested_lack, split_two, split_three}
+use Rattle.script_reader.proofs.Parting.{visible_lack, tested_lack, signed_lack, signed_short, split_two, split_three}
 
 -- ---- from words to what they ask for
 
@@ -177,6 +178,38 @@ found_rollback tested verb cell digits event v e =
       value = refl;
     })
 
+found_guard : AreTested → (verb w h : List ℕ) (event : Event) → verb ≡ codes "guard" → guard_in w h ≡ Some event → AskFor event (verb ∷ w ∷ h ∷ [])
+found_guard tested verb w h event v e = by (half_width_of w) (half_width_of h) refl refl e
+  where
+    by : (o p : Option ℕ) → half_width_of w ≡ o → half_width_of h ≡ p → guard_with o p ≡ Some event → AskFor event (verb ∷ w ∷ h ∷ [])
+    by (Some m) (Some n) is of made =
+        subst (λ (x : Event). AskFor x (verb ∷ w ∷ h ∷ [])) (some_is (Guard m n) event made)
+        (record {
+          w_text = w;
+          h_text = h;
+          spoken = ap (λ (l : List ℕ). l ∷ w ∷ h ∷ []) v;
+          w_spelled = (tested.half_widths w m).0 is;
+          h_spelled = (tested.half_widths h n).0 of;
+        })
+    by (Some m) None is of made = absurd cc
+    by None p is of made = absurd cc
+
+found_fix : AreTested → (verb x y : List ℕ) (event : Event) → verb ≡ codes "fix" → fix_in x y ≡ Some event → AskFor event (verb ∷ x ∷ y ∷ [])
+found_fix tested verb x y event v e = by (longitude_of x) (latitude_of y) refl refl e
+  where
+    by : (o p : Option ℤ) → longitude_of x ≡ o → latitude_of y ≡ p → fix_with o p ≡ Some event → AskFor event (verb ∷ x ∷ y ∷ [])
+    by (Some m) (Some n) is of made =
+        subst (λ (z : Event). AskFor z (verb ∷ x ∷ y ∷ [])) (some_is (Fix m n) event made)
+        (record {
+          x_text = x;
+          y_text = y;
+          spoken = ap (λ (l : List ℕ). l ∷ x ∷ y ∷ []) v;
+          x_spelled = (tested.coordinates 1800000000 x m).0 is;
+          y_spelled = (tested.coordinates 900000000 y n).0 of;
+        })
+    by (Some m) None is of made = absurd cc
+    by None p is of made = absurd cc
+
 found_alone : (verb : List ℕ) (event : Event) → event_alone verb ≡ Some event → AskFor event (verb ∷ [])
 found_alone verb event e =
     elim (chosen (bytes_eq verb (codes "cells")) (Some Cells) _ (Some event) e) [
@@ -210,20 +243,20 @@ found_with_number verb word event e =
       ]
     ]
 
-found_with_cell : KeysAreTested → (verb word : List ℕ) (event : Event) → event_with_cell verb word ≡ Some event → AskFor event (verb ∷ word ∷ [])
+found_with_cell : AreTested → (verb word : List ℕ) (event : Event) → event_with_cell verb word ≡ Some event → AskFor event (verb ∷ word ∷ [])
 found_with_cell tested verb word event e =
     elim (chosen (bytes_eq verb (codes "drop")) (drop_in word) _ (Some event) e) [
-      | inl h ↦ found_drop tested verb word event (is_verb verb (codes "drop") h.0) h.1
+      | inl h ↦ found_drop tested.keys verb word event (is_verb verb (codes "drop") h.0) h.1
       | inr h ↦ elim (chosen (bytes_eq verb (codes "draw")) (draw_in word) _ (Some event) h.1) [
-        | inl i ↦ found_draw tested verb word event (is_verb verb (codes "draw") i.0) i.1
+        | inl i ↦ found_draw tested.keys verb word event (is_verb verb (codes "draw") i.0) i.1
         | inr i ↦ elim (chosen (bytes_eq verb (codes "reissue")) (reissue_in word) _ (Some event) i.1) [
-          | inl j ↦ found_reissue tested verb word event (is_verb verb (codes "reissue") j.0) j.1
+          | inl j ↦ found_reissue tested.keys verb word event (is_verb verb (codes "reissue") j.0) j.1
           | inr j ↦ found_with_number verb word event j.1
         ]
       ]
     ]
 
-found_with_one : KeysAreTested → (verb word : List ℕ) (event : Event) → event_with_one verb word ≡ Some event → AskFor event (verb ∷ word ∷ [])
+found_with_one : AreTested → (verb word : List ℕ) (event : Event) → event_with_one verb word ≡ Some event → AskFor event (verb ∷ word ∷ [])
 found_with_one tested verb word event e =
     elim (chosen (bytes_eq verb (codes "info")) (info_in word) _ (Some event) e) [
       | inl h ↦ found_info verb word event (is_verb verb (codes "info") h.0) h.1
@@ -242,21 +275,27 @@ found_with_one tested verb word event e =
       ]
     ]
 
-found_with_two : KeysAreTested → (verb cell digits : List ℕ) (event : Event) → event_with_two verb cell digits ≡ Some event
+found_with_two : AreTested → (verb cell digits : List ℕ) (event : Event) → event_with_two verb cell digits ≡ Some event
     → AskFor event (verb ∷ cell ∷ digits ∷ [])
 found_with_two tested verb cell digits event e =
     elim (chosen (bytes_eq verb (codes "rollback")) (rollback_in cell digits) _ (Some event) e) [
-      | inl h ↦ found_rollback tested verb cell digits event (is_verb verb (codes "rollback") h.0) h.1
+      | inl h ↦ found_rollback tested.keys verb cell digits event (is_verb verb (codes "rollback") h.0) h.1
       | inr h ↦ elim (chosen (bytes_eq verb (codes "paint")) (paint_in cell digits) _ (Some event) h.1) [
         | inl i ↦ found_paint verb cell digits event (is_verb verb (codes "paint") i.0) i.1
-        | inr i ↦ elim (chosen (bytes_eq verb (codes "make")) (make_in cell digits) None (Some event) i.1) [
+        | inr i ↦ elim (chosen (bytes_eq verb (codes "make")) (make_in cell digits) _ (Some event) i.1) [
           | inl j ↦ found_make verb cell digits event (is_verb verb (codes "make") j.0) j.1
-          | inr j ↦ absurd (let none = j.1 in cc)
+          | inr j ↦ elim (chosen (bytes_eq verb (codes "guard")) (guard_in cell digits) _ (Some event) j.1) [
+            | inl k ↦ found_guard tested verb cell digits event (is_verb verb (codes "guard") k.0) k.1
+            | inr k ↦ elim (chosen (bytes_eq verb (codes "fix")) (fix_in cell digits) None (Some event) k.1) [
+              | inl l ↦ found_fix tested verb cell digits event (is_verb verb (codes "fix") l.0) l.1
+              | inr l ↦ absurd (let none = l.1 in cc)
+            ]
+          ]
         ]
       ]
     ]
 
-pub asked : KeysAreTested → (words : List (List ℕ)) (event : Event) → event_of words ≡ Some event → AskFor event words
+pub asked : AreTested → (words : List (List ℕ)) (event : Event) → event_of words ≡ Some event → AskFor event words
 unfolding event_of
 asked tested [] event e = absurd cc
 asked tested (verb ∷ []) event e = found_alone verb event e
@@ -264,7 +303,7 @@ asked tested (verb ∷ word ∷ []) event e = found_with_one tested verb word ev
 asked tested (verb ∷ first ∷ second ∷ []) event e = found_with_two tested verb first second event e
 asked tested (verb ∷ first ∷ second ∷ third ∷ more) event e = absurd cc
 
-pub found : KeysAreTested → (line : List ℕ) (event : Event) → event_of (words_of line) ≡ Some event → Spells line event
+pub found : AreTested → (line : List ℕ) (event : Event) → event_of (words_of line) ≡ Some event → Spells line event
 found tested line event e = record {
   words = words_of line;
   asking = asked tested (words_of line) event e;
@@ -298,14 +337,26 @@ make_again : (areas update : ℕ) (area_digits update_digits : List ℕ) → IsS
 make_again areas update area_digits update_digits a u is of m =
     rw ((Decides-short area_digits).1 a, (Decides-short update_digits).1 u, sym is, sym of, (Decides-made areas update).1 m) refl
 
-pub asked_again : KeysAreTested → (event : Event) (words : List (List ℕ)) → AskFor event words → event_of words ≡ Some event
+guard_again : AreTested → (w h : ℕ) (w_text h_text : List ℕ) → SpellsHalfWidth w_text w → SpellsHalfWidth h_text h → guard_in w_text h_text ≡ Some (Guard w h)
+guard_again tested w h w_text h_text s t =
+    let first = (tested.half_widths w_text w).1 s in
+    let second = (tested.half_widths h_text h).1 t in
+    λ i. guard_with (first i) (second i)
+
+fix_again : AreTested → (x y : ℤ) (x_text y_text : List ℕ) → SpellsLongitude x_text x → SpellsLatitude y_text y → fix_in x_text y_text ≡ Some (Fix x y)
+fix_again tested x y x_text y_text s t =
+    let first = (tested.coordinates 1800000000 x_text x).1 s in
+    let second = (tested.coordinates 900000000 y_text y).1 t in
+    λ i. fix_with (first i) (second i)
+
+pub asked_again : AreTested → (event : Event) (words : List (List ℕ)) → AskFor event words → event_of words ≡ Some event
 unfolding event_of
 asked_again tested (Info name) words a = ap event_of a.0 ∙ rw ((Decides-word name).1 a.1) refl
 asked_again tested (Load name) words a = ap event_of a.0 ∙ rw ((Decides-word name).1 a.1) refl
 asked_again tested (Rollback cell update) words a =
-    ap event_of a.spoken ∙ rw ((tested cell).1 a.key, (Decides-short a.digits).1 a.short) (ap (λ (n : ℕ). Some (Rollback cell n)) (sym a.value))
-asked_again tested (Drop cell) words a = ap event_of a.0 ∙ rw ((tested cell).1 a.1) refl
-asked_again tested (Draw cell) words a = ap event_of a.0 ∙ rw ((tested cell).1 a.1) refl
+    ap event_of a.spoken ∙ rw ((tested.keys cell).1 a.key, (Decides-short a.digits).1 a.short) (ap (λ (n : ℕ). Some (Rollback cell n)) (sym a.value))
+asked_again tested (Drop cell) words a = ap event_of a.0 ∙ rw ((tested.keys cell).1 a.1) refl
+asked_again tested (Draw cell) words a = ap event_of a.0 ∙ rw ((tested.keys cell).1 a.1) refl
 asked_again tested (Route name) words a = ap event_of a.0 ∙ rw ((Decides-word name).1 a.1) refl
 asked_again tested Save words a = ap event_of a
 asked_again tested (SaveStep slices) words a = ap event_of a.spoken ∙ save_step_again slices a.digits a.short a.value a.some
@@ -316,11 +367,13 @@ asked_again tested (Panel panel) words a = ap event_of a.spoken ∙ panel_again 
 asked_again tested (ClosePanel panel) words a = ap event_of a.spoken ∙ close_panel_again panel a.digits a.short a.value
 asked_again tested (Make areas update) words a =
     ap event_of a.spoken ∙ make_again areas update a.area_digits a.update_digits a.areas_short a.update_short a.areas_value a.update_value a.ranges
-asked_again tested (Reissue cell) words a = ap event_of a.0 ∙ rw ((tested cell).1 a.1) refl
+asked_again tested (Reissue cell) words a = ap event_of a.0 ∙ rw ((tested.keys cell).1 a.1) refl
 asked_again tested (Begin name) words a = ap event_of a.0 ∙ rw ((Decides-word name).1 a.1) refl
 asked_again tested (Step changes) words a = ap event_of a.spoken ∙ step_again changes a.digits a.short a.value a.some
 asked_again tested Commit words a = ap event_of a
 asked_again tested (Cover name) words a = ap event_of a.0 ∙ rw ((Decides-word name).1 a.1) refl
+asked_again tested (Guard w h) words a = ap event_of a.spoken ∙ guard_again tested w h a.w_text a.h_text a.w_spelled a.h_spelled
+asked_again tested (Fix x y) words a = ap event_of a.spoken ∙ fix_again tested x y a.x_text a.y_text a.x_spelled a.y_spelled
 asked_again tested Cells words a = ap event_of a
 
 split_panel : (verb : List ℕ) (panel : ℕ) (words : List (List ℕ)) → list_all (λ b. not (eqb b 32)) verb ≡ true → AskForPanel verb panel words
@@ -381,10 +434,18 @@ split_again Commit words a =
 split_again (Cover name) words a =
     ap (λ (w : List (List ℕ)). words_of (join_with_byte 32 w)) a.0
     ∙ split_two (codes "cover") name (tested_lack (codes "cover") refl) (visible_lack name a.1.visible) ∙ sym a.0
+split_again (Guard w h) words a =
+    ap (λ (l : List (List ℕ)). words_of (join_with_byte 32 l)) a.spoken
+    ∙ split_three (codes "guard") a.w_text a.h_text (tested_lack (codes "guard") refl) (digits_lack a.w_text a.w_spelled.number.0.1) (digits_lack a.h_text a.h_spelled.number.0.1)
+    ∙ sym a.spoken
+split_again (Fix x y) words a =
+    ap (λ (l : List (List ℕ)). words_of (join_with_byte 32 l)) a.spoken
+    ∙ split_three (codes "fix") a.x_text a.y_text (tested_lack (codes "fix") refl) (signed_lack a.x_text x a.x_spelled.spelled) (signed_lack a.y_text y a.y_spelled.spelled)
+    ∙ sym a.spoken
 split_again Cells words a =
     ap (λ (w : List (List ℕ)). words_of (join_with_byte 32 w)) a ∙ one_part 32 (codes "cells") (tested_lack (codes "cells") refl) ∙ sym a
 
-pub given : KeysAreTested → (line : List ℕ) (event : Event) → Spells line event → event_of (words_of line) ≡ Some event
+pub given : AreTested → (line : List ℕ) (event : Event) → Spells line event → event_of (words_of line) ≡ Some event
 given tested line event s =
     ap (λ (l : List ℕ). event_of (words_of l)) s.parted
     ∙ ap event_of (split_again event s.words s.asking)
@@ -428,6 +489,10 @@ asked_short (Step changes) words a =
 asked_short Commit words a = omega (arith, ap (λ (w : List (List ℕ)). length (join_with_byte 32 w)) a)
 asked_short (Cover name) words a =
     omega (arith, ap (λ (w : List (List ℕ)). length (join_with_byte 32 w)) a.0, length-append (codes "cover") (32 ∷ name), a.1.short)
+asked_short (Guard w h) words a =
+    omega (arith, ap (λ (l : List (List ℕ)). length (join_with_byte 32 l)) a.spoken, length-append (codes "guard") (32 ∷ (a.w_text ++ 32 ∷ a.h_text)), length-append a.w_text (32 ∷ a.h_text), a.w_spelled.number.1, a.h_spelled.number.1)
+asked_short (Fix x y) words a =
+    omega (arith, ap (λ (l : List (List ℕ)). length (join_with_byte 32 l)) a.spoken, length-append (codes "fix") (32 ∷ (a.x_text ++ 32 ∷ a.y_text)), length-append a.x_text (32 ∷ a.y_text), signed_short a.x_text x a.x_spelled.spelled, signed_short a.y_text y a.y_spelled.spelled)
 asked_short Cells words a = omega (arith, ap (λ (w : List (List ℕ)). length (join_with_byte 32 w)) a)
 
 pub spelled_short : (line : List ℕ) (event : Event) → Spells line event → length line ≤ 1024
@@ -454,6 +519,8 @@ asked_in_range (Begin name) words a = tt
 asked_in_range (Step changes) words a = a.some
 asked_in_range Commit words a = tt
 asked_in_range (Cover name) words a = tt
+asked_in_range (Guard w h) words a = record { w_in = a.w_spelled.range; h_in = a.h_spelled.range }
+asked_in_range (Fix x y) words a = record { x_in = a.x_spelled.range; y_in = a.y_spelled.range }
 
 pub spelled_in_range : (line : List ℕ) (event : Event) → Spells line event → AreInRange event
 spelled_in_range line event s = asked_in_range event s.words s.asking

@@ -2,7 +2,7 @@
 use Rattle.std.proofs.Common.{ℕ, ◌<◌, List, [], ◌∷◌, ◌++◌, codes, length, length-append, arith}
 use Rattle.script_reader.specs.Reply.{line_of, number, bytes_of_reply, words_if}
 use Rattle.script_reader.specs.declared.reply.Reply.{Reply}
-use Rattle.script_reader.specs.declared.reply.Reply.TheVariants.{Info, Load, Cancel, Rollback, Drop, Cells, Draw, Route, Save, SaveStep, Saved, Refresh, Paint, Panel, ClosePanel, Make, Reissue, Begin, Step, Commit, Cover, Refused}
+use Rattle.script_reader.specs.declared.reply.Reply.TheVariants.{Info, Load, Cancel, Rollback, Drop, Cells, Draw, Route, Save, SaveStep, Saved, Refresh, Paint, Panel, ClosePanel, Make, Reissue, Begin, Step, Commit, Cover, Guard, Fix, Refused}
 
 -- a line has its line feed at least, whatever follows it
 line-spoken : (words : List (List ℕ)) → 0 < length (line_of words)
@@ -42,4 +42,7 @@ reply-spoken (Step done total) = line-spoken (codes "ok" ∷ codes "step" ∷ nu
 reply-spoken (Commit key edition update) =
     line-spoken (codes "ok" ∷ codes "commit" ∷ key ∷ number edition ∷ number update ∷ [])
 reply-spoken (Cover legs count lines) = lines-spoken (codes "ok" ∷ codes "cover" ∷ number legs ∷ number count ∷ []) lines
+reply-spoken (Guard w h) = line-spoken (codes "ok" ∷ codes "guard" ∷ number w ∷ number h ∷ [])
+reply-spoken (Fix raised cleared lines) =
+    lines-spoken (codes "ok" ∷ codes "fix" ∷ number raised ∷ number cleared ∷ []) lines
 reply-spoken (Refused code values) = line-spoken (codes "no" ∷ number code ∷ words_if values)

@@ -1,5 +1,5 @@
 -- What the tests of words and numbers tell.
-use Rattle.std.proofs.Common.{◌≡◌, ℕ, ◌<◌, ◌≤◌, ◌^◌, true, false, nat_le, ◌&&◌, ◌↔◌, List, length, arith}
+use Rattle.std.proofs.Common.{◌≡◌, ℕ, ◌<◌, ◌≤◌, ◌^◌, ℤ, true, false, nat_le, ◌&&◌, ◌↔◌, List, length, Some, arith}
 use Rattle.std.specs.Bool.{Decides}
 use Rattle.std.specs.List.{All}
 use Rattle.std.specs.Str.{all_ascii_digits, IsUtf8}
@@ -13,6 +13,7 @@ use Rattle.common_lemmas.proofs.Digits.{Decides-digits, numerals}
 use Rattle.chart_model.specs.Key.{IsKey, IsVisible, is_key}
 use Rattle.chart_model.proofs.KeyTests.{Decides-le, Decides-visible_word}
 use Rattle.text_scan.specs.Number.{value_of}
+use Rattle.position_texts.specs.Position.{SpellsHalfWidth, SpellsCoordinate, half_width_of, coordinate_of}
 use Rattle.script_reader.specs.Word.{IsWord, is_word}
 use Rattle.script_reader.specs.Number.{IsShortNumber, is_short_number}
 use Rattle.script_reader.specs.Line.{CanBeMade}
@@ -21,6 +22,22 @@ use Rattle.script_reader.specs.Reading.{can_be_made}
 -- the test of definitions tells keys, as the law of keys says
 abbrev pub KeysAreTested : Type 0
 KeysAreTested = (bytes : List ℕ) → (is_key bytes ≡ true) ↔ IsKey bytes
+
+-- what the law of positions says
+abbrev pub HalfWidthsAreTested : Type 0
+HalfWidthsAreTested = (text : List ℕ) (n : ℕ) → (half_width_of text ≡ Some n) ↔ SpellsHalfWidth text n
+
+abbrev pub CoordinatesAreTested : Type 0
+CoordinatesAreTested = (most : ℕ) (text : List ℕ) (z : ℤ) → (coordinate_of most text ≡ Some z) ↔ SpellsCoordinate most text z
+
+-- all of these laws
+pub record AreTested : Type 0 where
+  pub keys : KeysAreTested
+  pub half_widths : HalfWidthsAreTested
+  pub coordinates : CoordinatesAreTested
+
+pub are_tested : KeysAreTested → HalfWidthsAreTested → CoordinatesAreTested → AreTested
+are_tested keys half_widths coordinates = record { keys = keys; half_widths = half_widths; coordinates = coordinates }
 
 pub no_key : KeysAreTested → (bytes : List ℕ) → ¬ IsKey bytes → is_key bytes ≡ false
 no_key tested bytes other = false_from_ne_true (is_key bytes) (λ is. other ((tested bytes).0 is))

@@ -1,16 +1,17 @@
 -- What the lines of a script are: words parted by single spaces, and what they ask for.
-use Rattle.std.specs.Prelude.{◌≡◌, ◌≤◌, ℕ, List, [], ◌∷◌, codes, ⊤}
+use Rattle.std.specs.Prelude.{◌≡◌, ◌≤◌, ℕ, ℤ, List, [], ◌∷◌, codes, ⊤}
 use Rattle.std.specs.Int.{IsInRange}
 use Rattle.std.specs.List.{join_with_byte}
 use Rattle.chart_model.specs.Key.{IsKey}
 use Rattle.text_lines.specs.Lines.{IsSilent}
 use Rattle.text_scan.specs.Number.{value_of}
+use Rattle.position_texts.specs.Position.{IsWithin, SpellsHalfWidth, SpellsLongitude, SpellsLatitude}
 use Rattle.script_reader.specs.Word.{IsWord}
 use Rattle.script_reader.specs.Number.{IsShortNumber}
 use Rattle.script_reader.specs.declared.event.Event.{Event}
 use Rattle.script_reader.specs.declared.event.Event.TheVariants.{Info, Load, Rollback, Drop, Cells, Draw, Route}
 use Rattle.script_reader.specs.declared.event.Event.TheVariants.{Save, SaveStep, Refresh, Paint, Panel}
-use Rattle.script_reader.specs.declared.event.Event.TheVariants.{ClosePanel, Make, Reissue, Begin, Step, Commit, Cover}
+use Rattle.script_reader.specs.declared.event.Event.TheVariants.{ClosePanel, Make, Reissue, Begin, Step, Commit, Cover, Guard, Fix}
 
 -- `rollback`, a cell and the digits of an update's number
 pub record AskForRollback (cell : List ℕ) (update : ℕ) (words : List (List ℕ)) : Type 0 where
@@ -62,6 +63,32 @@ pub record AskForMake (areas update : ℕ) (words : List (List ℕ)) : Type 0 wh
   pub update_value : update ≡ value_of update_digits
   pub ranges : CanBeMade areas update
 
+-- half-widths of up to 10 degrees
+pub record CanGuard (w h : ℕ) : Type 0 where
+  pub w_in : w ≤ 100000000
+  pub h_in : h ≤ 100000000
+
+-- `guard` and two of them
+pub record AskForGuard (w h : ℕ) (words : List (List ℕ)) : Type 0 where
+  pub w_text : List ℕ
+  pub h_text : List ℕ
+  pub spoken : words ≡ codes "guard" ∷ w_text ∷ h_text ∷ []
+  pub w_spelled : SpellsHalfWidth w_text w
+  pub h_spelled : SpellsHalfWidth h_text h
+
+-- a longitude of up to 180 degrees and a latitude of up to 90
+pub record IsOnGlobe (x y : ℤ) : Type 0 where
+  pub x_in : IsWithin 1800000000 x
+  pub y_in : IsWithin 900000000 y
+
+-- `fix`, a longitude and a latitude
+pub record AskForFix (x y : ℤ) (words : List (List ℕ)) : Type 0 where
+  pub x_text : List ℕ
+  pub y_text : List ℕ
+  pub spoken : words ≡ codes "fix" ∷ x_text ∷ y_text ∷ []
+  pub x_spelled : SpellsLongitude x_text x
+  pub y_spelled : SpellsLatitude y_text y
+
 -- the words that ask for an event: a verb, and the words that it takes
 abbrev pub AskFor : Event → List (List ℕ) → Type 0
 AskFor (Info name) words = (words ≡ codes "info" ∷ name ∷ []) × IsWord name
@@ -83,6 +110,8 @@ AskFor (Begin name) words = (words ≡ codes "begin" ∷ name ∷ []) × IsWord 
 AskFor (Step changes) words = AskForSteps (codes "step") changes words
 AskFor Commit words = words ≡ codes "commit" ∷ []
 AskFor (Cover name) words = (words ≡ codes "cover" ∷ name ∷ []) × IsWord name
+AskFor (Guard w h) words = AskForGuard w h words
+AskFor (Fix x y) words = AskForFix x y words
 
 -- the events that name a file
 abbrev pub NamesFile : Event → Type 0
@@ -105,6 +134,8 @@ NamesFile (Begin name) = ⊤
 NamesFile (Step changes) = ⊥
 NamesFile Commit = ⊥
 NamesFile (Cover name) = ⊤
+NamesFile (Guard w h) = ⊥
+NamesFile (Fix x y) = ⊥
 
 -- the numbers of an event are in the ranges that its line has
 abbrev pub AreInRange : Event → Type 0
@@ -127,6 +158,8 @@ AreInRange (Begin name) = ⊤
 AreInRange (Step changes) = 1 ≤ changes
 AreInRange Commit = ⊤
 AreInRange (Cover name) = ⊤
+AreInRange (Guard w h) = CanGuard w h
+AreInRange (Fix x y) = IsOnGlobe x y
 
 -- the line is such words, parted by single spaces, with nothing before the first and nothing behind the last
 pub record Spells (line : List ℕ) (event : Event) : Type 0 where

@@ -1,16 +1,17 @@
 -- What a line asks for, as a function.
-use Rattle.std.specs.Prelude.{◌≡◌, ℕ, nat_le, Bool, ◌&&◌, if◌then◌else◌, List, [], ◌∷◌, codes}
+use Rattle.std.specs.Prelude.{◌≡◌, ℕ, ℤ, nat_le, Bool, ◌&&◌, if◌then◌else◌, List, [], ◌∷◌, codes}
 use Rattle.std.specs.Prelude.{Option, Some, None, Result, Ok, Err}
 use Rattle.std.specs.Str.{bytes_eq}
 use Rattle.chart_model.specs.Key.{is_key}
 use Rattle.text_lines.specs.Lines.{is_silent, words_of}
 use Rattle.text_scan.specs.Number.{value_of}
+use Rattle.position_texts.specs.Position.{half_width_of, longitude_of, latitude_of}
 use Rattle.script_reader.specs.Word.{is_word}
 use Rattle.script_reader.specs.Number.{is_short_number}
 use Rattle.script_reader.specs.declared.event.Event.{Event}
 use Rattle.script_reader.specs.declared.event.Event.TheVariants.{Info, Load, Rollback, Drop, Cells, Draw, Route}
 use Rattle.script_reader.specs.declared.event.Event.TheVariants.{Save, SaveStep, Refresh, Paint, Panel}
-use Rattle.script_reader.specs.declared.event.Event.TheVariants.{ClosePanel, Make, Reissue, Begin, Step, Commit, Cover}
+use Rattle.script_reader.specs.declared.event.Event.TheVariants.{ClosePanel, Make, Reissue, Begin, Step, Commit, Cover, Guard, Fix}
 use Rattle.script_reader.specs.declared.fault.LineFault.{LineFault}
 use Rattle.script_reader.specs.Line.{NamesFile}
 use Rattle.script_reader.specs.declared.fault.LineFault.TheVariants.{BadLine, NoMemory}
@@ -82,6 +83,22 @@ step_in digits = if is_short_number digits then step_with (value_of digits) else
 abbrev pub cover_in : List ℕ → Option Event
 cover_in name = if is_word name then Some (Cover name) else None
 
+abbrev pub guard_with : Option ℕ → Option ℕ → Option Event
+guard_with (Some w) (Some h) = Some (Guard w h)
+guard_with (Some w) None = None
+guard_with None h = None
+
+abbrev pub guard_in : List ℕ → List ℕ → Option Event
+guard_in w h = guard_with (half_width_of w) (half_width_of h)
+
+abbrev pub fix_with : Option ℤ → Option ℤ → Option Event
+fix_with (Some x) (Some y) = Some (Fix x y)
+fix_with (Some x) None = None
+fix_with None y = None
+
+abbrev pub fix_in : List ℕ → List ℕ → Option Event
+fix_in x y = fix_with (longitude_of x) (latitude_of y)
+
 -- a verb that takes no word, one number, a cell, one word, or two
 abbrev pub event_alone : List ℕ → Option Event
 event_alone verb =
@@ -120,6 +137,8 @@ event_with_two verb first second =
     if bytes_eq verb (codes "rollback") then rollback_in first second
     else if bytes_eq verb (codes "paint") then paint_in first second
     else if bytes_eq verb (codes "make") then make_in first second
+    else if bytes_eq verb (codes "guard") then guard_in first second
+    else if bytes_eq verb (codes "fix") then fix_in first second
     else None
 
 -- what words ask for

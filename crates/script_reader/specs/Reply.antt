@@ -6,7 +6,7 @@ use Rattle.script_reader.specs.declared.reply.Reply.{Reply}
 use Rattle.script_reader.specs.declared.reply.Reply.TheVariants.{Info, Load, Cancel, Rollback, Drop, Cells, Draw}
 use Rattle.script_reader.specs.declared.reply.Reply.TheVariants.{Route, Save, SaveStep, Saved, Refresh, Paint, Panel}
 use Rattle.script_reader.specs.declared.reply.Reply.TheVariants.{ClosePanel, Make, Reissue, Begin, Step, Commit, Cover}
-use Rattle.script_reader.specs.declared.reply.Reply.TheVariants.{Refused}
+use Rattle.script_reader.specs.declared.reply.Reply.TheVariants.{Guard, Fix, Refused}
 
 -- the decimal text of a number
 abbrev pub number : ℕ → List ℕ
@@ -54,4 +54,7 @@ bytes_of_reply (Commit key edition update) =
     line_of (codes "ok" ∷ codes "commit" ∷ key ∷ number edition ∷ number update ∷ [])
 bytes_of_reply (Cover legs count lines) =
     line_of (codes "ok" ∷ codes "cover" ∷ number legs ∷ number count ∷ []) ++ lines
+bytes_of_reply (Guard w h) = line_of (codes "ok" ∷ codes "guard" ∷ number w ∷ number h ∷ [])
+bytes_of_reply (Fix raised cleared lines) =
+    line_of (codes "ok" ∷ codes "fix" ∷ number raised ∷ number cleared ∷ []) ++ lines
 bytes_of_reply (Refused code values) = line_of (codes "no" ∷ number code ∷ words_if values)

@@ -9,7 +9,7 @@ ghost use Rattle.script_reader.specs.Line.{NamesFile};
 ghost use Rattle.script_reader.specs.Reading.{info_in, load_in, rollback_in, drop_in, draw_in, route_in};
 ghost use Rattle.script_reader.specs.Reading.{make_in, make_with, reissue_in, save_step_in, save_step_with};
 ghost use Rattle.script_reader.specs.Reading.{refresh_in, paint_in, paint_with, panel_in, close_panel_in};
-ghost use Rattle.script_reader.specs.Reading.{begin_in, step_with, step_in, cover_in};
+ghost use Rattle.script_reader.specs.Reading.{begin_in, step_with, step_in, cover_in, guard_in, fix_in};
 ghost use Rattle.script_reader.specs.Reading.{event_alone, event_with_number, event_with_cell, event_with_one};
 ghost use Rattle.script_reader.specs.Reading.{event_with_two, event_of};
 ghost use Rattle.text_lines.specs.Lines.{words_of};
@@ -17,6 +17,7 @@ ghost use Rattle.text_lines.specs.Lines.{words_of};
 use crate::word::Word;
 use crate::words::read_short;
 use chart_model::{Key, keys_are_tested};
+use position_texts::{read_half_width, read_latitude, read_longitude};
 use std::alloc::{AllocError, Global};
 use text_lines::{Words, read_words};
 
@@ -68,6 +69,11 @@ pub enum Event {
     Commit,
     /// The legs of the route of the file of this name that no coverage area covers are listed.
     Cover(Word),
+    /// A box goes with the ship from now on: its half-widths in longitude and in latitude, 0 to 100,000,000, in degrees
+    /// times 10,000,000, as positions are.
+    Guard(u32, u32),
+    /// The ship is at this longitude, up to 1,800,000,000 on either side of 0, and latitude, up to 900,000,000.
+    Fix(i32, i32),
 }
 
 /// What a verb alone asks for.
@@ -279,6 +285,24 @@ fn cover_of(alloc: Global, word: &[u8]) -> Result<Option<Event>, AllocError>
     }
 }
 
+/// `guard` and the half-widths of a box.
+fn guard_of(w: &[u8], h: &[u8]) -> Option<Event>
+    ensures { result ≡ guard_in w.now h.now }
+{
+    let w = read_half_width(w)?;
+    let h = read_half_width(h)?;
+    Some(Event::Guard(w, h))
+}
+
+/// `fix`, a longitude and a latitude.
+fn fix_of(x: &[u8], y: &[u8]) -> Option<Event>
+    ensures { result ≡ fix_in x.now y.now }
+{
+    let x = read_longitude(x)?;
+    let y = read_latitude(y)?;
+    Some(Event::Fix(x, y))
+}
+
 /// What a verb and one number ask for.
 fn event_with_number(verb: &[u8], digits: &[u8]) -> Option<Event>
     ensures { result ≡ event_with_number verb.now digits.now }
@@ -344,6 +368,10 @@ fn event_with_two(verb: &[u8], first: &[u8], second: &[u8]) -> Option<Event>
         paint_of(first, second)
     } else if verb == b"make".as_slice() {
         make_of(first, second)
+    } else if verb == b"guard".as_slice() {
+        guard_of(first, second)
+    } else if verb == b"fix".as_slice() {
+        fix_of(first, second)
     } else {
         None
     }

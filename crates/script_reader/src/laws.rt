@@ -14,6 +14,7 @@ ghost use Rattle.script_reader.specs.Reply.{bytes_of_reply};
 ghost use Rattle.script_reader.specs.declared.reply.Reply.{Reply};
 
 use chart_model::keys_are_tested;
+use position_texts::positions_are_spelled;
 
 /// The function that definitions cite gives the event that a line spells, and a line spells one event at
 /// most. It gives none exactly for a silent line, and a fault, which has the line's number, exactly for a
@@ -28,6 +29,7 @@ pub fn lines_are_read()
     ensures ranges { (line : List ℕ) (event : Event) → Spells line event → AreInRange event }
 {
     keys_are_tested();
+    positions_are_spelled();
 }
 
 /// A line that asks for an event has at most 1,024 bytes, so that a longer one is told by its front.
@@ -37,6 +39,7 @@ pub fn long_lines_are_read_by_their_front()
         event_in number (front ++ rest) ≡ event_in number front }
 {
     keys_are_tested();
+    positions_are_spelled();
 }
 
 /// A reply has a byte at least.

@@ -3,7 +3,8 @@
 //! A line is a verb and the words that it takes, parted by single spaces. Nothing stands before the
 //! first word, nor behind the last; a line feed and a carriage return are removed before. NAME is 1 to
 //! 255 visible ASCII characters (0x21 to 0x7E), CELL 1 to 32 of them, K, N and U 1 to 9 digits, of which N is at least
-//! 1; those of `make` are 1 to 20,000 and 0 to 999.
+//! 1; those of `make` are 1 to 20,000 and 0 to 999. The numbers of `guard` and of `fix` are those of a route's file, in
+//! up to 18 digits (`position_texts`).
 //!
 //! - `info NAME`: what the file says of itself, `ok info KEY EDITION UPDATE RECORDS`;
 //! - `load NAME`: the file is taken over, `ok load KEY EDITION UPDATE`, or `ok cancel KEY`;
@@ -25,7 +26,10 @@
 //! - `begin NAME`: the file is read and judged, and its changes are to be made step by step, `ok begin KEY TOTAL`;
 //! - `step N`: the next N of these changes are made, or those that are left, `ok step DONE TOTAL`;
 //! - `commit`: the file that was begun is taken over, `ok commit KEY EDITION UPDATE`, or `ok cancel KEY`;
-//! - `cover NAME`: the legs of a route that no coverage area covers, `ok cover LEGS COUNT` and a line for each of them.
+//! - `cover NAME`: the legs of a route that no coverage area covers, `ok cover LEGS COUNT` and a line for each of them;
+//! - `guard W H`: a box goes with the ship, `ok guard W H`;
+//! - `fix X Y`: the ship is there, `ok fix RAISED CLEARED`, a line for each object that has come near, and one for each
+//!   that isn't near any more.
 //!
 //! Nothing is replied to an empty line, nor to one that begins with `#`. Any other line is a bad line. A
 //! refusal is `no CODE`, and behind a space what it names, where it names anything.

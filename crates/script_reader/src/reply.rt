@@ -58,6 +58,11 @@ pub enum Reply {
     /// So many legs of a route were looked at, and so many of them no coverage area covers, with the lines that follow,
     /// each ended by a line feed.
     Cover(u64, u64, Octets),
+    /// A box of these half-widths goes with the ship.
+    Guard(u32, u32),
+    /// So many objects have come near the ship, and so many aren't near any more, with the lines that follow, each ended
+    /// by a line feed.
+    Fix(u64, u64, Octets),
     /// The line is refused: the refusal's code, and what it names, parted by single spaces.
     Refused(u8, Octets),
 }
@@ -148,20 +153,20 @@ fn print_drawing(alloc: Global, key: &Key, count: u64, lines: &Octets) -> Result
     Ok(line)
 }
 
-/// The line of a verb, the number of a route's legs and the number of what is told of them, and those that follow it.
-fn print_route(
+/// The line of a verb and two numbers, and those that follow it.
+fn print_counted(
     alloc: Global,
     verb: &[u8],
-    legs: u64,
-    count: u64,
+    first: u64,
+    second: u64,
     lines: &Octets,
 ) -> Result<Octets, AllocError>
     ensures { IfOk result (λ line. line
-        ≡ line_of (codes "ok" ∷ verb.now ∷ number legs ∷ number count ∷ []) ++ lines.now) }
+        ≡ line_of (codes "ok" ∷ verb.now ∷ number first ∷ number second ∷ []) ++ lines.now) }
 {
     let mut line = accepted(alloc, verb)?;
-    push_number(alloc, &mut line, legs)?;
-    push_number(alloc, &mut line, count)?;
+    push_number(alloc, &mut line, first)?;
+    push_number(alloc, &mut line, second)?;
     end_line(&mut line)?;
     line.extend_from_slice(lines.as_slice())?;
     Ok(line)
@@ -177,14 +182,14 @@ fn print_save(alloc: Global, slices: u32) -> Result<Octets, AllocError>
     Ok(line)
 }
 
-/// The line of a verb, the number of steps that are done, and that of all.
-fn print_step(alloc: Global, verb: &[u8], done: u32, total: u32) -> Result<Octets, AllocError>
+/// The line of a verb and two numbers.
+fn print_pair(alloc: Global, verb: &[u8], first: u32, second: u32) -> Result<Octets, AllocError>
     ensures { IfOk result (λ line. line
-        ≡ line_of (codes "ok" ∷ verb.now ∷ number done ∷ number total ∷ [])) }
+        ≡ line_of (codes "ok" ∷ verb.now ∷ number first ∷ number second ∷ [])) }
 {
     let mut line = accepted(alloc, verb)?;
-    push_number(alloc, &mut line, done as u64)?;
-    push_number(alloc, &mut line, total as u64)?;
+    push_number(alloc, &mut line, first as u64)?;
+    push_number(alloc, &mut line, second as u64)?;
     end_line(&mut line)?;
     Ok(line)
 }
@@ -266,8 +271,8 @@ fn print_refusal(alloc: Global, code: u8, values: &Octets) -> Result<Octets, All
     Ok(line)
 }
 
-/// The bytes of the reply: its words, parted by single spaces, and a line feed; behind `ok cells`, `ok draw`, `ok route`
-/// and `ok cover` the lines that follow, as they are. Numbers are plain decimals.
+/// The bytes of the reply: its words, parted by single spaces, and a line feed; behind `ok cells`, `ok draw`,
+/// `ok route`, `ok cover` and `ok fix` the lines that follow, as they are. Numbers are plain decimals.
 #[tactic(auto, unfolding(crate::specs::Reply::bytes_of_reply))]
 pub fn print_reply(alloc: Global, reply: &Reply) -> Result<Octets, AllocError>
     ensures { IfOk result (λ bytes. bytes ≡ bytes_of_reply reply.now) }
@@ -284,9 +289,9 @@ pub fn print_reply(alloc: Global, reply: &Reply) -> Result<Octets, AllocError>
         Reply::Drop(key) => print_cell(alloc, b"drop", key),
         Reply::Cells(count, lines) => print_cells(alloc, *count, lines),
         Reply::Draw(key, count, lines) => print_drawing(alloc, key, *count, lines),
-        Reply::Route(legs, count, lines) => print_route(alloc, b"route", *legs, *count, lines),
+        Reply::Route(legs, count, lines) => print_counted(alloc, b"route", *legs, *count, lines),
         Reply::Save(slices) => print_save(alloc, *slices),
-        Reply::SaveStep(done, slices) => print_step(alloc, b"save-step", *done, *slices),
+        Reply::SaveStep(done, slices) => print_pair(alloc, b"save-step", *done, *slices),
         Reply::Saved => print_saved(alloc),
         Reply::Refresh(panel, calls) => print_refresh(alloc, *panel, *calls),
         Reply::Paint(panel, done, calls) => print_panel(alloc, b"paint", *panel, *done, *calls),
@@ -299,11 +304,15 @@ pub fn print_reply(alloc: Global, reply: &Reply) -> Result<Octets, AllocError>
             print_held(alloc, b"reissue", key, *edition, *update)
         }
         Reply::Begin(key, total) => print_begin(alloc, key, *total),
-        Reply::Step(done, total) => print_step(alloc, b"step", *done, *total),
+        Reply::Step(done, total) => print_pair(alloc, b"step", *done, *total),
         Reply::Commit(key, edition, update) => {
             print_held(alloc, b"commit", key, *edition, *update)
         }
-        Reply::Cover(legs, count, lines) => print_route(alloc, b"cover", *legs, *count, lines),
+        Reply::Cover(legs, count, lines) => print_counted(alloc, b"cover", *legs, *count, lines),
+        Reply::Guard(w, h) => print_pair(alloc, b"guard", *w, *h),
+        Reply::Fix(raised, cleared, lines) => {
+            print_counted(alloc, b"fix", *raised, *cleared, lines)
+        }
         Reply::Refused(code, values) => print_refusal(alloc, *code, values),
     }
 }

@@ -50,6 +50,8 @@ fn shown(alloc: Global, event: &Event) -> Result<Vec<u8>, AllocError> {
         Event::Step(changes) => Ok(format!(in alloc; "{changes} changes")?.into_bytes()),
         Event::Commit => Vec::from_slice(alloc, b"commit"),
         Event::Cover(name) => Ok(format!(in alloc; "cover {}", name.as_str())?.into_bytes()),
+        Event::Guard(w, h) => Ok(format!(in alloc; "{w} and {h} round")?.into_bytes()),
+        Event::Fix(x, y) => Ok(format!(in alloc; "{x} east and {y} north")?.into_bytes()),
     }
 }
 
@@ -119,6 +121,65 @@ static LINES: [(&[u8], &[u8]); 42] = [
     (b"step 999999999", b"999999999 changes"),
     (b"commit", b"commit"),
     (b"cover passages/1", b"cover passages/1"),
+];
+
+/// Lines of a guard, whose numbers are those of a route's file.
+static POSITIONS: [(&[u8], &[u8]); 11] = [
+    (b"guard 0 0", b"0 and 0 round"),
+    (b"guard 5 7", b"5 and 7 round"),
+    (
+        b"guard 100000000 100000000",
+        b"100000000 and 100000000 round",
+    ),
+    (b"guard 000000000100000000 00", b"100000000 and 0 round"),
+    (b"fix 0 0", b"0 east and 0 north"),
+    (b"fix -0 -00", b"0 east and 0 north"),
+    (b"fix 150 -50", b"150 east and -50 north"),
+    (
+        b"fix -1800000000 -900000000",
+        b"-1800000000 east and -900000000 north",
+    ),
+    (
+        b"fix 1800000000 900000000",
+        b"1800000000 east and 900000000 north",
+    ),
+    (
+        b"fix -000000001800000000 000000000900000000",
+        b"-1800000000 east and 900000000 north",
+    ),
+    (b"fix 900000001 7", b"900000001 east and 7 north"),
+];
+
+/// Lines beside them.
+static BAD_POSITIONS: [&[u8]; 28] = [
+    b"guard",
+    b"guard 5",
+    b"guard 5 5 5",
+    b"guard 5  5",
+    b"guard 5 5 ",
+    b"guards 5 5",
+    b"guard -1 5",
+    b"guard 5 -0",
+    b"guard +5 5",
+    b"guard 100000001 5",
+    b"guard 5 100000001",
+    b"guard 0000000000000000005 5",
+    b"guard 5 0000000000000000005",
+    b"guard 5 5x",
+    b"fix",
+    b"fix 0",
+    b"fix 0 0 0",
+    b"fix  0 0",
+    b"Fix 0 0",
+    b"fixed 0 0",
+    b"fix 1800000001 0",
+    b"fix -1800000001 0",
+    b"fix 0 900000001",
+    b"fix 0 -900000001",
+    b"fix +1 0",
+    b"fix --1 0",
+    b"fix - 0",
+    b"fix -0000000000000000001 0",
 ];
 
 /// Lines without words, or with other words.
@@ -217,6 +278,19 @@ fn lines(rt: HostRuntime) -> Result<(), Fail> {
 }
 
 #[test]
+fn positions(rt: HostRuntime) -> Result<(), Fail> {
+    for (at, (line, read)) in POSITIONS.iter().enumerate() {
+        let text = answer(rt.alloc(), line)?;
+        assert!(rt; text.as_slice() == *read, "case {at}");
+    }
+    for (at, line) in BAD_POSITIONS.iter().enumerate() {
+        let text = answer(rt.alloc(), line)?;
+        assert!(rt; text.as_slice() == b"bad 7".as_slice(), "bad case {at}");
+    }
+    Ok(())
+}
+
+#[test]
 fn bad_lines(rt: HostRuntime) -> Result<(), Fail> {
     for (at, line) in BAD_LINES.iter().enumerate() {
         let text = answer(rt.alloc(), line)?;
@@ -260,7 +334,7 @@ fn octets(alloc: Global, text: &[u8]) -> Result<Octets, AllocError> {
 #[test]
 fn replies(rt: HostRuntime) -> Result<(), Fail> {
     let key = Key::from_bytes(b"AA5TEST1").ok_or("a key")?;
-    let cases: [(Reply, &[u8]); 17] = [
+    let cases: [(Reply, &[u8]); 18] = [
         (
             Reply::Info(key, 1, 2, 18_446_744_073_709_551_615),
             b"ok info AA5TEST1 1 2 18446744073709551615\n",
@@ -296,6 +370,7 @@ fn replies(rt: HostRuntime) -> Result<(), Fail> {
         ),
         (Reply::Step(3, 39_002), b"ok step 3 39002\n"),
         (Reply::Commit(key, 1, 2), b"ok commit AA5TEST1 1 2\n"),
+        (Reply::Guard(5, 100_000_000), b"ok guard 5 100000000\n"),
     ];
     for (at, (reply, bytes)) in cases.iter().enumerate() {
         let text = print_reply(rt.alloc(), reply)?;
@@ -312,7 +387,8 @@ fn replies_with_lines(rt: HostRuntime) -> Result<(), Fail> {
     let items = octets(alloc, b"item 5 P 3 whole SY(QUESMRK1)\n")?;
     let dangers = octets(alloc, b"danger 2 AA5TEST1 4 1\n")?;
     let uncovered = octets(alloc, b"uncovered 2\n")?;
-    let cases: [(Reply, &[u8]); 4] = [
+    let alarms = octets(alloc, b"raise AA5TEST1 1 0\nclear AA5TEST1 2 0\n")?;
+    let cases: [(Reply, &[u8]); 5] = [
         (
             Reply::Cells(1, cells),
             b"ok cells 1\ncell AA5TEST1 1 0 1 2\n",
@@ -328,6 +404,10 @@ fn replies_with_lines(rt: HostRuntime) -> Result<(), Fail> {
         (
             Reply::Cover(2, 1, uncovered),
             b"ok cover 2 1\nuncovered 2\n",
+        ),
+        (
+            Reply::Fix(1, 1, alarms),
+            b"ok fix 1 1\nraise AA5TEST1 1 0\nclear AA5TEST1 2 0\n",
         ),
     ];
     for (at, (reply, bytes)) in cases.iter().enumerate() {

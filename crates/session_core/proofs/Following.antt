@@ -29,37 +29,40 @@ use Rattle.panel_scenes.specs.Scene.{SceneValue}
 use Rattle.session_core.specs.Outside.{FromOutside}
 use Rattle.session_core.specs.Panels.{IsOfPanel, begun_turn, close_turn, panel_turn, refresh_turn, target_of}
 use Rattle.session_core.specs.Replied.{Turn, refusal_turn, reply_turn}
+use Rattle.session_core.specs.Watch.{IsOfGuard}
 use Rattle.session_core.specs.Staging.{IsOfStaging, change_turn, commit_turn, stage_turn, unstaged}
 use Rattle.session_core.specs.Turn.{IsOfSave, MayAccept, begin_turn, save_turn, step_turn, turn_of}
 use Rattle.session_core.proofs.Stages.{by-change, by-commit, by-stage}
-use Rattle.session_core.proofs.Leaving.{Leaves, More, ordered-staging, begun-drawn, begun-none, begun-scenes, begun-staging, begun-state, drawn-by, file-order, held-in, leaves-all, nothing-some, of-panel, ordered-drawn, ordered-live, ordered-none, ordered-scenes, ordered-some, panel-staging, replied-live, replied-none, replied-same, replied-some, replied-staging, rests-staging, scenes-in, staged-by, stepped-drawn, stepped-none, stepped-scenes, stepped-staging, stepped-state}
+use Rattle.session_core.proofs.Leaving.{Leaves, More, ordered-staging, begun-drawn, begun-guard, begun-none, begun-scenes, begun-staging, begun-state, drawn-by, file-order, guard-of, guard-staging, held-in, leaves-all, nothing-some, of-guard, of-panel, ordered-drawn, ordered-live, ordered-none, ordered-scenes, ordered-some, panel-staging, replied-live, replied-none, replied-same, replied-some, replied-staging, rests-staging, scenes-in, staged-by, stepped-drawn, stepped-guard, stepped-none, stepped-scenes, stepped-staging, stepped-state}
 
 -- ---- turns
 
-pub turn-same : (outside : FromOutside) (model : Model) (event : Event) → (turn_of outside model event).command ≡ None → ¬ IsOfSave event → ¬ IsOfStaging event → ¬ IsOfPanel event
+pub turn-same : (outside : FromOutside) (model : Model) (event : Event) → (turn_of outside model event).command ≡ None → ¬ IsOfSave event → ¬ IsOfStaging event → ¬ IsOfPanel event → ¬ IsOfGuard event
     → (turn_of outside model event).model ≡ model
 unfolding turn_of
-turn-same outside model (asks.Info name) e other apart none = replied-same model (info_of name (outside.fetches FILE_LIMIT name))
-turn-same outside model asks.Cells e other apart none = refl
-turn-same outside model (asks.Draw key) e other apart none = replied-same model (draw_of model.portrayal model.state.cells key)
-turn-same outside model (asks.Route name) e other apart none =
+turn-same outside model (asks.Info name) e other apart none alone = replied-same model (info_of name (outside.fetches FILE_LIMIT name))
+turn-same outside model asks.Cells e other apart none alone = refl
+turn-same outside model (asks.Draw key) e other apart none alone = replied-same model (draw_of model.portrayal model.state.cells key)
+turn-same outside model (asks.Route name) e other apart none alone =
     replied-same model (route_of model.portrayal.settings model.state name (outside.fetches ROUTE_LIMIT name))
-turn-same outside model (asks.Cover name) e other apart none =
+turn-same outside model (asks.Cover name) e other apart none alone =
     replied-same model (cover_of model.state name (outside.fetches ROUTE_LIMIT name))
-turn-same outside model (asks.Load name) e other apart none = ordered-none model (load_order name (outside.fetches FILE_LIMIT name)) e
-turn-same outside model (asks.Rollback key update) e other apart none = ordered-none model (Ok (rollback_order key update)) e
-turn-same outside model (asks.Drop key) e other apart none = ordered-none model (Ok (drop_order key)) e
-turn-same outside model (asks.Begin name) e other apart none = absurd (apart tt)
-turn-same outside model (asks.Step n) e other apart none = absurd (apart tt)
-turn-same outside model asks.Commit e other apart none = absurd (apart tt)
-turn-same outside model asks.Save e other apart none = absurd (other tt)
-turn-same outside model (asks.SaveStep slices) e other apart none = absurd (other tt)
-turn-same outside model (asks.Refresh k) e other apart none = absurd (none tt)
-turn-same outside model (asks.Paint k n) e other apart none = absurd (none tt)
-turn-same outside model (asks.Panel k) e other apart none = absurd (none tt)
-turn-same outside model (asks.ClosePanel k) e other apart none = absurd (none tt)
-turn-same outside model (asks.Make areas update) e other apart none = ordered-none model (make_order areas update) e
-turn-same outside model (asks.Reissue key) e other apart none = ordered-none model (reissue_order model.state.cells key) e
+turn-same outside model (asks.Load name) e other apart none alone = ordered-none model (load_order name (outside.fetches FILE_LIMIT name)) e
+turn-same outside model (asks.Rollback key update) e other apart none alone = ordered-none model (Ok (rollback_order key update)) e
+turn-same outside model (asks.Drop key) e other apart none alone = ordered-none model (Ok (drop_order key)) e
+turn-same outside model (asks.Begin name) e other apart none alone = absurd (apart tt)
+turn-same outside model (asks.Step n) e other apart none alone = absurd (apart tt)
+turn-same outside model asks.Commit e other apart none alone = absurd (apart tt)
+turn-same outside model asks.Save e other apart none alone = absurd (other tt)
+turn-same outside model (asks.SaveStep slices) e other apart none alone = absurd (other tt)
+turn-same outside model (asks.Refresh k) e other apart none alone = absurd (none tt)
+turn-same outside model (asks.Paint k n) e other apart none alone = absurd (none tt)
+turn-same outside model (asks.Panel k) e other apart none alone = absurd (none tt)
+turn-same outside model (asks.ClosePanel k) e other apart none alone = absurd (none tt)
+turn-same outside model (asks.Make areas update) e other apart none alone = ordered-none model (make_order areas update) e
+turn-same outside model (asks.Reissue key) e other apart none alone = ordered-none model (reissue_order model.state.cells key) e
+turn-same outside model (asks.Guard w h) e other apart none alone = absurd (alone tt)
+turn-same outside model (asks.Fix x y) e other apart none alone = absurd (alone tt)
 
 pub turn-none : (outside : FromOutside) (model : Model) (event : Event) → (turn_of outside model event).command ≡ None
     → (turn_of outside model event).model.state ≡ model.state
@@ -69,20 +72,22 @@ turn-none outside model (asks.Step n) e = ap held-in (staged-by model outside (a
 turn-none outside model asks.Commit e = ap held-in (staged-by model outside asks.Commit tt e)
 turn-none outside model asks.Save e = begun-state model model.save
 turn-none outside model (asks.SaveStep slices) e = stepped-state model slices model.save
-turn-none outside model (asks.Info name) e = ap held-in (turn-same outside model (asks.Info name) e (λ no. no) (λ no. no) (λ no. no))
+turn-none outside model (asks.Info name) e = ap held-in (turn-same outside model (asks.Info name) e (λ no. no) (λ no. no) (λ no. no) (λ no. no))
 turn-none outside model asks.Cells e = refl
-turn-none outside model (asks.Draw key) e = ap held-in (turn-same outside model (asks.Draw key) e (λ no. no) (λ no. no) (λ no. no))
-turn-none outside model (asks.Route name) e = ap held-in (turn-same outside model (asks.Route name) e (λ no. no) (λ no. no) (λ no. no))
-turn-none outside model (asks.Cover name) e = ap held-in (turn-same outside model (asks.Cover name) e (λ no. no) (λ no. no) (λ no. no))
-turn-none outside model (asks.Load name) e = ap held-in (turn-same outside model (asks.Load name) e (λ no. no) (λ no. no) (λ no. no))
-turn-none outside model (asks.Rollback key update) e = ap held-in (turn-same outside model (asks.Rollback key update) e (λ no. no) (λ no. no) (λ no. no))
-turn-none outside model (asks.Drop key) e = ap held-in (turn-same outside model (asks.Drop key) e (λ no. no) (λ no. no) (λ no. no))
+turn-none outside model (asks.Draw key) e = ap held-in (turn-same outside model (asks.Draw key) e (λ no. no) (λ no. no) (λ no. no) (λ no. no))
+turn-none outside model (asks.Route name) e = ap held-in (turn-same outside model (asks.Route name) e (λ no. no) (λ no. no) (λ no. no) (λ no. no))
+turn-none outside model (asks.Cover name) e = ap held-in (turn-same outside model (asks.Cover name) e (λ no. no) (λ no. no) (λ no. no) (λ no. no))
+turn-none outside model (asks.Load name) e = ap held-in (turn-same outside model (asks.Load name) e (λ no. no) (λ no. no) (λ no. no) (λ no. no))
+turn-none outside model (asks.Rollback key update) e = ap held-in (turn-same outside model (asks.Rollback key update) e (λ no. no) (λ no. no) (λ no. no) (λ no. no))
+turn-none outside model (asks.Drop key) e = ap held-in (turn-same outside model (asks.Drop key) e (λ no. no) (λ no. no) (λ no. no) (λ no. no))
 turn-none outside model (asks.Refresh k) e = ap held-in (of-panel outside model (asks.Refresh k) tt).1
 turn-none outside model (asks.Paint k n) e = refl
 turn-none outside model (asks.Panel k) e = ap held-in (of-panel outside model (asks.Panel k) tt).1
 turn-none outside model (asks.ClosePanel k) e = ap held-in (of-panel outside model (asks.ClosePanel k) tt).1
-turn-none outside model (asks.Make areas update) e = ap held-in (turn-same outside model (asks.Make areas update) e (λ no. no) (λ no. no) (λ no. no))
-turn-none outside model (asks.Reissue key) e = ap held-in (turn-same outside model (asks.Reissue key) e (λ no. no) (λ no. no) (λ no. no))
+turn-none outside model (asks.Make areas update) e = ap held-in (turn-same outside model (asks.Make areas update) e (λ no. no) (λ no. no) (λ no. no) (λ no. no))
+turn-none outside model (asks.Reissue key) e = ap held-in (turn-same outside model (asks.Reissue key) e (λ no. no) (λ no. no) (λ no. no) (λ no. no))
+turn-none outside model (asks.Guard w h) e = refl
+turn-none outside model (asks.Fix x y) e = ap held-in (of-guard outside model (asks.Fix x y) tt).1
 
 pub turn-portrayal : (outside : FromOutside) (model : Model) (event : Event) → (turn_of outside model event).model.portrayal ≡ model.portrayal
 unfolding turn_of
@@ -111,6 +116,8 @@ turn-portrayal outside model (asks.Panel k) = ap drawn-by (of-panel outside mode
 turn-portrayal outside model (asks.ClosePanel k) = ap drawn-by (of-panel outside model (asks.ClosePanel k) tt).1
 turn-portrayal outside model (asks.Make areas update) = ordered-drawn model (make_order areas update)
 turn-portrayal outside model (asks.Reissue key) = ordered-drawn model (reissue_order model.state.cells key)
+turn-portrayal outside model (asks.Guard w h) = refl
+turn-portrayal outside model (asks.Fix x y) = ap drawn-by (of-guard outside model (asks.Fix x y) tt).1
 
 pub turn-scenes : (outside : FromOutside) (model : Model) (event : Event) → ¬ IsOfPanel event
     → (turn_of outside model event).model.scenes ≡ model.scenes
@@ -140,6 +147,8 @@ turn-scenes outside model (asks.Panel k) none = absurd (none tt)
 turn-scenes outside model (asks.ClosePanel k) none = absurd (none tt)
 turn-scenes outside model (asks.Make areas update) none = ordered-scenes model (make_order areas update)
 turn-scenes outside model (asks.Reissue key) none = ordered-scenes model (reissue_order model.state.cells key)
+turn-scenes outside model (asks.Guard w h) none = refl
+turn-scenes outside model (asks.Fix x y) none = ap scenes-in (of-guard outside model (asks.Fix x y) tt).1
 
 some-whole : (outside : FromOutside) (model : Model) (event : Event) (command : Command) → ¬ IsOfStaging event
     → (turn_of outside model event).command ≡ Some command
@@ -166,6 +175,8 @@ some-whole outside model (asks.Panel k) command apart e = nothing-some _ command
 some-whole outside model (asks.ClosePanel k) command apart e = nothing-some _ command (of-panel outside model (asks.ClosePanel k) tt).0 e
 some-whole outside model (asks.Make areas update) command apart e = ordered-some model (make_order areas update) command e
 some-whole outside model (asks.Reissue key) command apart e = ordered-some model (reissue_order model.state.cells key) command e
+some-whole outside model (asks.Guard w h) command apart e = nothing-some _ command (of-guard outside model (asks.Guard w h) tt).0 e
+some-whole outside model (asks.Fix x y) command apart e = nothing-some _ command (of-guard outside model (asks.Fix x y) tt).0 e
 
 pub turn-some : (outside : FromOutside) (model : Model) (event : Event) → Leaves model (turn_of outside model event)
 unfolding turn_of
@@ -214,6 +225,10 @@ turn-some outside model (asks.Make areas update) command e =
     leaves-all model command (turn_of outside model (asks.Make areas update)) (some-whole outside model (asks.Make areas update) command (λ no. no) e)
 turn-some outside model (asks.Reissue key) command e =
     leaves-all model command (turn_of outside model (asks.Reissue key)) (some-whole outside model (asks.Reissue key) command (λ no. no) e)
+turn-some outside model (asks.Guard w h) command e =
+    leaves-all model command (turn_of outside model (asks.Guard w h)) (some-whole outside model (asks.Guard w h) command (λ no. no) e)
+turn-some outside model (asks.Fix x y) command e =
+    leaves-all model command (turn_of outside model (asks.Fix x y)) (some-whole outside model (asks.Fix x y) command (λ no. no) e)
 
 -- what is staged where a line isn't about it
 pub turn-staging : (outside : FromOutside) (model : Model) (event : Event) → ¬ IsOfStaging event
@@ -241,6 +256,8 @@ turn-staging outside model (asks.Panel k) apart = panel-staging outside model (a
 turn-staging outside model (asks.ClosePanel k) apart = panel-staging outside model (asks.ClosePanel k) tt
 turn-staging outside model (asks.Make areas update) apart = ordered-staging model (make_order areas update)
 turn-staging outside model (asks.Reissue key) apart = ordered-staging model (reissue_order model.state.cells key)
+turn-staging outside model (asks.Guard w h) apart = guard-staging outside model (asks.Guard w h) tt
+turn-staging outside model (asks.Fix x y) apart = guard-staging outside model (asks.Fix x y) tt
 
 -- a line that can't stand for a command accepts none
 pub turn-rests : (outside : FromOutside) (model : Model) (event : Event) → ¬ MayAccept event → (turn_of outside model event).command ≡ None
@@ -268,6 +285,8 @@ turn-rests outside model (asks.Panel k) other = (of-panel outside model (asks.Pa
 turn-rests outside model (asks.ClosePanel k) other = (of-panel outside model (asks.ClosePanel k) tt).0
 turn-rests outside model (asks.Make areas update) other = absurd (other tt)
 turn-rests outside model (asks.Reissue key) other = absurd (other tt)
+turn-rests outside model (asks.Guard w h) other = refl
+turn-rests outside model (asks.Fix x y) other = (of-guard outside model (asks.Fix x y) tt).0
 
 panel-live : (outside : FromOutside) (model : Model) (event : Event) → IsOfPanel event → AreLive model.state.cells
     → AreLive (turn_of outside model event).model.state.cells
@@ -303,3 +322,40 @@ turn-live more outside model (asks.Panel k) live = panel-live outside model (ask
 turn-live more outside model (asks.ClosePanel k) live = panel-live outside model (asks.ClosePanel k) tt live
 turn-live more outside model (asks.Make areas update) live = ordered-live model more (make_order areas update) live
 turn-live more outside model (asks.Reissue key) live = ordered-live model more (reissue_order model.state.cells key) live
+turn-live more outside model (asks.Guard w h) live = live
+turn-live more outside model (asks.Fix x y) live =
+    subst (λ (m : Model). AreLive m.state.cells) (sym (of-guard outside model (asks.Fix x y) tt).1) live
+
+-- the guard stays at each line that isn't about it
+guard-rests : (outside : FromOutside) (model : Model) (event : Event) → (turn_of outside model event).command ≡ None → ¬ IsOfGuard event
+    → (turn_of outside model event).model.guard ≡ model.guard
+unfolding turn_of
+guard-rests outside model (asks.Begin name) e alone = ap guard-of (staged-by model outside (asks.Begin name) tt e)
+guard-rests outside model (asks.Step n) e alone = ap guard-of (staged-by model outside (asks.Step n) tt e)
+guard-rests outside model asks.Commit e alone = ap guard-of (staged-by model outside asks.Commit tt e)
+guard-rests outside model asks.Save e alone = begun-guard model model.save
+guard-rests outside model (asks.SaveStep slices) e alone = stepped-guard model slices model.save
+guard-rests outside model (asks.Info name) e alone = ap guard-of (turn-same outside model (asks.Info name) e (λ no. no) (λ no. no) (λ no. no) (λ no. no))
+guard-rests outside model asks.Cells e alone = refl
+guard-rests outside model (asks.Draw key) e alone = ap guard-of (turn-same outside model (asks.Draw key) e (λ no. no) (λ no. no) (λ no. no) (λ no. no))
+guard-rests outside model (asks.Route name) e alone = ap guard-of (turn-same outside model (asks.Route name) e (λ no. no) (λ no. no) (λ no. no) (λ no. no))
+guard-rests outside model (asks.Cover name) e alone = ap guard-of (turn-same outside model (asks.Cover name) e (λ no. no) (λ no. no) (λ no. no) (λ no. no))
+guard-rests outside model (asks.Load name) e alone = ap guard-of (turn-same outside model (asks.Load name) e (λ no. no) (λ no. no) (λ no. no) (λ no. no))
+guard-rests outside model (asks.Rollback key update) e alone = ap guard-of (turn-same outside model (asks.Rollback key update) e (λ no. no) (λ no. no) (λ no. no) (λ no. no))
+guard-rests outside model (asks.Drop key) e alone = ap guard-of (turn-same outside model (asks.Drop key) e (λ no. no) (λ no. no) (λ no. no) (λ no. no))
+guard-rests outside model (asks.Refresh k) e alone = ap guard-of (of-panel outside model (asks.Refresh k) tt).1
+guard-rests outside model (asks.Paint k n) e alone = refl
+guard-rests outside model (asks.Panel k) e alone = ap guard-of (of-panel outside model (asks.Panel k) tt).1
+guard-rests outside model (asks.ClosePanel k) e alone = ap guard-of (of-panel outside model (asks.ClosePanel k) tt).1
+guard-rests outside model (asks.Make areas update) e alone = ap guard-of (turn-same outside model (asks.Make areas update) e (λ no. no) (λ no. no) (λ no. no) (λ no. no))
+guard-rests outside model (asks.Reissue key) e alone = ap guard-of (turn-same outside model (asks.Reissue key) e (λ no. no) (λ no. no) (λ no. no) (λ no. no))
+guard-rests outside model (asks.Guard w h) e alone = absurd (alone tt)
+guard-rests outside model (asks.Fix x y) e alone = absurd (alone tt)
+
+pub turn-guard : (outside : FromOutside) (model : Model) (event : Event) → ¬ IsOfGuard event
+    → (turn_of outside model event).model.guard ≡ model.guard
+turn-guard outside model event alone = by (turn_of outside model event).command refl
+  where
+    by : (o : Option Command) → (turn_of outside model event).command ≡ o → (turn_of outside model event).model.guard ≡ model.guard
+    by None e = guard-rests outside model event e alone
+    by (Some command) e = ap guard-of (turn-some outside model event command e)

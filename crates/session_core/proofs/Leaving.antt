@@ -19,16 +19,19 @@ use Rattle.session_core.specs.Draw.{draw_of}
 use Rattle.session_core.specs.Info.{info_of}
 use Rattle.session_lists.specs.Cells.{cells_reply}
 use Rattle.session_core.specs.Order.{commit_order, decision_turn, drop_order, load_order, make_order, order_turn, reissue_order, reply_to, rollback_order}
-use Rattle.session_core.specs.Model.{Model, Portrayal, Progress, Staging, model_with, staging_past, with_scenes, with_staging}
+use Rattle.session_core.specs.Model.{Model, Portrayal, Progress, Staging, model_with, staging_past, with_guard, with_scenes, with_staging}
 use Rattle.session_core.specs.Route.{ROUTE_LIMIT, cover_of, route_of}
 use Rattle.session_core.specs.Save.{bank_bytes, is_done_by, is_too_long, model_saving, room_saved, slices_of, written_more}
 use Rattle.std.specs.Prelude.{is_some}
 use Rattle.panel_port.specs.declared.summary.Summary.{Summary}
 use Rattle.panel_scenes.specs.Numbered.{numbered}
+use Rattle.guard_watch.specs.Guard.{GuardValue}
 use Rattle.panel_scenes.specs.Scene.{SceneValue}
+use Rattle.plane_geometry.specs.declared.point.Pt.{Pt}
 use Rattle.session_core.specs.Outside.{FromOutside}
 use Rattle.session_core.specs.Panels.{IsOfPanel, begun_turn, close_turn, panel_turn, refresh_turn, target_of}
 use Rattle.session_core.specs.Replied.{Turn, refusal_turn, reply_turn}
+use Rattle.session_core.specs.Watch.{IsOfGuard, fix_turn}
 use Rattle.session_core.specs.Staging.{IsOfStaging, change_turn, commit_turn, stage_turn, unstaged}
 use Rattle.session_core.specs.Turn.{IsOfSave, MayAccept, begin_turn, save_turn, step_turn, turn_of}
 use Rattle.session_core.proofs.Stages.{by-change, by-commit, by-stage}
@@ -152,6 +155,9 @@ drawn-by model = model.portrayal
 abbrev pub scenes-in : Model → List SceneValue
 scenes-in model = model.scenes
 
+abbrev pub guard-of : Model → Option GuardValue
+guard-of model = model.guard
+
 -- what comes of it where none is under way
 abbrev pub begun_by : Model → Bool → Turn
 begun_by model b = cond b (refusal_turn model (Store (refuses.BankFull 0 (bank_bytes model.state))))
@@ -213,6 +219,19 @@ pub stepped-staging : (model : Model) (n : ℕ) (save : Option Progress) → (st
 stepped-staging model n None = refl
 stepped-staging model n (Some save) =
     elim (is_done_by save n) as (λ b. (cond b (record model { room = room_saved model.room; save = None }) (record model { save = Some (written_more save n) })).staging ≡ model.staging) [
+      | true ↦ refl
+      | false ↦ refl
+    ]
+
+pub begun-guard : (model : Model) (save : Option Progress) → (begin_turn model save).model.guard ≡ model.guard
+begun-guard model (Some save) = refl
+begun-guard model None =
+    elim (is_too_long model.state) as (λ b. (begun_by model b).model.guard ≡ model.guard) [ true ↦ refl | false ↦ refl ]
+
+pub stepped-guard : (model : Model) (n : ℕ) (save : Option Progress) → (step_turn model n save).model.guard ≡ model.guard
+stepped-guard model n None = refl
+stepped-guard model n (Some save) =
+    elim (is_done_by save n) as (λ b. (cond b (record model { room = room_saved model.room; save = None }) (record model { save = Some (written_more save n) })).guard ≡ model.guard) [
       | true ↦ refl
       | false ↦ refl
     ]
@@ -288,6 +307,26 @@ pub turn-of-staging : (outside : FromOutside) (model : Model) (event : Event) �
     → (turn_of outside model event).model ≡ with_staging model (turn_of outside model event).model.staging
 turn-of-staging outside model event is none = staged-by model outside event is none
 
+-- ---- the guard
+
+-- a line about it accepts no command, and changes the guard alone
+abbrev pub OfGuard : Model → Turn → Type 0
+OfGuard model turn = (turn.command ≡ None) × (turn.model ≡ with_guard model turn.model.guard)
+
+fixed-alone : (model : Model) (at : Pt) (guard : Option GuardValue) → OfGuard model (fix_turn model at guard)
+fixed-alone model at None = (refl, refl)
+fixed-alone model at (Some guard) = (refl, refl)
+
+pub of-guard : (outside : FromOutside) (model : Model) (event : Event) → IsOfGuard event → OfGuard model (turn_of outside model event)
+unfolding turn_of
+of-guard outside model (asks.Guard w h) is = (refl, refl)
+of-guard outside model (asks.Fix x y) is = fixed-alone model (record { x = x; y = y }) model.guard
+of-guard outside model other is = absurd is
+
+pub turn-of-guard : (outside : FromOutside) (model : Model) (event : Event) → IsOfGuard event
+    → (turn_of outside model event).model ≡ with_guard model (turn_of outside model event).model.guard
+turn-of-guard outside model event is = (of-guard outside model event is).1
+
 -- ---- what is staged where a line isn't about it
 
 pub replied-staging : (model : Model) (r : Result Reply LineRefusal)
@@ -303,4 +342,10 @@ pub panel-staging : (outside : FromOutside) (model : Model) (event : Event) → 
     ≡ staging_past model.count (turn_of outside model event).command model.staging
 panel-staging outside model event is =
     let alone = of-panel outside model event is in
+    rests-staging model (turn_of outside model event) alone.0 (ap (λ (m : Model). m.staging) alone.1)
+
+pub guard-staging : (outside : FromOutside) (model : Model) (event : Event) → IsOfGuard event → (turn_of outside model event).model.staging
+    ≡ staging_past model.count (turn_of outside model event).command model.staging
+guard-staging outside model event is =
+    let alone = of-guard outside model event is in
     rests-staging model (turn_of outside model event) alone.0 (ap (λ (m : Model). m.staging) alone.1)

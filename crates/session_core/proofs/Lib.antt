@@ -5,6 +5,7 @@ pub mod Begun
 pub mod Stages
 pub mod Leaving
 pub mod Following
+pub mod Watching
 pub mod Replying
 pub mod Overtaking
 pub mod PanelTurns

@@ -154,6 +154,8 @@ module _ (outside : FromOutside) (model : Model) (before : Staging) (some : mode
   event-keeps (asks.ClosePanel k) = λ there. other-keeps (asks.ClosePanel k) (λ no. no)
   event-keeps (asks.Make areas update) = λ there. other-keeps (asks.Make areas update) (λ no. no)
   event-keeps (asks.Reissue key) = λ there. other-keeps (asks.Reissue key) (λ no. no)
+  event-keeps (asks.Guard w h) = λ there. other-keeps (asks.Guard w h) (λ no. no)
+  event-keeps (asks.Fix x y) = λ there. other-keeps (asks.Fix x y) (λ no. no)
 
 -- ---- events
 

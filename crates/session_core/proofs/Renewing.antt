@@ -34,7 +34,7 @@ use Rattle.session_core.specs.declared.session.Session.{Session}
 use Rattle.session_core.specs.Model.{Model, Staging, is_same_key, key_of, model_with, overtaken, overtaken_by}
 use Rattle.session_core.specs.Order.{decision_turn, order_turn, reply_to}
 use Rattle.session_core.specs.Replied.{Turn}
-use Rattle.session_core.specs.Session.{GivesEvent, IsReady, KeepsCharts, LeavesEither, grids_in, model_of, portrayal_of, progress_of, scenes_of, staging_in, store_of, users_in, with_others}
+use Rattle.session_core.specs.Session.{GivesEvent, IsReady, KeepsCharts, LeavesEither, grids_in, guard_in, model_of, portrayal_of, progress_of, scenes_of, staging_in, store_of, users_in, with_others}
 use Rattle.session_core.specs.Staging.{StandsOn}
 use Rattle.session_core.specs.Answers.{fault_of_submit}
 use Rattle.plane_bounds.specs.declared.bounds.Bounds.{Bounds}
@@ -89,8 +89,8 @@ stays-sound false failed h none = absurd (none (h.0 refl))
 
 -- the model is that of what the store keeps
 pub same-model : (old new : Session) → value_of (store_of new) ≡ value_of (store_of old) → portrayal_of new ≡ portrayal_of old
-    → scenes_of new ≡ scenes_of old → staging_in new ≡ staging_in old → model_of new ≡ model_of old
-same-model old new same drawn known staged = λ i. record {
+    → scenes_of new ≡ scenes_of old → staging_in new ≡ staging_in old → guard_in new ≡ guard_in old → model_of new ≡ model_of old
+same-model old new same drawn known staged guarded = λ i. record {
   state = (same i).state;
   room = record {
     used = (same i).pair.gate + 1;
@@ -99,6 +99,7 @@ same-model old new same drawn known staged = λ i. record {
   count = (same i).count;
   save = option_map progress_of (same i).pair.save;
   staging = staged i;
+  guard = guarded i;
   portrayal = drawn i;
   scenes = known i;
 }
@@ -112,20 +113,20 @@ pub refused-given : (old new : Session) (order : Order) (fault : SubmitFault) (r
     → IsErrAnd r (λ passed. passed ≡ fault_of_submit fault)
     → GivesAccepted (Err fault) (state_of (store_of new)) (accepted (state_of (store_of old)) (room_of (store_of old)) order.command)
     → (◌≢◌ {A = Result Accepted SubmitFault} (Err fault) (Err of_submit.DeskFault) → value_of (store_of new) ≡ value_of (store_of old))
-    → state_of (store_of new) ≡ state_of (store_of old) → portrayal_of new ≡ portrayal_of old → scenes_of new ≡ scenes_of old → staging_in new ≡ staging_in old
+    → state_of (store_of new) ≡ state_of (store_of old) → portrayal_of new ≡ portrayal_of old → scenes_of new ≡ scenes_of old → staging_in new ≡ staging_in old → guard_in new ≡ guard_in old
     → GivesEvent r (model_of old) (model_of new) (order_turn (model_of old) (Ok order))
-refused-given old new order (of_submit.Refused refusal) r passed given same held drawn known staged =
+refused-given old new order (of_submit.Refused refusal) r passed given same held drawn known staged guarded =
     subst (λ (s : Result Reply EventFault). GivesEvent s (model_of old) (model_of new) (order_turn (model_of old) (Ok order)))
     (sym (passed-is r (Refused (line.Store refusal)) passed)) (
       ap (decision_turn (model_of old) order.command (λ done. reply_to order.success done.key done.held)) given,
-      same-model old new (same (λ e. cc)) drawn known staged,
+      same-model old new (same (λ e. cc)) drawn known staged guarded,
     )
-refused-given old new order of_submit.DeskFault r passed given same held drawn known staged =
+refused-given old new order of_submit.DeskFault r passed given same held drawn known staged guarded =
     subst (λ (s : Result Reply EventFault). GivesEvent s (model_of old) (model_of new) (order_turn (model_of old) (Ok order)))
     (sym (passed-is r DeskFault passed)) held
-refused-given old new order of_submit.NoMemory r passed given same held drawn known staged =
+refused-given old new order of_submit.NoMemory r passed given same held drawn known staged guarded =
     subst (λ (s : Result Reply EventFault). GivesEvent s (model_of old) (model_of new) (order_turn (model_of old) (Ok order)))
-    (sym (passed-is r NoMemory passed)) (left-alone (model_of old) (model_of new) (order_turn (model_of old) (Ok order)) (same-model old new (same (λ e. cc)) drawn known staged))
+    (sym (passed-is r NoMemory passed)) (left-alone (model_of old) (model_of new) (order_turn (model_of old) (Ok order)) (same-model old new (same (λ e. cc)) drawn known staged guarded))
 
 -- what an order leaves is what its command leaves, or what was held
 pub order-leaves : (model : Model) (order : Order)
@@ -195,6 +196,7 @@ pub record Follows (old new : Session) (done : Accepted) : Type 0 where
   pub staged : staging_in new ≡ overtaken done.key done.count (staging_in old)
   pub drawn : portrayal_of new ≡ portrayal_of old
   pub known : scenes_of new ≡ scenes_of old
+  pub guarded : guard_in new ≡ guard_in old
 
 -- the model of what the session is then
 accepted-model : (old new : Session) (command : Command) (done : Accepted) → Accepts (store_of old) (store_of new) command done → KeyedBy
@@ -211,6 +213,7 @@ accepted-model old new command done accepts law follows =
       count = (sym accepts.counted.0 ∙ sym accepts.counted.1) i;
       save = sym save i;
       staging = overtakes i;
+      guard = sym follows.guarded i;
       portrayal = sym follows.drawn i;
       scenes = sym follows.known i;
     }

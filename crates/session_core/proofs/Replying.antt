@@ -18,10 +18,12 @@ use Rattle.chart_store.specs.Outcome.{accepted}
 use Rattle.chart_store.specs.Refusal.{refusal_of_read}
 use Rattle.chart_store.specs.declared.refusal.Refusal as of_store
 use Rattle.chart_store.specs.declared.refusal.Refusal.TheVariants as refuses
+use Rattle.guard_watch.specs.Guard.{GuardValue}
 use Rattle.panel_scenes.specs.InStep.{Start}
 use Rattle.panel_scenes.specs.Numbered.{numbered}
 use Rattle.panel_scenes.specs.Painting.{painting_at, painting_in}
 use Rattle.panel_scenes.specs.Scene.{SceneValue, calls_to}
+use Rattle.plane_geometry.specs.declared.point.Pt.{Pt}
 use Rattle.route_check.specs.Reading.{route_in}
 use Rattle.route_check.specs.Report.{report_of}
 use Rattle.route_check.specs.declared.fault.RouteFault.{RouteFault}
@@ -59,6 +61,7 @@ use Rattle.session_core.specs.Replied.{refusal_turn, reply_turn}
 use Rattle.session_core.specs.Route.{ROUTE_LIMIT, cover_of, or_refused as or_unread, route_of}
 use Rattle.session_core.specs.Save.{bank_bytes, is_done_by, is_too_long, model_saving, slices_of}
 use Rattle.session_core.specs.Staging.{change_turn, commit_turn, stage_turn, staged_in, staged_turn, unstaged}
+use Rattle.session_core.specs.Watch.{fix_turn, watched_turn}
 use Rattle.session_core.specs.Turn.{begin_turn, save_turn, step_turn, turn_of}
 use Rattle.chart_store.specs.Staging.{StagedValue, changes_in, key_in, staged_by}
 use Rattle.session_core.proofs.Stages.{by-change, by-commit}
@@ -275,6 +278,12 @@ module _ {outside : FromOutside} {before : Model} {event : Event} {P : Reply →
           | false ↦ h.told (replies.SaveStep (save.written + n) save.slices) tt
         ]
 
+    -- ---- the guard
+
+    watched : (at : Pt) (guard : Option GuardValue) → P (fix_turn model at guard).reply
+    watched at None = h.refused line.NoGuard tt
+    watched at (Some guard) = h.told (watched_turn model at guard).reply tt
+
     -- ---- panels
 
     refreshed : (k : ℕ) (scene : Option SceneValue) → P (refresh_turn model k scene).reply
@@ -348,6 +357,8 @@ reply-of outside model (asks.Panel k) P h = summed-up h model k refl (numbered k
 reply-of outside model (asks.ClosePanel k) P h = taken-out h model k refl (numbered k model.scenes)
 reply-of outside model (asks.Make areas update) P h = made h model areas update
 reply-of outside model (asks.Reissue key) P h = reissued h model key
+reply-of outside model (asks.Guard w h') P h = h.told (replies.Guard w h') tt
+reply-of outside model (asks.Fix x y) P h = watched h model (record { x = x; y = y }) model.guard
 
 -- ---- the marks of failures outside
 

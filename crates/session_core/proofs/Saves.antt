@@ -21,6 +21,7 @@ use Rattle.chart_store.specs.declared.submit_fault.SubmitFault.TheVariants as of
 use Rattle.chart_store.specs.declared.save_state.SaveState.{SaveState}
 use Rattle.chart_store.specs.declared.save_state.SaveState.TheVariants.{Saved, Under}
 use Rattle.chart_store.specs.declared.store.Store.{Store}
+use Rattle.guard_watch.specs.Guard.{GuardValue}
 use Rattle.panel_scenes.specs.Scene.{SceneValue}
 use Rattle.script_reader.specs.declared.reply.Reply.{Reply}
 use Rattle.script_reader.specs.declared.reply.Reply.TheVariants as replies
@@ -31,7 +32,7 @@ use Rattle.script_reader.specs.declared.event.Event.{Event}
 use Rattle.script_reader.specs.declared.event.Event.TheVariants as asks
 use Rattle.session_core.specs.Held.{chart_of}
 use Rattle.session_core.specs.Kept.{IsKeptOf}
-use Rattle.session_core.specs.Session.{GivesEvent, IsReady, WritesSlices, grids_in, model_of, portrayal_of, progress_of}
+use Rattle.session_core.specs.Session.{GivesEvent, IsReady, WritesSlices, grids_in, guard_in, model_of, portrayal_of, progress_of}
 use Rattle.session_core.specs.Session.{scenes_of, staging_in, store_of, users_in}
 use Rattle.session_core.specs.Staging.{StandsOn}
 use Rattle.session_core.specs.Steps.{TakesAtMost}
@@ -59,20 +60,21 @@ counted bytes slices sliced =
     omega (arith, least, holds)
 
 -- a model by what a store keeps
-abbrev model_by : StateValue → ℕ → ℕ → Option SaveValue → Option Staging → Portrayal → List SceneValue → Model
-model_by state gate count save staging portrayal scenes = record {
+abbrev model_by : StateValue → ℕ → ℕ → Option SaveValue → Option Staging → Option GuardValue → Portrayal → List SceneValue → Model
+model_by state gate count save staging guard portrayal scenes = record {
   state = state;
   room = record { used = gate + 1; other = option_map (λ (s : SaveValue). gate_of_save s + 1) save };
   count = count;
   save = option_map progress_of save;
   staging = staging;
+  guard = guard;
   portrayal = portrayal;
   scenes = scenes;
 }
 
 begun-model : (old new : Session) (slices : ℕ) → HasBegun slices (store_of old) (store_of new) → portrayal_of new ≡ portrayal_of old
-    → scenes_of new ≡ scenes_of old → staging_in new ≡ staging_in old → model_saving (model_of old) ≡ model_of new
-begun-model old new slices begun drawn known staged =
+    → scenes_of new ≡ scenes_of old → staging_in new ≡ staging_in old → guard_in new ≡ guard_in old → model_saving (model_of old) ≡ model_of new
+begun-model old new slices begun drawn known staged guarded =
     let state : StateValue = state_of (store_of old) in
     let bytes : bank_bytes state ≡ gate_of_save (begun_save (store_of old) slices) + 1 = omega arith in
     let in_slices : slices_of state ≡ slices = counted (spelling state) slices begun.sliced in
@@ -82,10 +84,11 @@ begun-model old new slices begun drawn known staged =
       count = count_of (store_of old);
       save = Some (record { written = 0; slices = in_slices i });
       staging = staging_in old;
+      guard = guard_in old;
       portrayal = portrayal_of old;
       scenes = scenes_of old;
     })
-    ∙ (λ i. model_by (sym begun.state i) (sym begun.gate i) (sym begun.count i) (sym begun.save i) (sym staged i) (sym drawn i) (sym known i))
+    ∙ (λ i. model_by (sym begun.state i) (sym begun.gate i) (sym begun.count i) (sym begun.save i) (sym staged i) (sym guarded i) (sym drawn i) (sym known i))
 
 -- no save was under way, and there is room
 fits : (state : StateValue) → bank_bytes state ≤ 268435456 → is_too_long state ≡ false
@@ -93,8 +96,8 @@ fits state h = grind (arith, nat_tests)
 
 pub begun-gives : (old new : Session) (slices : ℕ) → save_of (store_of old) ≡ None → length (spelling (state_of (store_of old))) + 9 ≤ 268435456
     → HasBegun slices (store_of old) (store_of new) → portrayal_of new ≡ portrayal_of old → scenes_of new ≡ scenes_of old
-    → staging_in new ≡ staging_in old → ((begin_turn (model_of old) (model_of old).save).reply ≡ replies.Save slices) × ((begin_turn (model_of old) (model_of old).save).model ≡ model_of new)
-begun-gives old new slices idle room begun drawn known staged =
+    → staging_in new ≡ staging_in old → guard_in new ≡ guard_in old → ((begin_turn (model_of old) (model_of old).save).reply ≡ replies.Save slices) × ((begin_turn (model_of old) (model_of old).save).model ≡ model_of new)
+begun-gives old new slices idle room begun drawn known staged guarded =
     let model : Model = model_of old in
     let none : (model_of old).save ≡ None = ap (option_map progress_of) idle in
     let is : begin_turn model model.save ≡ save_turn (replies.Save (slices_of model.state)) (model_saving model)
@@ -102,7 +105,7 @@ begun-gives old new slices idle room begun drawn known staged =
     ∙ ap (λ (b : Bool). cond b (refusal_turn model (line.Store (BankFull 0 (bank_bytes model.state))))
     (save_turn (replies.Save (slices_of model.state)) (model_saving model))) (fits model.state room) in (
       ap (λ turn. turn.reply) is ∙ ap replies.Save (counted (spelling model.state) slices begun.sliced),
-      ap (λ turn. turn.model) is ∙ begun-model old new slices begun drawn known staged,
+      ap (λ turn. turn.model) is ∙ begun-model old new slices begun drawn known staged guarded,
     )
 
 -- the bank would be too long
@@ -136,20 +139,20 @@ pub refused-gives : (old new : Session) (fault : SubmitFault) (r : Result Reply 
     → RefusedHas (λ refusal. (refusal ≡ BankFull 0 (length (spelling (state_of (store_of old))) + 9))
     × (268435456 < length (spelling (state_of (store_of old))) + 9)) fault
     → value_of (store_of new) ≡ value_of (store_of old) → portrayal_of new ≡ portrayal_of old → scenes_of new ≡ scenes_of old
-    → staging_in new ≡ staging_in old → fault ≢ of_submit.DeskFault
+    → staging_in new ≡ staging_in old → guard_in new ≡ guard_in old → fault ≢ of_submit.DeskFault
     → GivesEvent r (model_of old) (model_of new) (begin_turn (model_of old) (model_of old).save)
-refused-gives old new (of_submit.Refused refusal) r passed idle (is, long) same drawn known staged no_desk =
+refused-gives old new (of_submit.Refused refusal) r passed idle (is, long) same drawn known staged guarded no_desk =
     subst (λ (s : Result Reply EventFault). GivesEvent s (model_of old) (model_of new) (begin_turn (model_of old) (model_of old).save))
     (sym (passed-is r (Refused (line.Store refusal)) passed)) (
       full-refuses (model_of old) (ap (option_map progress_of) idle) long
           ∙ ap (λ (given : of_refusal.Refusal). refusal_turn (model_of old) (line.Store given)) (sym is),
-      same-model old new same drawn known staged,
+      same-model old new same drawn known staged guarded,
     )
-refused-gives old new of_submit.DeskFault r passed idle full same drawn known staged no_desk = absurd (no_desk refl)
-refused-gives old new of_submit.NoMemory r passed idle full same drawn known staged no_desk =
+refused-gives old new of_submit.DeskFault r passed idle full same drawn known staged guarded no_desk = absurd (no_desk refl)
+refused-gives old new of_submit.NoMemory r passed idle full same drawn known staged guarded no_desk =
     subst (λ (s : Result Reply EventFault). GivesEvent s (model_of old) (model_of new) (begin_turn (model_of old) (model_of old).save))
     (sym (passed-is r NoMemory passed))
-    (left-alone (model_of old) (model_of new) (begin_turn (model_of old) (model_of old).save) (same-model old new same drawn known staged))
+    (left-alone (model_of old) (model_of new) (begin_turn (model_of old) (model_of old).save) (same-model old new same drawn known staged guarded))
 
 -- ---- a save goes on
 
@@ -176,6 +179,7 @@ module _ (old new : Session) (n : ℕ) (save : SaveValue) where
     count = count_of (store_of old);
     save = option_map progress_of (cond b None (Some (record save { written = save.written + n })));
     staging = staging_in old;
+    guard = guard_in old;
     portrayal = portrayal_of old;
     scenes = scenes_of old;
   }
@@ -199,6 +203,7 @@ module _ (old new : Session) (n : ℕ) (save : SaveValue) where
         count = count_of (store_of old);
         save = None;
         staging = staging_in old;
+        guard = guard_in old;
         portrayal = portrayal_of old;
         scenes = scenes_of old;
       }
@@ -210,6 +215,7 @@ module _ (old new : Session) (n : ℕ) (save : SaveValue) where
         count = count_of (store_of old);
         save = Some (written_more (progress_of save) n);
         staging = staging_in old;
+        guard = guard_in old;
         portrayal = portrayal_of old;
         scenes = scenes_of old;
       }
@@ -217,9 +223,9 @@ module _ (old new : Session) (n : ℕ) (save : SaveValue) where
   pub stepped-gives : (answer : SaveState) → save_of (store_of old) ≡ Some save → answer ≡ saved_by save n
       → save_of (store_of new) ≡ save_after save n → used_of (store_of new) ≡ used_after (used_of (store_of old)) save n
       → state_of (store_of new) ≡ state_of (store_of old) → count_of (store_of new) ≡ count_of (store_of old) → portrayal_of new ≡ portrayal_of old
-      → scenes_of new ≡ scenes_of old → staging_in new ≡ staging_in old → ((step_turn (model_of old) n (model_of old).save).reply ≡ reply_by answer)
+      → scenes_of new ≡ scenes_of old → staging_in new ≡ staging_in old → guard_in new ≡ guard_in old → ((step_turn (model_of old) n (model_of old).save).reply ≡ reply_by answer)
       × ((step_turn (model_of old) n (model_of old).save).model ≡ model_of new)
-  stepped-gives answer some is left used held counted drawn known staged =
+  stepped-gives answer some is left used held counted drawn known staged guarded =
       let under : (model_of old).save ≡ Some (progress_of save) = ap (option_map progress_of) some in
       let done : Bool = of_store.is_done_by save n in (
         ap (λ s. (step_turn (model_of old) n s).reply) under ∙ stepped-reply done refl ∙ ap reply_by (sym is),
@@ -230,6 +236,7 @@ module _ (old new : Session) (n : ℕ) (save : SaveValue) where
               count = sym counted i;
               save = option_map progress_of (sym left i);
               staging = sym staged i;
+              guard = sym guarded i;
               portrayal = sym drawn i;
               scenes = sym known i;
             }),

@@ -1,5 +1,5 @@
 -- Turns of events, by what was answered.
-use Rattle.std.proofs.Common.{◌≡◌, inl, ℕ, List, Result, Ok, Err, refl, sym, ◌∙◌, ap, subst}
+use Rattle.std.proofs.Common.{◌≡◌, inl, ℕ, ℤ, List, Result, Ok, Err, refl, sym, ◌∙◌, ap, subst}
 use Rattle.std.specs.Prelude.{IsErrAnd}
 use Rattle.chart_model.specs.State.{StateValue}
 use Rattle.chart_ports.specs.Moments.{LeavesOnly, MayBeLeft}
@@ -31,6 +31,7 @@ use Rattle.session_core.specs.Outside.{FromOutside}
 use Rattle.session_core.specs.Panels.{close_turn, paint_turn, panel_turn, refresh_turn}
 use Rattle.session_core.specs.Replied.{Turn, reply_turn}
 use Rattle.session_core.specs.Staging.{change_turn, commit_turn, stage_turn}
+use Rattle.session_core.specs.Watch.{fix_turn, guard_turn}
 use Rattle.session_core.specs.Turn.{begin_turn, step_turn, turn_of}
 use Rattle.session_core.proofs.Fetching.{passed-is}
 
@@ -259,3 +260,11 @@ module _ (outside : FromOutside) (model : Model) (event : Event) where
   pub close-panel-is : (k : ℕ) → event ≡ asks.ClosePanel k → turn_of outside model event ≡ close_turn model k (numbered k model.scenes)
   unfolding turn_of
   close-panel-is k is = ap (turn_of outside model) is
+
+  pub guard-is : (w h : ℕ) → event ≡ asks.Guard w h → turn_of outside model event ≡ guard_turn model w h
+  unfolding turn_of
+  guard-is w h is = ap (turn_of outside model) is
+
+  pub fix-is : (x y : ℤ) → event ≡ asks.Fix x y → turn_of outside model event ≡ fix_turn model (record { x = x; y = y }) model.guard
+  unfolding turn_of
+  fix-is x y is = ap (turn_of outside model) is

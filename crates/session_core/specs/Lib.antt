@@ -14,6 +14,7 @@ pub mod Route
 pub mod Written
 pub mod Order
 pub mod Staging
+pub mod Watch
 pub mod Turn
 pub mod Kept
 pub mod Steps

@@ -7,6 +7,7 @@ use Rattle.chart_model.specs.declared.command.Command.TheVariants.{Load, Rollbac
 use Rattle.chart_model.specs.declared.settings.Settings.{Settings}
 use Rattle.chart_store.specs.Outcome.{Room, record_size, room_after}
 use Rattle.chart_store.specs.Staging.{StagedValue, key_in}
+use Rattle.guard_watch.specs.Guard.{GuardValue}
 use Rattle.lookup_table.specs.declared.line.TableLine.{TableLine}
 use Rattle.panel_scenes.specs.Scene.{SceneValue}
 
@@ -31,13 +32,14 @@ pub record Staging : Type 0 where
   pub last : Option ℕ
 
 -- what is held, how much of the banks is used, how many commands were accepted in this run, the save that is under way,
--- the file that is staged, by what cells are drawn, and what is known of each panel
+-- the file that is staged, the guard that goes with the ship, by what cells are drawn, and what is known of each panel
 pub record Model : Type 0 where
   pub state : StateValue
   pub room : Room
   pub count : ℕ
   pub save : Option Progress
   pub staging : Option Staging
+  pub guard : Option GuardValue
   pub portrayal : Portrayal
   pub scenes : List SceneValue
 
@@ -48,6 +50,10 @@ with_scenes model scenes = record model { scenes = scenes }
 -- the model where this is staged
 abbrev pub with_staging : Model → Option Staging → Model
 with_staging model staging = record model { staging = staging }
+
+-- the model where this guard goes with the ship
+abbrev pub with_guard : Model → Option GuardValue → Model
+with_guard model guard = record model { guard = guard }
 
 -- ---- commands
 

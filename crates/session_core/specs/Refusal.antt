@@ -9,7 +9,7 @@ use Rattle.script_reader.specs.declared.reply.Reply.TheVariants.{Refused}
 use Rattle.session_core.specs.declared.refusal.LineRefusal.{LineRefusal}
 use Rattle.session_core.specs.declared.refusal.LineRefusal.TheVariants.{RecordLong, CellLong, RouteLine, RouteFew}
 use Rattle.session_core.specs.declared.refusal.LineRefusal.TheVariants.{RouteMany, BadLine, NoFile, ShelfFault, Overtaken}
-use Rattle.session_core.specs.declared.refusal.LineRefusal.TheVariants.{NothingBegun, NoPanel, PanelFault, Busy, Store}
+use Rattle.session_core.specs.declared.refusal.LineRefusal.TheVariants.{NothingBegun, NoPanel, PanelFault, Busy, NoGuard, Store}
 
 -- numbers as they are printed
 abbrev pub numbers : List ℕ → List (List ℕ)
@@ -104,6 +104,7 @@ code_of NothingBegun = 76
 code_of (NoPanel k) = 77
 code_of (PanelFault k) = 78
 code_of Busy = 79
+code_of NoGuard = 86
 code_of (Store refusal) = store_code refusal
 
 -- what it names
@@ -121,6 +122,7 @@ values_of NothingBegun = []
 values_of (NoPanel k) = numbers (k ∷ [])
 values_of (PanelFault k) = numbers (k ∷ [])
 values_of Busy = []
+values_of NoGuard = []
 values_of (Store refusal) = store_values refusal
 
 -- what is replied: the code, and what it names parted by single spaces

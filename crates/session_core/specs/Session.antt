@@ -9,6 +9,7 @@ use Rattle.chart_store.specs.declared.store.Store.{Store}
 use Rattle.bank_pair.specs.Saving.{SaveValue}
 use Rattle.chart_store.specs.Staged.{staged_of}
 use Rattle.chart_store.specs.Store.{IsKept, StandsForEither, count_of, is_sound, pair_of, room_of, save_of, state_of}
+use Rattle.guard_watch.specs.Guard.{GuardValue}
 use Rattle.panel_scenes.specs.Scene.{SceneValue}
 use Rattle.plane_bounds.specs.declared.bounds.Bounds.{Bounds}
 use Rattle.script_reader.specs.declared.event.Event.{Event}
@@ -54,6 +55,10 @@ staging_of staging =
 abbrev pub staging_in : Session → Option Staging
 staging_in session = option_map staging_of session.staging
 
+-- the guard that goes with the ship
+abbrev pub guard_in : Session → Option GuardValue
+guard_in session = session.guard
+
 -- what its replies depend on
 abbrev pub model_of : Session → Model
 model_of session = record {
@@ -62,6 +67,7 @@ model_of session = record {
   count = count_of (store_of session);
   save = option_map progress_of (save_of (store_of session));
   staging = staging_in session;
+  guard = guard_in session;
   portrayal = portrayal_of session;
   scenes = scenes_of session;
 }

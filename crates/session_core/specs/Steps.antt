@@ -58,6 +58,8 @@ most_steps_at fetches model (asks.Paint k n) = 0
 most_steps_at fetches model (asks.Panel k) = 0
 most_steps_at fetches model (asks.ClosePanel k) = 0
 most_steps_at fetches model (asks.Make areas update) = most_steps_for model.state (make_order areas update)
+most_steps_at fetches model (asks.Guard w h) = 0
+most_steps_at fetches model (asks.Fix x y) = 0
 most_steps_at fetches model (asks.Reissue key) = most_steps_for model.state (reissue_order model.state.cells key)
 
 -- No more steps than these are taken, and one more for each name whose records differ between the charts of one cell

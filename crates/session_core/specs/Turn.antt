@@ -18,6 +18,7 @@ use Rattle.session_core.specs.Panels.{close_turn, paint_turn, panel_turn, refres
 use Rattle.session_core.specs.Replied.{Turn, refusal_turn, reply_turn}
 use Rattle.session_core.specs.Route.{ROUTE_LIMIT, cover_of, route_of}
 use Rattle.session_core.specs.Staging.{change_turn, commit_turn, stage_turn}
+use Rattle.session_core.specs.Watch.{fix_turn, guard_turn}
 use Rattle.session_core.specs.Save.{bank_bytes, is_done_by, is_too_long, model_saving, model_stepped, slices_of}
 
 -- a save goes on, and nothing that is held changes
@@ -65,6 +66,8 @@ turn_of outside model (asks.Panel k) = panel_turn model k outside.numbers (numbe
 turn_of outside model (asks.ClosePanel k) = close_turn model k (numbered k model.scenes)
 turn_of outside model (asks.Make areas update) = order_turn model (make_order areas update)
 turn_of outside model (asks.Reissue key) = order_turn model (reissue_order model.state.cells key)
+turn_of outside model (asks.Guard w h) = guard_turn model w h
+turn_of outside model (asks.Fix x y) = fix_turn model (record { x = x; y = y }) model.guard
 
 -- the lines that begin a save and go on with it
 abbrev pub IsOfSave : Event → Type 0

@@ -44,6 +44,8 @@ pub enum LineRefusal {
     PanelFault(u32),
     /// 79: a file is staged, a save is under way, or a refresh of the panel.
     Busy,
+    /// 86: no guard goes with the ship.
+    NoGuard,
     /// 10 to 63, 73 and 74: the store refuses.
     Store(StoreRefusal),
 }
@@ -230,6 +232,7 @@ impl LineRefusal {
             LineRefusal::NoPanel(_) => 77,
             LineRefusal::PanelFault(_) => 78,
             LineRefusal::Busy => 79,
+            LineRefusal::NoGuard => 86,
             LineRefusal::Store(refusal) => store_code(refusal),
         }
     }
@@ -253,9 +256,10 @@ impl LineRefusal {
             LineRefusal::NoPanel(k) | LineRefusal::PanelFault(k) => {
                 join(alloc, &[Value::Number(*k as u64)])
             }
-            LineRefusal::ShelfFault | LineRefusal::NothingBegun | LineRefusal::Busy => {
-                join(alloc, &[])
-            }
+            LineRefusal::ShelfFault
+            | LineRefusal::NothingBegun
+            | LineRefusal::Busy
+            | LineRefusal::NoGuard => join(alloc, &[]),
             LineRefusal::Store(refusal) => store_values(alloc, refusal),
         }
     }

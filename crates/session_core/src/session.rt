@@ -16,29 +16,33 @@ use crate::refusal::LineRefusal;
 use crate::staging::{Staging, begin, change, note};
 use crate::target::Charts;
 use crate::upkeep::{all_grids, all_users, renew_grids, renew_users};
+use crate::watch::{go_to, set_guard};
 use chart_model::Settings;
 use chart_ports::{Desk, Shelf, Steps};
 use chart_store::{
     Accepted, SaveState, Store, begun_saves_are_kept, commands_change_their_cell_alone,
     kept_stores_are_read,
 };
+use guard_watch::Guard;
 use lookup_table::Table;
 use panel_port::Panel;
 use panel_scenes::PanelScenes;
+use plane_geometry::Pt;
 use script_reader::{Event, Reply};
 use spatial_grid::GridMap;
 use std::alloc::{AllocError, Global};
 use std::sync::ledger::Ledger;
 use topology_cache::UsersMap;
 
-/// What a run of events goes on with: the store, the file that is staged, the table and the settings by which cells are
-/// drawn, and what is known of each panel. The shelf, the desk and the panels are handed in at each turn.
+/// What a run of events goes on with: the store, the file that is staged, the guard that goes with the ship, the table
+/// and the settings by which cells are drawn, and what is known of each panel. The shelf, the desk and the panels are handed in at each turn.
 ///
 /// Beside each chart that is held it keeps the users of its edges and its grid.
 #[derive(Drop)]
 pub struct Session {
     store: Store,
     staging: Option<Staging>,
+    guard: Option<Guard>,
     table: Table,
     settings: Settings,
     users: UsersMap,
@@ -74,7 +78,7 @@ impl Session {
     ghost use Rattle.session_core.specs.Reissue.{ReissueKeepsChart};
     ghost use Rattle.session_core.specs.Session.{AcceptsOne, GivesEvent, GivesTurn, IsReady, KeepsCharts};
     ghost use Rattle.session_core.specs.Session.{KeepsOthers, TakesTurn, WritesSlices, file_of};
-    ghost use Rattle.session_core.specs.Session.{grids_in, model_of, portrayal_of, scenes_of, staging_in, store_of};
+    ghost use Rattle.session_core.specs.Session.{grids_in, guard_in, model_of, portrayal_of, scenes_of, staging_in, store_of};
     ghost use Rattle.session_core.specs.Session.{users_in};
     ghost use Rattle.session_core.specs.Steps.{TakesAtMost};
     ghost use Rattle.session_core.specs.Turn.{begin_turn, step_turn};
@@ -98,6 +102,7 @@ impl Session {
         ensures portrayal { IfOk result (λ session. portrayal_of session ≡ portrayal_with table settings) }
         ensures scenes { IfOk result (λ session. scenes_of session ≡ new_scenes panels) }
         ensures staging { IfOk result (λ session. staging_in session ≡ None) }
+        ensures guard { IfOk result (λ session. guard_in session ≡ None) }
         ensures charts { IfOk result KeepsCharts }
         ensures at_most { steps.new ≤ steps.old + feature_count (state_of store).cells }
     {
@@ -108,6 +113,7 @@ impl Session {
         Ok(Session {
             store,
             staging: None,
+            guard: None,
             table,
             settings,
             users,
@@ -146,6 +152,7 @@ impl Session {
         ensures portrayal { portrayal_of self.new ≡ portrayal_of self.old }
         ensures scenes { scenes_of self.new ≡ scenes_of self.old }
         ensures staging { staging_in self.new ≡ staging_in self.old }
+        ensures guard { guard_in self.new ≡ guard_in self.old }
         ensures users { OnOk result (IsRenewed AreUsersOf done.now.key
             (chart_of (state_of (store_of self.old)).cells done.now.key) (users_in self.old) (users_in self.new)) }
         ensures grids { OnOk result (IsRenewed IsGridOf done.now.key
@@ -206,6 +213,7 @@ impl Session {
         ensures portrayal { portrayal_of self.new ≡ portrayal_of self.old }
         ensures scenes { scenes_of self.new ≡ scenes_of self.old }
         ensures staging { staging_in self.new ≡ staging_in self.old }
+        ensures guard { guard_in self.new ≡ guard_in self.old }
         ensures users { users_in self.new ≡ users_in self.old }
         ensures grids { grids_in self.new ≡ grids_in self.old }
     {
@@ -331,6 +339,19 @@ impl Session {
             Event::Make(areas, update) => {
                 let order = make_order(alloc, areas, update)?;
                 self.obey(alloc, order, desk, steps)
+            }
+            Event::Guard(w, h) => set_guard(alloc, w, h, &mut self.guard),
+            Event::Fix(x, y) => {
+                let state = self.store.state();
+                let at = Pt { x, y };
+                go_to(
+                    alloc,
+                    at,
+                    &mut self.guard,
+                    state,
+                    &self.grids,
+                    &self.settings,
+                )
             }
             Event::Reissue(key) => {
                 let order = reissue_order(alloc, key, cells_of(&self.store))?;

@@ -2,3 +2,4 @@ pub mod Cells
 pub mod Draw
 pub mod Route
 pub mod Cover
+pub mod Fix

@@ -34,7 +34,7 @@ const GIVEN: Foid = Foid {
 };
 
 /// Refusals, and the replies to them.
-const REFUSALS: [(LineRefusal, &[u8]); 41] = [
+const REFUSALS: [(LineRefusal, &[u8]); 42] = [
     (
         LineRefusal::RecordLong(FEATURE, 100_004),
         b"no 64 100 16 100004\n",
@@ -53,6 +53,7 @@ const REFUSALS: [(LineRefusal, &[u8]); 41] = [
     (LineRefusal::NoPanel(36), b"no 77 36\n"),
     (LineRefusal::PanelFault(37), b"no 78 37\n"),
     (LineRefusal::Busy, b"no 79\n"),
+    (LineRefusal::NoGuard, b"no 86\n"),
     (Store(StoreRefusal::Leader(1)), b"no 10 1\n"),
     (Store(StoreRefusal::Directory(2)), b"no 11 2\n"),
     (Store(StoreRefusal::Span(3)), b"no 12 3\n"),

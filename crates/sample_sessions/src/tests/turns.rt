@@ -16,7 +16,8 @@ use object_catalogue::read_objects;
 use panel_port::{FailingPanel, MemoryPanel, Panel};
 use script_reader::{print_reply, read_line};
 use session_core::{
-    Session, TurnFault, targets_are_the_blocks_of_charts, turns_follow_their_commands,
+    Session, TurnFault, guards_stand_between_their_lines, targets_are_the_blocks_of_charts,
+    turns_follow_their_commands,
 };
 use std::alloc::{AllocError, Global};
 use std::marker::Brand;
@@ -355,13 +356,38 @@ ok drop AA5TEST1\nok paint 2 2 2\nok panel 2 1 2\nok refresh 1 1\nok paint 1 1 1
 no 77 3\nok close-panel 1\nok panel 1 1 2\nno 77 2\nno 77 2\n\
 ok refresh 1 1\nok paint 1 1 1\nok panel 1 0 0\nok refresh 1 0\nno 76\nno 77 0\n";
 
+/// A guard by a wreck that is loaded, moved, moved back and taken away while the ship is near; and a wider box.
+const WATCHED: [&[u8]; 14] = [
+    b"fix 100 0",
+    b"guard 5 5",
+    b"fix 100 0",
+    b"load W",
+    b"fix 105 -5",
+    b"load U",
+    b"fix 105 -5",
+    b"fix 8 7",
+    b"rollback AA5TEST1 0",
+    b"fix 8 7",
+    b"guard 200 200",
+    b"fix 8 7",
+    b"drop AA5TEST1",
+    b"fix 8 7",
+];
+
+/// What is replied to it.
+const ALARMS: &[u8] = b"no 86\nok guard 5 5\nok fix 0 0\nok load AA5TEST1 1 0\n\
+ok fix 1 0\nraise AA5TEST1 1 0\nok load AA5TEST1 1 1\nok fix 0 1\nclear AA5TEST1 1 0\n\
+ok fix 1 0\nraise AA5TEST1 1 0\nok rollback AA5TEST1 1 0\nok fix 0 1\nclear AA5TEST1 1 0\n\
+ok guard 200 200\nok fix 1 0\nraise AA5TEST1 1 0\nok drop AA5TEST1\nok fix 0 1\nclear AA5TEST1 1 0\n";
+
 /// Lines, the calls of the shelf and of the desk that fail, and what is replied.
-const TURNS: [(&[&[u8]], u64, u64, &[u8]); 12] = [
+const TURNS: [(&[&[u8]], u64, u64, &[u8]); 13] = [
     (&ALL, 0, 0, REPLIES),
     (&ROUTES, 0, 0, DANGERS),
     (&WRITTEN, 0, 0, WRITINGS),
     (&CANCELLED, 0, 0, CANCELLATIONS),
     (&PANELS, 0, 0, SHOWN),
+    (&WATCHED, 0, 0, ALARMS),
     // Nothing is fetched for a file that is made.
     (
         &MADE_TWICE,
@@ -391,5 +417,6 @@ fn turns(rt: HostRuntime) -> Result<(), Fail> {
     }
     turns_follow_their_commands();
     targets_are_the_blocks_of_charts();
+    guards_stand_between_their_lines();
     Ok(())
 }

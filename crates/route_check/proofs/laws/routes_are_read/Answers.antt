@@ -4,11 +4,11 @@ use Rattle.route_check.proofs.laws.routes_are_read.Goals as goal
 
 pub returns-clause-half_widths : goal.returns-clause-half_widths
 returns-clause-half_widths c =
-    boxes_are_spelled c.numbers_are_spelled.ensures.number c.parts_are_joined.ensures.joined c.parts_are_joined.ensures.parted
+    boxes_are_spelled c.positions_are_spelled.ensures.half_width c.parts_are_joined.ensures.joined c.parts_are_joined.ensures.parted
 
 pub returns-clause-point : goal.returns-clause-point
 returns-clause-point c =
-    points_are_spelled c.numbers_are_spelled.ensures.signed c.parts_are_joined.ensures.joined c.parts_are_joined.ensures.parted
+    points_are_spelled c.positions_are_spelled.ensures.coordinate c.parts_are_joined.ensures.joined c.parts_are_joined.ensures.parted
 
 pub returns-clause-one_box : goal.returns-clause-one_box
 returns-clause-one_box c = one_box (returns-clause-half_widths c)

@@ -1,5 +1,5 @@
-use Rattle.session_core.proofs.Following.{turn-live, turn-none, turn-portrayal, turn-rests, turn-same, turn-scenes, turn-some, turn-staging}
-use Rattle.session_core.proofs.Leaving.{turn-of-panel, turn-of-staging}
+use Rattle.session_core.proofs.Following.{turn-guard, turn-live, turn-none, turn-portrayal, turn-rests, turn-same, turn-scenes, turn-some, turn-staging}
+use Rattle.session_core.proofs.Leaving.{turn-of-guard, turn-of-panel, turn-of-staging}
 use Rattle.session_core.proofs.Replying.{turn-failed, turn-panel-failed, turn-told}
 use Rattle.session_core.proofs.laws.turns_follow_their_commands.Goals as goal
 
@@ -41,3 +41,9 @@ returns-clause-of_staging c = turn-of-staging
 
 pub returns-clause-staging : goal.returns-clause-staging
 returns-clause-staging c = turn-staging
+
+pub returns-clause-of_guard : goal.returns-clause-of_guard
+returns-clause-of_guard c = turn-of-guard
+
+pub returns-clause-guard : goal.returns-clause-guard
+returns-clause-guard c = turn-guard

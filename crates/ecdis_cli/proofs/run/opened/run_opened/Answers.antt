@@ -68,7 +68,7 @@ returns-clause-ran g c = λ s d opening read.
     let same : store_of c.in-Ok-new.session ≡ c.in-Ok.store = c.in-Ok-new.ensures.store in
     let model : model_of c.in-Ok-new.session ≡ model_at _ _ opening
     = session-model c.in-Ok-new.session _ _ _ same c.in-Ok-new.ensures.portrayal
-    (c.in-Ok-new.ensures.scenes ∙ ap new_scenes c.len-panels.ensures) c.in-Ok.ensures.idle c.in-Ok.ensures.count c.in-Ok-new.ensures.staging
+    (c.in-Ok-new.ensures.scenes ∙ ap new_scenes c.len-panels.ensures) c.in-Ok.ensures.idle c.in-Ok.ensures.count c.in-Ok-new.ensures.staging c.in-Ok-new.ensures.guard
     ∙ opened-model _ _ _ opening _ _ read (c.in-Ok.ensures.state d) in
     let held : state_of c.in-Ok.store ≡ opening.state
     = ap (λ (r : Reading). r.state) (ok-same _ opening (sym (c.in-Ok.ensures.state d) ∙ read)) in

@@ -15,13 +15,13 @@ pub returns-in_err-begin_save-clause-given : goal.returns-in_err-begin_save-clau
 returns-in_err-begin_save-clause-given c =
     refused-gives c.args.self.now (record c.args.self.now { store = c.begin_save.new.self }) c.in_err-begin_save.field-0.0 c.from_residual.result c.from_residual.ensures.1
     (idle-none (save_of (store_of c.args.self.now)) (sym c.is_saving.ensures ∙ c.if-is_saving.false))
-    c.in_err-begin_save.ensures.full c.in_err-begin_save.ensures.err refl refl refl (λ e. c.in_err-begin_save.ensures.no_desk (cc))
+    c.in_err-begin_save.ensures.full c.in_err-begin_save.ensures.err refl refl refl refl (λ e. c.in_err-begin_save.ensures.no_desk (cc))
 
 pub returns-clause-given : goal.returns-clause-given
 returns-clause-given c =
     begun-gives c.args.self.now (record c.args.self.now { store = c.begin_save.new.self }) c.in_ok-begin_save.field-0
     (idle-none (save_of (store_of c.args.self.now)) (sym c.is_saving.ensures ∙ c.if-is_saving.false))
-    c.in_ok-begin_save.ensures.fits c.in_ok-begin_save.ensures.begun refl refl refl
+    c.in_ok-begin_save.ensures.fits c.in_ok-begin_save.ensures.begun refl refl refl refl
 
 pub returns-clause-begun : goal.returns-clause-begun
 returns-clause-begun c = (c.in_ok-begin_save.field-0, c.in_ok-begin_save.ensures.begun)

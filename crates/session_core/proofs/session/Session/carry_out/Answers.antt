@@ -18,7 +18,7 @@ use Rattle.session_core.specs.Fetch.{fetches_of}
 use Rattle.session_core.specs.Kept.{IsKeptOfEach}
 use Rattle.session_lists.specs.Cells.{cells_reply}
 use Rattle.std.specs.Prelude.{option_map}
-use Rattle.session_core.specs.Model.{with_scenes, with_staging}
+use Rattle.session_core.specs.Model.{with_guard, with_scenes, with_staging}
 use Rattle.session_core.specs.Order.{reissue_order}
 use Rattle.session_core.specs.Route.{ROUTE_LIMIT, cover_of, route_of}
 use Rattle.session_core.specs.Session.{grids_in, model_of, staging_of, store_of, users_in}
@@ -31,7 +31,7 @@ use Rattle.session_core.proofs.Stepping.{none-taken, within, within-none}
 use Rattle.session_core.proofs.Saves.{begun-count, begun-held, begun-ready, held-within, no-slices}
 use Rattle.session_core.proofs.Turning.{no-call, question-turns, order-fails, order-turns, save-turns, same-either, turn-turns}
 use Rattle.session_core.proofs.Turning.{info-is, info-steps, cells-is, draw-is, route-is, load-is, rollback-is, drop-is, save-is, save-step-is, make-is, reissue-is}
-use Rattle.session_core.proofs.Turning.{change-is, close-panel-is, commit-is, commit-steps, cover-is, paint-is, panel-is, refresh-is, stage-is, stage-steps}
+use Rattle.session_core.proofs.Turning.{change-is, close-panel-is, commit-is, commit-steps, cover-is, fix-is, guard-is, paint-is, panel-is, refresh-is, stage-is, stage-steps}
 use Rattle.topology_cache.specs.Users.{AreUsersOf}
 use Rattle.session_core.proofs.session.Session.carry_out.Goals as goal
 
@@ -313,6 +313,61 @@ pub check_route-requires : goal.check_route-requires
 check_route-requires g c = record {
   grids =
       subst (λ (state : StateValue). HasGrids state (grids_in c.args.self.now)) (sym c.state-state.ensures.state)
+      (has-grids (model_of c.args.self.now).state (grids_in c.args.self.now) c.requires.ready.charts.grids);
+}
+
+-- ---- the guard
+
+pub returns-in-Guard-clause-turned : goal.returns-in-Guard-clause-turned
+returns-in-Guard-clause-turned g c =
+    let outside = fetching (fetches_of (g.L.Shelf.files c.args.shelf.now) false) in
+    let before = model_of c.args.self.now in
+    save-turns _ _ _ c.args.event before
+    (within before.state before.state c.args.steps.now c.args.steps.now) outside _ c.set_guard.result (with_guard before c.set_guard.new.guard)
+    (are-served g.L.Shelf.tells (g.L.Shelf.files c.args.shelf.now) _ _, none-asked _ _ _ _ _ _ _ (λ of. subst IsOfPanel c.in-Guard.is of)) (guard-is outside before c.args.event c.in-Guard.w c.in-Guard.h c.in-Guard.is)
+    (none-taken _ before.state c.args.steps.now) (c.set_guard.ensures.given before refl) (λ after tells stood.
+    no-call g.D.Desk.clock g.D.Desk.might c.args.desk.now (g.D.Desk.may_leave c.args.desk.now) (g.D.Desk.said c.args.desk.now)
+    before.state after
+    (λ images bytes left. g.met.D.Desk.only_now c.args.desk.now images bytes tells left)
+    (λ images left. c.kept_stores_are_read.ensures.stands c.args.desk.now (store_of c.args.self.now) images (c.requires.ready.kept tells) stood left))
+
+pub returns-in-Guard-clause-ready : goal.returns-in-Guard-clause-ready
+returns-in-Guard-clause-ready g c = λ no_fault no_want.
+    restaged _ _ _ c.args.self.now (record c.args.self.now { guard = c.set_guard.new.guard }) c.requires.ready refl refl refl c.requires.ready.staged
+
+pub returns-in-Guard-clause-panels : goal.returns-in-Guard-clause-panels
+returns-in-Guard-clause-panels g c =
+    let turned = returns-in-Guard-clause-turned g c in
+    panels-stay _ _ _ _ _ turned.outside c.args.event c.set_guard.result (model_of c.args.self.now) (with_guard (model_of c.args.self.now) c.set_guard.new.guard) c.args.panels.now.items
+    (λ of. subst IsOfPanel c.in-Guard.is of) refl turned.gives
+
+pub returns-in-Fix-clause-turned : goal.returns-in-Fix-clause-turned
+returns-in-Fix-clause-turned g c =
+    let outside = fetching (fetches_of (g.L.Shelf.files c.args.shelf.now) false) in
+    let before = model_of c.args.self.now in
+    save-turns _ _ _ c.args.event before
+    (within before.state before.state c.args.steps.now c.args.steps.now) outside _ c.go_to.result (with_guard before c.go_to.new.guard)
+    (are-served g.L.Shelf.tells (g.L.Shelf.files c.args.shelf.now) _ _, none-asked _ _ _ _ _ _ _ (λ of. subst IsOfPanel c.in-Fix.is of)) (fix-is outside before c.args.event c.in-Fix.x c.in-Fix.y c.in-Fix.is)
+    (none-taken _ before.state c.args.steps.now) (c.go_to.ensures.given before refl (sym c.state-state-in-Fix.ensures.state) refl) (λ after tells stood.
+    no-call g.D.Desk.clock g.D.Desk.might c.args.desk.now (g.D.Desk.may_leave c.args.desk.now) (g.D.Desk.said c.args.desk.now)
+    before.state after
+    (λ images bytes left. g.met.D.Desk.only_now c.args.desk.now images bytes tells left)
+    (λ images left. c.kept_stores_are_read.ensures.stands c.args.desk.now (store_of c.args.self.now) images (c.requires.ready.kept tells) stood left))
+
+pub returns-in-Fix-clause-ready : goal.returns-in-Fix-clause-ready
+returns-in-Fix-clause-ready g c = λ no_fault no_want.
+    restaged _ _ _ c.args.self.now (record c.args.self.now { guard = c.go_to.new.guard }) c.requires.ready refl refl refl c.requires.ready.staged
+
+pub returns-in-Fix-clause-panels : goal.returns-in-Fix-clause-panels
+returns-in-Fix-clause-panels g c =
+    let turned = returns-in-Fix-clause-turned g c in
+    panels-stay _ _ _ _ _ turned.outside c.args.event c.go_to.result (model_of c.args.self.now) (with_guard (model_of c.args.self.now) c.go_to.new.guard) c.args.panels.now.items
+    (λ of. subst IsOfPanel c.in-Fix.is of) refl turned.gives
+
+pub go_to-requires : goal.go_to-requires
+go_to-requires g c = record {
+  grids =
+      subst (λ (state : StateValue). HasGrids state (grids_in c.args.self.now)) (sym c.state-state-in-Fix.ensures.state)
       (has-grids (model_of c.args.self.now).state (grids_in c.args.self.now) c.requires.ready.charts.grids);
 }
 

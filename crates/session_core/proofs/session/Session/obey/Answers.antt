@@ -32,7 +32,7 @@ returns-clause-ready g c = λ no_fault no_want.
 pub returns-in_err-done-clause-given : goal.returns-in_err-done-clause-given
 returns-in_err-done-clause-given g c =
     refused-given c.args.self.now (record c.args.self.now { store = c.submit.new.self }) c.args.order c.in_err-done.field-0.0 c.from_residual.result c.from_residual.ensures.1
-    c.in_err-done.ensures.outcome (λ apart. (c.in_err-done.ensures.unchanged apart).0) c.in_err-done.ensures.held.0 refl refl refl
+    c.in_err-done.ensures.outcome (λ apart. (c.in_err-done.ensures.unchanged apart).0) c.in_err-done.ensures.held.0 refl refl refl refl
 
 pub returns-in_err-keep_up-clause-given : goal.returns-in_err-keep_up-clause-given
 returns-in_err-keep_up-clause-given g c =
@@ -46,6 +46,7 @@ returns-in_err-keep_up-clause-given g c =
       staged = c.in_err-keep_up.ensures.staging ∙ c.note.ensures;
       drawn = c.in_err-keep_up.ensures.portrayal;
       known = c.in_err-keep_up.ensures.scenes;
+      guarded = c.in_err-keep_up.ensures.guard;
     })
 
 pub returns-clause-given : goal.returns-clause-given
@@ -60,6 +61,7 @@ returns-clause-given g c =
       staged = c.in_ok-keep_up.ensures.staging ∙ c.note.ensures;
       drawn = c.in_ok-keep_up.ensures.portrayal;
       known = c.in_ok-keep_up.ensures.scenes;
+      guarded = c.in_ok-keep_up.ensures.guard;
     }) in
     (gives.0 ∙ sym c.reply.ensures, gives.1)
 

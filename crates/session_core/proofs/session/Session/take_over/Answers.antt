@@ -45,7 +45,7 @@ returns-clause-ready g c = λ no_fault no_want.
 pub returns-in_err-done-clause-given : goal.returns-in_err-done-clause-given
 returns-in_err-done-clause-given g c =
     refused-given c.args.self.now (record c.args.self.now { store = c.commit.new.self }) (order_by c.args.staged) c.in_err-done.field-0.0 c.from_residual.result c.from_residual.ensures.1
-    c.in_err-done.ensures.outcome (λ apart. (c.in_err-done.ensures.unchanged apart).0) c.in_err-done.ensures.held.0 refl refl refl
+    c.in_err-done.ensures.outcome (λ apart. (c.in_err-done.ensures.unchanged apart).0) c.in_err-done.ensures.held.0 refl refl refl refl
 
 pub returns-in_err-keep_up-clause-given : goal.returns-in_err-keep_up-clause-given
 returns-in_err-keep_up-clause-given g c =
@@ -59,6 +59,7 @@ returns-in_err-keep_up-clause-given g c =
       staged = unstaged-still _ _ _ _ c.in_err-keep_up.ensures.staging c.requires.none;
       drawn = c.in_err-keep_up.ensures.portrayal;
       known = c.in_err-keep_up.ensures.scenes;
+      guarded = c.in_err-keep_up.ensures.guard;
     })
 
 pub returns-clause-given : goal.returns-clause-given
@@ -73,6 +74,7 @@ returns-clause-given g c =
       staged = unstaged-still _ _ _ _ c.in_ok-keep_up.ensures.staging c.requires.none;
       drawn = c.in_ok-keep_up.ensures.portrayal;
       known = c.in_ok-keep_up.ensures.scenes;
+      guarded = c.in_ok-keep_up.ensures.guard;
     }) in
     (gives.0 ∙ sym c.reply.ensures, gives.1)
 

@@ -41,14 +41,14 @@ returns-in-Under-clause-given g c =
     let under = under-some (save_of (store_of c.args.self.now)) (sym c.is_saving.ensures ∙ c.if-not-is_saving.false) in
     let step = c.in_ok-written.ensures.step under.0 under.1 in
     stepped-gives c.args.self.now (record c.args.self.now { store = c.save_step.new.self }) c.args.slices under.0 _ under.1 (sym c.in-Under.is ∙ step.0) step.1
-    (c.in_ok-written.ensures.used under.0 under.1) c.save_step.ensures.held.0 c.save_step.ensures.held.1 refl refl refl
+    (c.in_ok-written.ensures.used under.0 under.1) c.save_step.ensures.held.0 c.save_step.ensures.held.1 refl refl refl refl
 
 pub returns-in-Saved-clause-given : goal.returns-in-Saved-clause-given
 returns-in-Saved-clause-given g c =
     let under = under-some (save_of (store_of c.args.self.now)) (sym c.is_saving.ensures ∙ c.if-not-is_saving.false) in
     let step = c.in_ok-written.ensures.step under.0 under.1 in
     stepped-gives c.args.self.now (record c.args.self.now { store = c.save_step.new.self }) c.args.slices under.0 _ under.1 (sym c.in-Saved.is ∙ step.0) step.1
-    (c.in_ok-written.ensures.used under.0 under.1) c.save_step.ensures.held.0 c.save_step.ensures.held.1 refl refl refl
+    (c.in_ok-written.ensures.used under.0 under.1) c.save_step.ensures.held.0 c.save_step.ensures.held.1 refl refl refl refl
 
 -- ---- what is kept
 

@@ -1,0 +1,3 @@
+pub mod Alarms
+pub mod Guard
+pub mod Watch

@@ -1,0 +1,4 @@
+mod charts;
+mod globe;
+mod memory;
+mod tracks;
