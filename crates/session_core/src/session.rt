@@ -16,7 +16,7 @@ use crate::refusal::LineRefusal;
 use crate::staging::{Staging, begin, change, note};
 use crate::target::Charts;
 use crate::upkeep::{all_grids, all_users, renew_grids, renew_users};
-use chart_model::Settings;
+use chart_model::{Settings, State};
 use chart_ports::{Desk, Shelf, Steps};
 use chart_store::{
     Accepted, SaveState, Store, begun_saves_are_kept, commands_change_their_cell_alone,
@@ -48,9 +48,10 @@ pub struct Session {
 
 impl Session {
     ghost use Rattle.std.specs.Prelude.{◌≡◌, ◌≢◌, ◌+◌, ◌<◌, ◌≤◌, ◌^◌, ℕ, List, length, None, Ok, Err};
-    ghost use Rattle.std.specs.Prelude.{IfOk, IsTrue, OnErr, OnOk, vec_len};
+    ghost use Rattle.std.specs.Prelude.{IfOk, IfSome, IsTrue, OnErr, OnOk, vec_len};
     ghost use Rattle.std.specs.FinMap as finite;
     ghost use Rattle.bank_journal.specs.Fault.{HasDeskCause};
+    ghost use Rattle.chart_closure.specs.Closed.{IsClosed};
     ghost use Rattle.chart_difference.specs.Difference.{AreChanged};
     ghost use Rattle.chart_ports.specs.Moments.{LeavesOnly, images_of};
     ghost use Rattle.chart_store.specs.Images.{StandFor};
@@ -114,6 +115,28 @@ impl Session {
             grids,
             panels,
         })
+    }
+
+    /// What is held. Each chart of it is closed. It takes no memory.
+    pub fn state(&self) -> &State
+        ensures state { result.now ≡ (model_of self.now).state }
+        ensures closed { (key : List ℕ) → IfSome (chart_of result.now.cells key) IsClosed }
+    {
+        self.store.state()
+    }
+
+    /// The table by which cells are drawn.
+    pub fn table(&self) -> &Table
+        ensures { result.now ≡ (portrayal_of self.now).table }
+    {
+        &self.table
+    }
+
+    /// What the mariner set, by which cells are drawn.
+    pub fn settings(&self) -> &Settings
+        ensures { result.now ≡ (portrayal_of self.now).settings }
+    {
+        &self.settings
     }
 
     /// The users of each chart that is held, by the charts' keys.

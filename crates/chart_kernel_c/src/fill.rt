@@ -1,0 +1,23 @@
+//! Answers in a caller's buffer.
+
+ghost use Rattle.std.specs.Prelude.{◌≡◌, nat_eq, if◌then◌else◌, length};
+ghost use Rattle.chart_kernel_c.specs.Fill.{filled, room_status};
+
+use crate::status::{OK, ROOM};
+
+/// Fills the front of the buffer with as many of the values as it has room for. What stands behind them stays.
+pub fn fill<T: Copy>(out: &mut [T], values: &[T]) -> u32
+    ensures values { out.new ≡ filled values.now out.old }
+    ensures status { result ≡ room_status (length values.now) (length out.old) }
+{
+    let count = values.len().min(out.len());
+    out[..count].copy_from_slice(&values[..count]);
+    if values.len() <= out.len() { OK } else { ROOM }
+}
+
+/// The status of two buffers: that of the first, unless the second is too small.
+pub fn both(first: u32, second: u32) -> u32
+    ensures { result ≡ (if nat_eq first 0 then second else first) }
+{
+    if first == OK { second } else { first }
+}
