@@ -1,6 +1,7 @@
 //! The scene of one panel, and what was counted of its paintings.
 
 ghost use Rattle.std.specs.Prelude.{◌≡◌, ◌≢◌, false, None, Some, Err, length, is_some, IfOk, IfSome, OnErr, OnOk};
+ghost use Rattle.std.specs.Option.{option_map};
 ghost use Rattle.chart_ports.specs.Count.{Rose};
 ghost use Rattle.panel_scenes.specs.declared.fault.PaintingFault.TheVariants.{Refused, NoMemory};
 ghost use Rattle.panel_scenes.specs.declared.fault.PanelRefusal.{PanelRefusal};
@@ -8,10 +9,11 @@ ghost use Rattle.panel_scenes.specs.declared.fault.PanelRefusal.TheVariants.{Fai
 ghost use Rattle.panel_scenes.specs.InStep.{IsCounted, IsInStep, Start};
 ghost use Rattle.panel_scenes.specs.Painting.{GivesPainting, is_failure, painting_of};
 ghost use Rattle.panel_scenes.specs.Scene.{calls_to, new_scene, refreshing, stale};
+ghost use Rattle.scene_sync.specs.NextCall.{call_behind, lent_call};
 
 use crate::fault::{PaintingFault, PanelRefusal};
 use panel_port::{BlockMap, Panel};
-use scene_sync::{PaintFault, Progress, Scene};
+use scene_sync::{NextCall, PaintFault, Progress, Scene};
 use std::alloc::{AllocError, Global};
 use std::marker::Model;
 
@@ -52,6 +54,21 @@ impl PanelScene {
         ensures { result ≡ is_some self.now.refresh }
     {
         self.scene.is_refreshing()
+    }
+
+    /// The call so many places behind the next one of the refresh that is under way, where one is and has so many left.
+    /// It takes no memory.
+    pub fn next_call(&self, i: usize) -> Option<NextCall<'_>>
+        ensures { option_map lent_call result ≡ call_behind i self.now.refresh }
+    {
+        self.scene.next_call(i)
+    }
+
+    /// It isn't known any more what the panel shows, and a refresh that is under way is given up.
+    pub fn forget(&mut self)
+        ensures { self.new ≡ stale self.old }
+    {
+        self.scene.forget();
     }
 
     /// Begins a refresh, which is to make the panel show these blocks, and answers the number of its calls. Where there

@@ -18,11 +18,12 @@ ghost use Rattle.panel_scenes.specs.Numbered.{IsOfNumbered, SameOthers, numbered
 ghost use Rattle.panel_scenes.specs.Painting.{GivesPainting, given_up, is_failure, painting_among};
 ghost use Rattle.panel_scenes.specs.Painting.{panel_refusal, refresh_refusal, summary_at};
 ghost use Rattle.panel_scenes.specs.Scene.{SceneValue, calls_to, new_scenes, refreshing, stale};
+ghost use Rattle.scene_sync.specs.NextCall.{call_behind, lent_call};
 
 use crate::fault::{PaintingFault, PanelRefusal};
 use crate::panel_scene::PanelScene;
 use panel_port::{BlockMap, Panel, Summary};
-use scene_sync::Progress;
+use scene_sync::{NextCall, Progress};
 use std::alloc::{AllocError, Global};
 use std::marker::Model;
 
@@ -153,6 +154,29 @@ impl PanelScenes {
     {
         let place = self.place(k)?;
         self.scenes[place].paint(alloc, k, &mut panels[place], n)
+    }
+
+    /// The call so many places behind the next one of the refresh of the panel of this number, where one is under way and
+    /// has so many left. It is not made. It takes no memory.
+    pub fn next_call(&self, k: u32, i: usize) -> Result<Option<NextCall<'_>>, PanelRefusal>
+        ensures ok { IfSome (numbered k self.now) (λ scene.
+            IfOk result (λ call. option_map lent_call call ≡ call_behind i scene.refresh)) }
+        ensures answer { result_err result ≡ panel_refusal k (numbered k self.now) }
+    {
+        let place = self.place(k)?;
+        Ok(self.scenes[place].next_call(i))
+    }
+
+    /// It isn't known any more what the panel of this number shows, and a refresh of it that is under way is given up. It
+    /// takes no memory.
+    pub fn forget(&mut self, k: u32) -> Result<(), PanelRefusal>
+        ensures ok { IfSome (numbered k self.old) (λ scene. self.new ≡ with_numbered k (stale scene) self.old) }
+        ensures answer { result_err result ≡ panel_refusal k (numbered k self.old) }
+        ensures err { OnErr result (self.new ≡ self.old) }
+    {
+        let place = self.place(k)?;
+        self.scenes[place].forget();
+        Ok(())
     }
 
     /// How much the panel of this number shows. It takes no memory.

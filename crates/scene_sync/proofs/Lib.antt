@@ -6,3 +6,4 @@ pub mod Shows
 pub mod Counts
 pub mod Paints
 pub mod Refreshes
+pub mod Nexts

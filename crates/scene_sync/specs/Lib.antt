@@ -3,3 +3,4 @@ pub mod Same
 pub mod Walk
 pub mod Calls
 pub mod Scene
+pub mod NextCall

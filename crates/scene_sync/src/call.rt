@@ -2,11 +2,13 @@
 //!
 //! A block stays in the target, and is copied when it is put. The call names its place, so that it isn't searched for.
 
-ghost use Rattle.std.specs.Prelude.{◌≡◌, ◌≤◌, [], length, All, IfSome, IsErrOf, IsSome, OnOk};
+ghost use Rattle.std.specs.Prelude.{◌≡◌, ◌≤◌, [], length, All, IfSome, IsErrOf, IsSome, OnOk, Some};
 ghost use Rattle.chart_ports.specs.Count.{Rose, one_more};
 ghost use Rattle.scene_sync.specs.Calls.{CountsUpTo, after_call, after_calls, call_in, calls_in, more_calls};
+ghost use Rattle.scene_sync.specs.NextCall.{lent_call};
 
 use crate::fault::PaintFault;
+use crate::next_call::NextCall;
 use chart_model::PanelKey;
 use panel_port::{BlockMap, Panel};
 use std::alloc::Global;
@@ -48,6 +50,21 @@ fn make_call(
         Call::Take(key) => panel.take(&key)?,
     }
     Ok(())
+}
+
+/// Lends a call to whoever makes it elsewhere.
+pub(crate) fn lend<'a>(target: &'a BlockMap, call: Call) -> NextCall<'a>
+    requires { IsSome (call_in target.now call) }
+    ensures { call_in target.now call ≡ Some (lent_call result) }
+{
+    match call {
+        Call::Clear => NextCall::Clear,
+        Call::Put(place) => {
+            let (key, block) = &target.as_slice()[place];
+            NextCall::Put(*key, block)
+        }
+        Call::Take(key) => NextCall::Take(key),
+    }
 }
 
 /// Makes these calls in order, up to the first that fails.

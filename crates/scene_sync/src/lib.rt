@@ -8,6 +8,7 @@ mod call;
 mod change;
 mod fault;
 mod laws;
+mod next_call;
 mod progress;
 mod refresh;
 mod scene;
@@ -15,5 +16,6 @@ mod walk;
 
 pub use fault::PaintFault;
 pub use laws::{blocks_are_compared, calls_are_differences};
+pub use next_call::NextCall;
 pub use progress::Progress;
 pub use scene::Scene;

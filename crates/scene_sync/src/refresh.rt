@@ -7,9 +7,10 @@ ghost use Rattle.std.specs.Prelude.{◌≡◌, ◌≤◌, length};
 ghost use Rattle.std.specs.Coded.{Coded-set, coded_list, coded_option};
 ghost use Rattle.scene_sync.specs.Calls.{StandFor, call_code, calls_for};
 
-use crate::call::{Call, make_calls};
+use crate::call::{Call, lend, make_calls};
 use crate::change::calls_for;
 use crate::fault::PaintFault;
+use crate::next_call::NextCall;
 use crate::progress::Progress;
 use panel_port::{BlockMap, Panel};
 use std::alloc::{AllocError, Global};
@@ -29,9 +30,11 @@ pub(crate) struct Refresh {
 }
 
 impl Refresh {
-    ghost use Rattle.std.specs.Prelude.{[], IfOk, IsErrOf, OnOk, is_none};
+    ghost use Rattle.std.specs.Prelude.{[], IfOk, IsErrOf, OnOk, Some, is_none};
+    ghost use Rattle.std.specs.Option.{option_map};
     ghost use Rattle.chart_ports.specs.Count.{Rose};
     ghost use Rattle.scene_sync.specs.Calls.{CountsUpTo, after_calls, more_calls};
+    ghost use Rattle.scene_sync.specs.NextCall.{call_behind, lent_call};
     ghost use Rattle.scene_sync.specs.Scene.{advanced, is_finished, next_calls, progress_of, shown_by, under_way_in};
 
     /// A refresh of which no call was made.
@@ -79,6 +82,15 @@ impl Refresh {
         make_calls(alloc, panel, &self.target, &left[..count])?;
         self.made += count;
         Ok(())
+    }
+
+    /// The call so many places behind the next one, where so many are left. It is not made.
+    pub fn next_call(&self, i: usize) -> Option<NextCall<'_>>
+        ensures { option_map lent_call result ≡ call_behind i (Some (under_way_in self.now)) }
+    {
+        let left = &self.calls[self.made..];
+        let call = left.get(i)?;
+        Some(lend(&self.target, *call))
     }
 
     /// How far it has come.

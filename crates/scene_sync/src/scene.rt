@@ -8,10 +8,12 @@ ghost use Rattle.std.specs.Prelude.{IfOk, IfSome, IsErrOf, IsSome, IsTrue, OnErr
 ghost use Rattle.std.specs.Option.{option_map};
 ghost use Rattle.chart_ports.specs.Count.{Rose};
 ghost use Rattle.scene_sync.specs.Calls.{CountsUpTo, after_calls, calls_for, more_calls};
+ghost use Rattle.scene_sync.specs.NextCall.{call_behind, lent_call};
 ghost use Rattle.scene_sync.specs.Scene.{Agrees, advanced, begun, made_after, next_calls, refresh_of, shown_of};
 ghost use Rattle.scene_sync.specs.Scene.{progress_of, refresh_in, shown_by, shown_in, under_way_in, unless_finished};
 
 use crate::fault::PaintFault;
+use crate::next_call::NextCall;
 use crate::progress::Progress;
 use crate::refresh::Refresh;
 use panel_port::{BlockMap, Panel};
@@ -82,6 +84,25 @@ impl Scene {
             State::Refreshing(refresh) => Some(refresh.progress()),
             _ => None,
         }
+    }
+
+    /// The call so many places behind the next one of the refresh that is under way, where one is and has so many left.
+    /// It is not made. It takes no memory.
+    pub fn next_call(&self, i: usize) -> Option<NextCall<'_>>
+        ensures { option_map lent_call result ≡ call_behind i (refresh_of self.now) }
+    {
+        match &self.state {
+            State::Refreshing(refresh) => refresh.next_call(i),
+            _ => None,
+        }
+    }
+
+    /// It isn't known any more what the panel shows, and a refresh that is under way is given up. It takes no memory.
+    pub fn forget(&mut self)
+        ensures stale { shown_of self.new ≡ None }
+        ensures ended { refresh_of self.new ≡ None }
+    {
+        self.state = State::Stale;
     }
 
     /// Begins a refresh, which is to make the panel show these blocks, and answers the number of its calls. Without a

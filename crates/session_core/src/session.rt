@@ -16,7 +16,7 @@ use crate::refusal::LineRefusal;
 use crate::staging::{Staging, begin, change, note};
 use crate::target::Charts;
 use crate::upkeep::{all_grids, all_users, renew_grids, renew_users};
-use chart_model::Settings;
+use chart_model::{Settings, State};
 use chart_ports::{Desk, Shelf, Steps};
 use chart_store::{
     Accepted, SaveState, Store, begun_saves_are_kept, commands_change_their_cell_alone,
@@ -24,7 +24,8 @@ use chart_store::{
 };
 use lookup_table::Table;
 use panel_port::Panel;
-use panel_scenes::PanelScenes;
+use panel_scenes::{PanelRefusal, PanelScenes};
+use scene_sync::NextCall;
 use script_reader::{Event, Reply};
 use spatial_grid::GridMap;
 use std::alloc::{AllocError, Global};
@@ -48,9 +49,12 @@ pub struct Session {
 
 impl Session {
     ghost use Rattle.std.specs.Prelude.{◌≡◌, ◌≢◌, ◌+◌, ◌<◌, ◌≤◌, ◌^◌, ℕ, List, length, None, Ok, Err};
-    ghost use Rattle.std.specs.Prelude.{IfOk, IsTrue, OnErr, OnOk, vec_len};
+    ghost use Rattle.std.specs.Prelude.{Bool, IfOk, IfSome, IsTrue, OnErr, OnOk, vec_len};
+    ghost use Rattle.std.specs.Option.{option_map};
+    ghost use Rattle.std.specs.Result.{result_err};
     ghost use Rattle.std.specs.FinMap as finite;
     ghost use Rattle.bank_journal.specs.Fault.{HasDeskCause};
+    ghost use Rattle.chart_closure.specs.Closed.{IsClosed};
     ghost use Rattle.chart_difference.specs.Difference.{AreChanged};
     ghost use Rattle.chart_ports.specs.Moments.{LeavesOnly, images_of};
     ghost use Rattle.chart_store.specs.Images.{StandFor};
@@ -58,7 +62,10 @@ impl Session {
     ghost use Rattle.chart_store.specs.Saving.{HasBegun};
     ghost use Rattle.chart_store.specs.Store.{StandsForEither, StandsForSame, count_of, is_sound, save_of, state_of};
     ghost use Rattle.chart_store.specs.Store.{store_of as value_of};
-    ghost use Rattle.panel_scenes.specs.Scene.{new_scenes};
+    ghost use Rattle.panel_scenes.specs.Numbered.{numbered, with_numbered};
+    ghost use Rattle.panel_scenes.specs.Painting.{panel_refusal};
+    ghost use Rattle.panel_scenes.specs.Scene.{new_scenes, stale};
+    ghost use Rattle.scene_sync.specs.NextCall.{call_behind, lent_call};
     ghost use Rattle.script_reader.specs.Line.{AreInRange};
     ghost use Rattle.script_reader.specs.declared.event.Event.TheVariants.{Reissue};
     ghost use Rattle.session_core.specs.declared.fault.EventFault.TheVariants.{DeskFault as EventFailed};
@@ -68,7 +75,7 @@ impl Session {
     ghost use Rattle.session_core.specs.Fetch.{AreFetched, KeepsShelf};
     ghost use Rattle.session_core.specs.Held.{chart_of};
     ghost use Rattle.session_core.specs.Kept.{IsKeptOf, IsRenewed, feature_count};
-    ghost use Rattle.session_core.specs.Model.{portrayal_with};
+    ghost use Rattle.session_core.specs.Model.{portrayal_with, with_scenes};
     ghost use Rattle.session_core.specs.Order.{order_turn};
     ghost use Rattle.session_core.specs.Outside.{AreOfPanels, KeepsPanels, faults_of, tells_of};
     ghost use Rattle.session_core.specs.Reissue.{ReissueKeepsChart};
@@ -114,6 +121,59 @@ impl Session {
             grids,
             panels,
         })
+    }
+
+    /// What is held. Each chart of it is closed. It takes no memory.
+    pub fn state(&self) -> &State
+        ensures state { result.now ≡ (model_of self.now).state }
+        ensures closed { (key : List ℕ) → IfSome (chart_of result.now.cells key) IsClosed }
+    {
+        self.store.state()
+    }
+
+    /// The table by which cells are drawn.
+    pub fn table(&self) -> &Table
+        ensures { result.now ≡ (portrayal_of self.now).table }
+    {
+        &self.table
+    }
+
+    /// What the mariner set, by which cells are drawn.
+    pub fn settings(&self) -> &Settings
+        ensures { result.now ≡ (portrayal_of self.now).settings }
+    {
+        &self.settings
+    }
+
+    /// How many panels are known of.
+    pub fn panels(&self) -> usize
+        ensures { result ≡ length (scenes_of self.now) }
+    {
+        self.panels.len()
+    }
+
+    /// The call so many places behind the next one of the refresh of the panel of this number, where one is under way and
+    /// has so many left: what the next painting makes. It takes no memory.
+    pub fn next_call(&self, k: u32, i: usize) -> Result<Option<NextCall<'_>>, PanelRefusal>
+        ensures ok { IfSome (numbered k (scenes_of self.now)) (λ scene.
+            IfOk result (λ call. option_map lent_call call ≡ call_behind i scene.refresh)) }
+        ensures answer { result_err result ≡ panel_refusal k (numbered k (scenes_of self.now)) }
+    {
+        self.panels.next_call(k, i)
+    }
+
+    /// It isn't known any more what the panel of this number shows, and a refresh of it that is under way is given up: so
+    /// where somebody else paints it, and tells that it failed. It takes no memory.
+    pub fn forget_panel(&mut self, k: u32) -> Result<(), PanelRefusal>
+        ensures ok { IfSome (numbered k (scenes_of self.old)) (λ scene.
+            scenes_of self.new ≡ with_numbered k (stale scene) (scenes_of self.old)) }
+        ensures answer { result_err result ≡ panel_refusal k (numbered k (scenes_of self.old)) }
+        ensures err { OnErr result (scenes_of self.new ≡ scenes_of self.old) }
+        ensures model { model_of self.new ≡ with_scenes (model_of self.old) (scenes_of self.new) }
+        ensures ready { (tells : Bool) (contents : ℕ → List ℕ) (may_leave : ℕ → List ℕ → Type 0) →
+            IsReady tells contents may_leave self.old → IsReady tells contents may_leave self.new }
+    {
+        self.panels.forget(k)
     }
 
     /// The users of each chart that is held, by the charts' keys.

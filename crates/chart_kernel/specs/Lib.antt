@@ -1,0 +1,4 @@
+pub mod GivenFiles
+pub mod Stop
+pub mod Answered
+pub mod Questions
