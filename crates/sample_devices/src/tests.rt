@@ -2,6 +2,7 @@
 
 mod adapters;
 mod calls;
+mod descriptors;
 mod disk;
 mod folder_desk;
 mod memory;
